@@ -1,0 +1,9 @@
+pub mod Table
+pub mod Forms
+pub mod Search
+pub mod Places
+pub mod Missing
+pub mod Naming
+pub mod Repeated
+pub mod Nesting
+pub mod Order

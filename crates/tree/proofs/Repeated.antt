@@ -1,0 +1,64 @@
+-- Check 8: the ids before record i, latest first, are those that `repeated` has seen there.
+use Prim.Native.Nat.{ℕ, zero, suc, _+_, _-_, _≤_, _<_}
+use mathlib.Core.List.{List, [], _∷_}
+use mathlib.Core.Bool.{Bool, true, false, not, _&&_, _||_}
+use mathlib.Core.Option.{none, some}
+use mathlib.Core.Path.{_≡_, refl, ap, sym, _∙_}
+use native.Mathlib.Omega.{arith}
+use borrow.Author.Tests.{eq-eqb, ne-eqb}
+use lib.Dec.{eqb}
+use lib.ListN.{length, drop, drop-of-length-le}
+use lib.Seq.{drop-cons}
+use Rattle.tree.specs.Record.{Record, records}
+use Rattle.tree.specs.RecordLaws.{blank, nth}
+use Rattle.tree.specs.First.{on}
+use Rattle.tree.specs.FirstLaws.{on-zero, on-on}
+use Rattle.tree.specs.Check.{member, repeated}
+use Rattle.tree.specs.Seen.{seen}
+
+-- the id j among those before record i
+module _ (rs : List ℕ) (j : ℕ) where
+  stands-last : (i : ℕ) → 0 < i → member j (seen rs i) ≡ eqb j (nth rs (i - 1) .id) || member j (seen rs (i - 1))
+  stands-last zero h = absurd (omega arith)
+  stands-last (suc i) h = let z : suc i - 1 ≡ i = omega arith in rw z
+
+  pub stands-hit : (i x : ℕ) → 0 < i → x ≡ nth rs (i - 1) .id → x ≡ j → member j (seen rs i) ≡ true
+  stands-hit i x h e q = stands-last i h ∙ rw (eq-eqb j (nth rs (i - 1) .id) (sym q ∙ e))
+
+  pub stands-miss : (i x : ℕ) → 0 < i → x ≡ nth rs (i - 1) .id → (x ≡ j → ⊥) → member j (seen rs i) ≡ member j (seen rs (i - 1))
+  stands-miss i x h e q = stands-last i h ∙ rw (ne-eqb j (nth rs (i - 1) .id) (λ p. q (e ∙ sym p)))
+
+  pub stands-none : (i : ℕ) → i ≤ 0 → member j (seen rs i) ≡ false
+  stands-none zero h = refl
+  stands-none (suc i) h = absurd (omega arith)
+
+abbrev pub again : List ℕ → ℕ → Bool
+again rs i = not (eqb (nth rs i .id) 0) && member (nth rs i .id) (seen rs i)
+
+-- the loop has come to record i
+pub record Compared (rs : List ℕ) (i : ℕ) : Type 0 where
+  pub within : i ≤ length (records rs)
+  pub rest : repeated [] (records rs) ≡ on i (repeated (seen rs i) (drop i (records rs)))
+
+pub ids-begin : (rs : List ℕ) → Compared rs 0
+ids-begin rs = record { within = omega arith; rest = sym (on-zero _) }
+
+module _ {rs : List ℕ} {i : ℕ} (a : Compared rs i) where
+  module _ (h : i < length (records rs)) where
+    at-record : repeated [] (records rs) ≡ on i (repeated (seen rs i) (nth rs i ∷ drop (suc i) (records rs)))
+    at-record = a .rest ∙ ap (λ (l : List Record). on i (repeated (seen rs i) l)) (drop-cons (records rs) i blank h)
+
+    pub ids-hit : again rs i ≡ true → some i ≡ repeated [] (records rs)
+    unfolding repeated
+    ids-hit t = sym (at-record ∙ rw t (ap some (omega arith)))
+
+    pub ids-next : again rs i ≡ false → Compared rs (i + 1)
+    unfolding repeated
+    ids-next t =
+        let z : i + 1 ≡ suc i = omega arith in
+        let later = repeated (nth rs i .id ∷ seen rs i) (drop (suc i) (records rs)) in
+        record { within = omega arith; rest = at-record ∙ rw (t, z) (on-on i 1 later ∙ ap (λ (k : ℕ). on k later) z) }
+
+  pub ids-end : length (records rs) ≤ i → none ≡ repeated [] (records rs)
+  unfolding repeated
+  ids-end h = sym (a .rest ∙ ap (λ (l : List Record). on i (repeated (seen rs i) l)) (drop-of-length-le (records rs) h))

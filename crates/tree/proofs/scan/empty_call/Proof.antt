@@ -1,0 +1,63 @@
+-- `empty_call`: a search for a call with count 0.
+use borrow.Author.Needs.{needs}
+use native.Mathlib.Omega.{arith}
+use Prim.Native.Nat.{_-_}
+use mathlib.Core.Bool.{Bool, _&&_}
+use mathlib.Core.Path.{sym, _∙_}
+use lib.Dec.{eqb}
+use lib.ListN.{length}
+use Rattle.tree.specs.Record.{Record, records}
+use Rattle.tree.specs.Check.{check7}
+use Rattle.tree.proofs.Search.{At, begin, hit, next, end}
+use Rattle.tree.proofs.scan.empty_call.Statement.{statement}
+use Rattle.tree.proofs.scan.empty_call.Tie as tie
+
+abbrev emptyCall : Record → Bool
+emptyCall r = eqb (r .form) 8 && eqb (r .count) 0
+
+abbrev Inv-loop : tie.InvT-loop
+Inv-loop rs n i₀ i = At emptyCall rs i
+
+abbrev μ-loop : tie.MeasureT-loop
+μ-loop rs n i₀ i = length (records rs) - i
+
+len-requires : tie.Need-len-requires Inv-loop μ-loop
+len-requires c κs = search needs
+
+loop-holds : tie.Need-loop-holds Inv-loop μ-loop
+loop-holds c = begin _ _
+
+is-empty-call-requires : tie.Need-is-empty-call-requires Inv-loop μ-loop
+is-empty-call-requires c κs = omega arith
+
+returns : tie.Need-returns Inv-loop μ-loop
+unfolding check7
+returns c N = hit _ _ (c .before .before .before .loop .inv) (omega arith) (sym (c .before .is-empty-call .ensures) ∙ c .if1 .taken)
+
+add-i : tie.Need-add-i Inv-loop μ-loop
+add-i c = omega arith
+
+loop-less : tie.Need-loop-less Inv-loop μ-loop
+loop-less c = omega arith
+
+loop-again : tie.Need-loop-again Inv-loop μ-loop
+loop-again c = next _ _ (c .before .before .before .loop .inv) (omega arith) (sym (c .before .is-empty-call .ensures) ∙ c .if1 .left)
+
+returns-2 : tie.Need-returns-2 Inv-loop μ-loop
+unfolding check7
+returns-2 c N = end _ _ (c .before .loop .inv) (omega arith)
+
+pub empty-call-spec : {M : Type 1} → statement M
+empty-call-spec =
+    tie.close
+    (tie.spec
+    Inv-loop
+    μ-loop
+    len-requires
+    loop-holds
+    is-empty-call-requires
+    returns
+    add-i
+    loop-less
+    loop-again
+    returns-2)

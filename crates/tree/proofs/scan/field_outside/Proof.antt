@@ -1,0 +1,63 @@
+-- `field_outside`: a search for a record that does not fit.
+use borrow.Author.Needs.{needs}
+use native.Mathlib.Omega.{arith}
+use Prim.Native.Nat.{ℕ, _-_}
+use mathlib.Core.Bool.{Bool, not}
+use mathlib.Core.Path.{sym, ap, _∙_}
+use lib.ListN.{length}
+use Rattle.tree.specs.Record.{Record, records}
+use Rattle.tree.specs.Form.{fits}
+use Rattle.tree.specs.Check.{check3}
+use Rattle.tree.proofs.Search.{At, begin, hit, next, end}
+use Rattle.tree.proofs.scan.field_outside.Statement.{statement}
+use Rattle.tree.proofs.scan.field_outside.Tie as tie
+
+abbrev outside : ℕ → Record → Bool
+outside N r = not (fits N r)
+
+abbrev Inv-loop : tie.InvT-loop
+Inv-loop rs names n i₀ i = At (outside names) rs i
+
+abbrev μ-loop : tie.MeasureT-loop
+μ-loop rs names n i₀ i = length (records rs) - i
+
+len-requires : tie.Need-len-requires Inv-loop μ-loop
+len-requires c κs = search needs
+
+loop-holds : tie.Need-loop-holds Inv-loop μ-loop
+loop-holds c = begin _ _
+
+fit-requires : tie.Need-fit-requires Inv-loop μ-loop
+fit-requires c κs = omega arith
+
+returns : tie.Need-returns Inv-loop μ-loop
+unfolding check3
+returns c = hit _ _ (c .before .before .before .loop .inv) (omega arith) (ap not (sym (c .before .fit .ensures)) ∙ c .if1 .taken)
+
+add-i : tie.Need-add-i Inv-loop μ-loop
+add-i c = omega arith
+
+loop-less : tie.Need-loop-less Inv-loop μ-loop
+loop-less c = omega arith
+
+loop-again : tie.Need-loop-again Inv-loop μ-loop
+loop-again c = next _ _ (c .before .before .before .loop .inv) (omega arith) (ap not (sym (c .before .fit .ensures)) ∙ c .if1 .left)
+
+returns-2 : tie.Need-returns-2 Inv-loop μ-loop
+unfolding check3
+returns-2 c = end _ _ (c .before .loop .inv) (omega arith)
+
+pub field-outside-spec : {M : Type 1} → statement M
+field-outside-spec =
+    tie.close
+    (tie.spec
+    Inv-loop
+    μ-loop
+    len-requires
+    loop-holds
+    fit-requires
+    returns
+    add-i
+    loop-less
+    loop-again
+    returns-2)

@@ -1,0 +1,76 @@
+-- `not_a_name`: the names due are those of the innermost open record.
+use borrow.Author.Needs.{needs}
+use native.Mathlib.Omega.{arith}
+use Prim.Native.Nat.{_-_}
+use mathlib.Core.Logic.{⊎-elim}
+use mathlib.Core.Path.{sym, subst}
+use lib.ListN.{length}
+use Rattle.tree.specs.Record.{records}
+use Rattle.tree.proofs.Naming.{Naming, naming-begin, no-name-due, name-here, misnamed-here, none-misnamed}
+use Rattle.tree.proofs.scan.not_a_name.Statement.{statement}
+use Rattle.tree.proofs.scan.not_a_name.Tie as tie
+
+abbrev Inv-loop : tie.InvT-loop
+Inv-loop rs n due₀ i₀ due i = Naming rs i due
+
+abbrev μ-loop : tie.MeasureT-loop
+μ-loop rs n due₀ i₀ due i = length (records rs) - i
+
+len-requires : tie.Need-len-requires Inv-loop μ-loop
+len-requires c κs = search needs
+
+loop-holds : tie.Need-loop-holds Inv-loop μ-loop
+loop-holds c = naming-begin _
+
+form-requires : tie.Need-form-requires Inv-loop μ-loop
+form-requires c κs = omega arith
+
+count-requires : tie.Need-count-requires Inv-loop μ-loop
+count-requires c κs = omega arith
+
+names-requires : tie.Need-names-requires Inv-loop μ-loop
+names-requires c κs = search needs
+
+returns : tie.Need-returns Inv-loop μ-loop
+returns c N =
+    let d = c .before .before in
+    misnamed-here (d .before .before .loop .inv) (omega arith) (omega arith) _ (d .form .ensures) (c .if2 .taken) N
+
+sub-due : tie.Need-sub-due Inv-loop μ-loop
+sub-due c = omega arith
+
+add-i : tie.Need-add-i Inv-loop μ-loop
+add-i c = omega arith
+
+loop-less : tie.Need-loop-less Inv-loop μ-loop
+loop-less c = omega arith
+
+loop-again : tie.Need-loop-again Inv-loop μ-loop
+loop-again c =
+    let d = c .before in
+    let a = d .before .before .loop .inv in
+    ⊎-elim
+    (λ w. subst (Naming _ _) (sym (w .3)) (no-name-due a (omega arith) (w .0 .taken) _ _ _ (d .form .ensures) (w .1 .ensures) (w .2 .ensures)))
+    (λ w. subst (Naming _ _) (sym (w .2)) (name-here a (omega arith) (omega arith) _ (d .form .ensures) (w .1 .left)))
+    (c .if1 .came)
+
+returns-2 : tie.Need-returns-2 Inv-loop μ-loop
+returns-2 c N = none-misnamed (c .before .loop .inv) (omega arith) N
+
+pub not-a-name-spec : {M : Type 1} → statement M
+not-a-name-spec =
+    tie.close
+    (tie.spec
+    Inv-loop
+    μ-loop
+    len-requires
+    loop-holds
+    form-requires
+    count-requires
+    names-requires
+    returns
+    sub-due
+    add-i
+    loop-less
+    loop-again
+    returns-2)

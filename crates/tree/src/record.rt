@@ -1,0 +1,70 @@
+// Records by number: six numbers each, one record after another.
+ghost use mathlib.Core.Path.{_≡_};
+ghost use Prim.Native.Nat.{_<_, _≤_};
+ghost use lib.ListN.{length, getD};
+ghost use Rattle.tree.specs.Record.{width, put, records};
+ghost use Rattle.tree.specs.RecordLaws.{nth};
+ghost use Rattle.tree.specs.Form.{childrenOf};
+use crate::form;
+
+pub const WIDTH: usize = 6;
+
+const FORM: usize = 0;
+
+const ID: usize = 1;
+
+const NAME: usize = 2;
+
+const COUNT: usize = 3;
+
+// How many records there are.
+pub fn len(rs: &[u32]) -> usize
+    ensures { λ r. ⌜ r ≡ length (records (now (rs .entry))) ⌝ }
+{
+    rs.len() / WIDTH
+}
+
+// Number j of record i.
+fn field(rs: &[u32], i: usize, j: usize) -> u32
+    requires { ⌜ (i < length (records (now rs))) × (j < width) ⌝ }
+    ensures { λ r. ⌜ r ≡ getD (put (nth (now (rs .entry)) i)) j 0 ⌝ }
+{
+    rs[WIDTH * i + j]
+}
+
+pub fn form(rs: &[u32], i: usize) -> u32
+    requires { ⌜ i < length (records (now rs)) ⌝ }
+    ensures { λ r. ⌜ r ≡ nth (now (rs .entry)) i .form ⌝ }
+{
+    field(rs, i, FORM)
+}
+
+pub fn id(rs: &[u32], i: usize) -> u32
+    requires { ⌜ i < length (records (now rs)) ⌝ }
+    ensures { λ r. ⌜ r ≡ nth (now (rs .entry)) i .id ⌝ }
+{
+    field(rs, i, ID)
+}
+
+pub fn name(rs: &[u32], i: usize) -> u32
+    requires { ⌜ i < length (records (now rs)) ⌝ }
+    ensures { λ r. ⌜ r ≡ nth (now (rs .entry)) i .name ⌝ }
+{
+    field(rs, i, NAME)
+}
+
+pub fn count(rs: &[u32], i: usize) -> u32
+    requires { ⌜ i < length (records (now rs)) ⌝ }
+    ensures { λ r. ⌜ r ≡ nth (now (rs .entry)) i .count ⌝ }
+{
+    field(rs, i, COUNT)
+}
+
+// How many children record i has: no more than a count of 32 bits gives.
+pub fn children(rs: &[u32], i: usize) -> usize
+    requires { ⌜ i < length (records (now rs)) ⌝ }
+    ensures { λ r. ⌜ r ≡ childrenOf (nth (now (rs .entry)) i .form) (nth (now (rs .entry)) i .count) ⌝ }
+    ensures few { λ r. ⌜ r ≤ 8589934593 ⌝ }
+{
+    form::children(form(rs, i), count(rs, i))
+}

@@ -1,0 +1,120 @@
+// Checks 3, 4, 6 and 7: loops over the records.
+ghost use mathlib.Core.Path.{_≡_};
+ghost use mathlib.Core.Bool.{_&&_};
+ghost use Prim.Native.Nat.{ℕ, _-_, _<_, _≤_};
+ghost use lib.Dec.{eqb};
+ghost use lib.ListN.{length};
+ghost use Rattle.tree.specs.Record.{records};
+ghost use Rattle.tree.specs.RecordLaws.{nth};
+ghost use Rattle.tree.specs.Form.{fits};
+ghost use Rattle.tree.specs.Check.{check3, check4, check6, check7};
+ghost use Rattle.tree.specs.Found.{foundOf};
+use crate::form;
+use crate::record;
+
+// The record that a check applies to first.
+pub enum Found {
+    At(usize),
+    Nothing,
+}
+
+fn fit(rs: &[u32], i: usize, names: usize) -> bool
+    requires { ⌜ i < length (records (now rs)) ⌝ }
+    ensures { λ r. ⌜ r ≡ fits names (nth (now (rs .entry)) i) ⌝ }
+{
+    let f = record::form(rs, i);
+    if !form::known(f) {
+        return false;
+    }
+    if !form::id_and_name_fit(f, record::id(rs, i), record::name(rs, i), names) {
+        return false;
+    }
+    form::count_fits(f, record::count(rs, i))
+}
+
+// 3: a field outside the table.
+pub fn field_outside(rs: &[u32], names: usize) -> Found
+    ensures { λ r. ⌜ foundOf r ≡ check3 names (now (rs .entry)) ⌝ }
+{
+    let n = record::len(rs);
+    let mut i = 0;
+    while i < n {
+        if !fit(rs, i, names) {
+            return Found::At(i);
+        }
+        i += 1;
+    }
+    Found::Nothing
+}
+
+// The open places, but for the one that a record takes; at top level it takes none.
+fn taken(places: usize) -> usize
+    ensures { λ r. ⌜ r ≡ places - 1 ⌝ }
+{
+    if places == 0 {
+        return 0;
+    }
+    places - 1
+}
+
+// 4: children missing at the end. Every record takes an open place and opens one for each child.
+pub fn child_missing(rs: &[u32]) -> Found
+    requires { ⌜ length (records (now rs)) ≤ 4096 ⌝ }
+    ensures { λ r. ⌜ ((N : ℕ) → foundOf r ≡ check4 N (now (rs .entry))) ⌝ }
+{
+    let n = record::len(rs);
+    let mut places: usize = 0;
+    let mut i = 0;
+    while i < n {
+        places = taken(places) + record::children(rs, i);
+        i += 1;
+    }
+    if places == 0 {
+        return Found::Nothing;
+    }
+    Found::At(n)
+}
+
+// 6: a name's place held by another form. While none is, only the innermost open record has names to come: they stand first, and a name opens none.
+pub fn not_a_name(rs: &[u32]) -> Found
+    ensures { λ r. ⌜ ((N : ℕ) → foundOf r ≡ check6 N (now (rs .entry))) ⌝ }
+{
+    let n = record::len(rs);
+    let mut due: usize = 0;
+    let mut i = 0;
+    while i < n {
+        let f = record::form(rs, i);
+        if due == 0 {
+            due = form::names(f, record::count(rs, i));
+        } else {
+            if f != 1 {
+                return Found::At(i);
+            }
+            due -= 1;
+        }
+        i += 1;
+    }
+    Found::Nothing
+}
+
+fn is_empty_call(rs: &[u32], i: usize) -> bool
+    requires { ⌜ i < length (records (now rs)) ⌝ }
+    ensures { λ r. ⌜ r ≡ eqb (nth (now (rs .entry)) i .form) 8 && eqb (nth (now (rs .entry)) i .count) 0 ⌝ }
+{
+    record::form(rs, i) == 8 && record::count(rs, i) == 0
+}
+
+// 7: a call of nothing.
+pub fn empty_call(rs: &[u32]) -> Found
+    ensures { λ r. ⌜ ((N : ℕ) → foundOf r ≡ check7 N (now (rs .entry))) ⌝ }
+{
+    let n = record::len(rs);
+    let mut i = 0;
+    while i < n {
+        if is_empty_call(rs, i) {
+            return Found::At(i);
+        }
+        i += 1;
+    }
+    Found::Nothing
+}
