@@ -1,0 +1,18 @@
+-- `push_layer`: the rows stay.
+use mathlib.Core.Path.{refl}
+use native.Mathlib.Omega.{arith}
+use borrow.Author.Needs.{needs}
+use Rattle.scope_map.proofs.ScopeMap.push_layer.Statement.{statement}
+use Rattle.scope_map.proofs.ScopeMap.push_layer.Tie as tie
+
+add-t2 : tie.Need-add-t2
+add-t2 c = search needs
+
+returns : tie.Need-returns
+returns c = λ t. record {
+  held = λ s g. record { depth = omega (arith, g .depth); many = g .many; inside = g .inside; live = g .live };
+  rest = refl;
+}
+
+pub push-layer-spec : {M : Type 1} → statement M
+push-layer-spec = tie.close (tie.spec add-t2 returns)

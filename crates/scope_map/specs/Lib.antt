@@ -1,0 +1,7 @@
+pub mod ScopeMap
+pub mod MapLaws
+pub mod SizeLaws
+pub mod Rows
+pub mod RowLaws
+pub mod Held
+pub mod HeldLaws

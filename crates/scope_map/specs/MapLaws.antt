@@ -1,0 +1,125 @@
+-- The operations do not look at the values: each commutes with a function on them.
+use Prim.Native.Nat.{ℕ, _-_}
+use mathlib.Core.List.{List, [], _∷_, _++_}
+use mathlib.Core.Bool.{Bool, true, false, cond, _||_}
+use mathlib.Core.Option.{some, Option·map}
+use mathlib.Core.Path.{_≡_, refl, ap, _∙_}
+use lib.Dec.{eqb, ltb}
+use Rattle.scope_map.specs.ScopeMap.{Live, ScopeMap, isAt, hasIn, replaceIn, removeIn, layerIn, belowLayer, getIn, new, get, depthOf, pushLayer, hasAtTop, define, remove, newestLayer, popLayer}
+
+module _ {A : Type 0} {B : Type 0} (f : A → B) where
+  abbrev pub mapValue : Live A → Live B
+  mapValue e = record { name = e .name; layer = e .layer; value = f (e .value) }
+
+  unfoldable pub mapLive : List (Live A) → List (Live B)
+  mapLive [] = []
+  mapLive (e ∷ l) = mapValue e ∷ mapLive l
+
+  abbrev pub mapValues : ScopeMap A → ScopeMap B
+  mapValues m = record { depth = m .depth; live = mapLive (m .live) }
+
+  -- On lists
+
+  map-append : (l r : List (Live A)) → mapLive (l ++ r) ≡ mapLive l ++ mapLive r
+  unfolding mapLive
+  map-append [] r = refl
+  map-append (e ∷ l) r = ap (λ (k : List (Live B)). mapValue e ∷ k) (map-append l r)
+
+  map-getIn : (l : List (Live A)) (x : ℕ) → getIn (mapLive l) x ≡ Option·map mapValue (getIn l x)
+  unfolding mapLive getIn
+  map-getIn [] x = refl
+  map-getIn (e ∷ l) x = pick (eqb (e .name) x) (map-getIn l x)
+    where
+      pick : (b : Bool) → getIn (mapLive l) x ≡ Option·map mapValue (getIn l x) →
+          cond b (some (mapValue e)) (getIn (mapLive l) x) ≡ Option·map mapValue (cond b (some e) (getIn l x))
+      pick true r = refl
+      pick false r = r
+
+  map-hasIn : (d x : ℕ) (l : List (Live A)) → hasIn d x (mapLive l) ≡ hasIn d x l
+  unfolding mapLive hasIn
+  map-hasIn d x [] = refl
+  map-hasIn d x (e ∷ l) = ap (λ (b : Bool). isAt d x e || b) (map-hasIn d x l)
+
+  map-replaceIn : (d x : ℕ) (v : A) (l : List (Live A)) → mapLive (replaceIn d x v l) ≡ replaceIn d x (f v) (mapLive l)
+  unfolding mapLive replaceIn
+  map-replaceIn d x v [] = refl
+  map-replaceIn d x v (e ∷ l) = pick (isAt d x e) (map-replaceIn d x v l)
+    where
+      pick : (b : Bool) → mapLive (replaceIn d x v l) ≡ replaceIn d x (f v) (mapLive l) →
+          mapLive (cond b (record { name = x; layer = d; value = v } ∷ l) (e ∷ replaceIn d x v l))
+          ≡ cond b (record { name = x; layer = d; value = f v } ∷ mapLive l) (mapValue e ∷ replaceIn d x (f v) (mapLive l))
+      pick true r = refl
+      pick false r = ap (λ (k : List (Live B)). mapValue e ∷ k) r
+
+  map-removeIn : (d x : ℕ) (l : List (Live A)) → mapLive (removeIn d x l) ≡ removeIn d x (mapLive l)
+  unfolding mapLive removeIn
+  map-removeIn d x [] = refl
+  map-removeIn d x (e ∷ l) = pick (isAt d x e) (map-removeIn d x l)
+    where
+      pick : (b : Bool) → mapLive (removeIn d x l) ≡ removeIn d x (mapLive l) →
+          mapLive (cond b l (e ∷ removeIn d x l)) ≡ cond b (mapLive l) (mapValue e ∷ removeIn d x (mapLive l))
+      pick true r = refl
+      pick false r = ap (λ (k : List (Live B)). mapValue e ∷ k) r
+
+  map-layerIn : (d : ℕ) (l : List (Live A)) → mapLive (layerIn d l) ≡ layerIn d (mapLive l)
+  unfolding mapLive layerIn
+  map-layerIn d [] = refl
+  map-layerIn d (e ∷ l) = pick (eqb (e .layer) d) (map-layerIn d l)
+    where
+      pick : (b : Bool) → mapLive (layerIn d l) ≡ layerIn d (mapLive l) →
+          mapLive (cond b (layerIn d l ++ (e ∷ [])) []) ≡ cond b (layerIn d (mapLive l) ++ (mapValue e ∷ [])) []
+      pick true r = map-append (layerIn d l) (e ∷ []) ∙ ap (λ (k : List (Live B)). k ++ (mapValue e ∷ [])) r
+      pick false r = refl
+
+  map-belowLayer : (d : ℕ) (l : List (Live A)) → mapLive (belowLayer d l) ≡ belowLayer d (mapLive l)
+  unfolding mapLive belowLayer
+  map-belowLayer d [] = refl
+  map-belowLayer d (e ∷ l) = pick (eqb (e .layer) d) (map-belowLayer d l)
+    where
+      pick : (b : Bool) → mapLive (belowLayer d l) ≡ belowLayer d (mapLive l) →
+          mapLive (cond b (belowLayer d l) (e ∷ l)) ≡ cond b (belowLayer d (mapLive l)) (mapValue e ∷ mapLive l)
+      pick true r = r
+      pick false r = refl
+
+  -- On maps
+
+  pub map-new : mapValues new ≡ new
+  unfolding mapLive
+  map-new = refl
+
+  pub map-get : (m : ScopeMap A) (x : ℕ) → get (mapValues m) x ≡ Option·map mapValue (get m x)
+  map-get m x = map-getIn (m .live) x
+
+  pub map-depthOf : (m : ScopeMap A) (e : Live A) → depthOf (mapValues m) (mapValue e) ≡ depthOf m e
+  map-depthOf m e = refl
+
+  pub map-pushLayer : (m : ScopeMap A) → mapValues (pushLayer m) ≡ pushLayer (mapValues m)
+  map-pushLayer m = refl
+
+  pub map-hasAtTop : (m : ScopeMap A) (x : ℕ) → hasAtTop (mapValues m) x ≡ hasAtTop m x
+  map-hasAtTop m x = map-hasIn (m .depth) x (m .live)
+
+  pub map-define : (x : ℕ) (v : A) (m : ScopeMap A) → mapValues (define x v m) ≡ define x (f v) (mapValues m)
+  unfolding mapLive
+  map-define x v m = rw map-hasAtTop (pick (hasAtTop m x))
+    where
+      pick : (b : Bool) → _≡_ {A = ScopeMap B}
+          (record { depth = m .depth; live = mapLive (cond b (replaceIn (m .depth) x v (m .live)) (record { name = x; layer = m .depth; value = v } ∷ m .live)) })
+          (record { depth = m .depth; live = cond b (replaceIn (m .depth) x (f v) (mapLive (m .live))) (record { name = x; layer = m .depth; value = f v } ∷ mapLive (m .live)) })
+      pick true = rw map-replaceIn
+      pick false = refl
+
+  pub map-remove : (x : ℕ) (m : ScopeMap A) → mapValues (remove x m) ≡ remove x (mapValues m)
+  map-remove x m = rw map-removeIn
+
+  pub map-newestLayer : (m : ScopeMap A) → mapLive (newestLayer m) ≡ newestLayer (mapValues m)
+  map-newestLayer m = map-layerIn (m .depth) (m .live)
+
+  pub map-popLayer : (m : ScopeMap A) → mapValues (popLayer m) ≡ popLayer (mapValues m)
+  map-popLayer m = pick (ltb 1 (m .depth))
+    where
+      pick : (b : Bool) →
+          mapValues (cond b (record { depth = m .depth - 1; live = belowLayer (m .depth) (m .live) }) m)
+          ≡ cond b (record { depth = m .depth - 1; live = belowLayer (m .depth) (mapLive (m .live)) }) (mapValues m)
+      pick true = rw map-belowLayer
+      pick false = refl

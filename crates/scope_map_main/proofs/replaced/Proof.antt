@@ -1,0 +1,20 @@
+-- `replaced`: the map held after each step.
+use native.Mathlib.Omega.{arith}
+use Rattle.scope_map.specs.ScopeMap.{hasIn, replaceIn}
+use Rattle.scope_map_main.specs.States.{twoLayers}
+use Rattle.scope_map_main.proofs.replaced.Statement.{statement}
+use Rattle.scope_map_main.proofs.replaced.Tie as tie
+
+define-requires : tie.Need-define-requires
+unfolding hasIn replaceIn
+define-requires c κs = omega (arith, c .before .pre .many)
+
+define-requires-2 : tie.Need-define-requires-2
+unfolding hasIn replaceIn
+define-requires-2 c κs = let h = c .before .define .ensures .held twoLayers (c .before .before .before .pre) in omega (arith, h .many)
+
+returns : tie.Need-returns
+returns c = c .define2 .ensures .held _ (c .before .before .define .ensures .held twoLayers (c .before .before .before .before .pre))
+
+pub replaced-spec : {M : Type 1} → statement M
+replaced-spec = tie.close (tie.spec define-requires define-requires-2 returns)

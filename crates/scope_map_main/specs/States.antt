@@ -1,0 +1,11 @@
+-- The maps that the program makes.
+use Prim.Native.Nat.{ℕ}
+use Rattle.scope_map.specs.ScopeMap.{ScopeMap, new, pushLayer, define}
+
+-- the name 7 in two layers
+abbrev pub twoLayers : ScopeMap ℕ
+twoLayers = define 7 71 (pushLayer (define 7 70 new))
+
+-- another name after it, and its value replaced
+abbrev pub replaced : ScopeMap ℕ
+replaced = define 7 72 (define 6 60 twoLayers)

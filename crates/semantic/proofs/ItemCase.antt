@@ -1,0 +1,119 @@
+-- Rows of entries, against their numbers. No place of the code stands here.
+use Prim.Native.Nat.{ℕ, _+_, _*_, _/_, _%_, _<_}
+use mathlib.Core.List.{List, _∷_}
+use mathlib.Core.Bool.{Bool, true, false, _&&_}
+use mathlib.Core.Path.{_≡_, refl, ap, sym, _∙_}
+use native.Mathlib.Omega.{arith}
+use native.Mathlib.Numerals.{add-one}
+use borrow.Author.Tests.{eq-eqb, ne-eqb}
+use lib.ListN.{getD, set, drop}
+use lib.Seq.{sets}
+use lib.Dec.{eqb}
+use Rattle.table.specs.Leaves.{stores-row, tells-number, tells-first, amends-number, amends-then}
+use Rattle.tree.specs.Tree.{bit}
+use Rattle.semantic.specs.Rows.{Item, marks, putInfo, noItem, itemWidth, putItem, item-long}
+use Rattle.semantic.specs.Items.{onInfo, usedInfo, withCaptureOffsets, withHeapOffsets, withEnclosing, withHeap}
+use Rattle.semantic.specs.Decode.{infoOf, info-back}
+use Rattle.semantic.specs.Marks.{captured-mark, mutated-mark, enclosing-changed}
+use Rattle.semantic.specs.Leaves.{Amends, Tells, StoresItem, item-uses}
+use Rattle.semantic.specs.declared.ScopeInfo.{ScopeInfo}
+
+-- a row but for the number that a call gave
+pub item-row : (name : ℕ) (v : ScopeInfo) {n : ℕ} → n ≡ marks (v .captured) (v .escapes) (v .«captured_from_enclosing») (v .mutated)
+    → name ∷ v .id ∷ n ∷ drop 2 (putInfo v) ≡ name ∷ putInfo v
+unfolding putInfo
+item-row name v e = ap (λ (n : ℕ). name ∷ v .id ∷ n ∷ drop 2 (putInfo v)) e
+
+-- captured and mutated, from the number
+heap-mark : (c e n u : Bool) (m : ℕ) → m ≡ marks c e n u → m % 2 ≡ 1 → eqb (m / 8 % 2) 1 ≡ (c && u)
+heap-mark c e n u m q h =
+    let captured : c ≡ true = sym (captured-mark c e n u) ∙ ap (λ (k : ℕ). eqb (k % 2) 1) (sym q) ∙ eq-eqb (m % 2) 1 h in
+    ap (λ (k : ℕ). eqb (k / 8 % 2) 1) q ∙ mutated-mark c e n u ∙ sym (ap (λ (b : Bool). b && u) captured)
+
+no-heap-mark : (c e n u : Bool) (m : ℕ) → m ≡ marks c e n u → (m % 2 ≡ 1 → ⊥) → eqb (m % 2) 1 ≡ (c && u)
+no-heap-mark c e n u m q h =
+    let captured : c ≡ false = sym (captured-mark c e n u) ∙ ap (λ (k : ℕ). eqb (k % 2) 1) (sym q) ∙ ne-eqb (m % 2) 1 h in
+    ne-eqb (m % 2) 1 h ∙ sym (ap (λ (b : Bool). b && u) captured)
+
+module _ (F : List ℕ) (i : ℕ) where
+  pub info-told : {row : List ℕ} {r : ScopeInfo} → Tells putItem noItem putItem F i row → r ≡ infoOf row → Tells putItem noItem (λ x. x .info) F i r
+  info-told t k = record { is = λ l e h. k ∙ ap infoOf (t .is l e h) ∙ info-back (getD l i noItem) }
+
+  pub name-told : Tells putItem noItem (λ x. x .binder .name) F i (getD F (itemWidth * i) 0)
+  unfolding putItem putInfo
+  name-told = tells-first itemWidth putItem item-long noItem F i (omega arith)
+
+  -- the number of the yes-or-no fields
+  abbrev number : ℕ
+  number = getD F (itemWidth * i + 2) 0
+
+  marks-told : Tells putItem noItem (λ x. marks (x .info .captured) (x .info .escapes) (x .info .«captured_from_enclosing») (x .info .mutated)) F i number
+  unfolding putItem putInfo
+  marks-told = tells-number itemWidth putItem item-long noItem F i 2 (omega arith)
+
+  pub heap-told : number % 2 ≡ 1 → Tells putItem noItem (λ x. x .info .captured && x .info .mutated) F i (eqb (number / 8 % 2) 1)
+  heap-told k = record {
+    is = λ l e h.
+        let v = getD l i noItem .info in
+        heap-mark (v .captured) (v .escapes) (v .«captured_from_enclosing») (v .mutated) number (marks-told .is l e h) k;
+  }
+
+  pub no-heap-told : (number % 2 ≡ 1 → ⊥) → Tells putItem noItem (λ x. x .info .captured && x .info .mutated) F i (eqb (number % 2) 1)
+  no-heap-told k = record {
+    is = λ l e h.
+        let v = getD l i noItem .info in
+        no-heap-mark (v .captured) (v .escapes) (v .«captured_from_enclosing») (v .mutated) number (marks-told .is l e h) k;
+  }
+
+  pub stores-item : (name : ℕ) (info : ScopeInfo) {row F′ : List ℕ} → row ≡ name ∷ putInfo info → F′ ≡ sets F (itemWidth * i) row → StoresItem F i name info F′
+  unfolding putItem
+  stores-item name info {row} e k = record {
+    is = λ x n v. let q : row ≡ putItem x = rw (n, v) e in stores-row itemWidth putItem item-long noItem F i x (k ∙ ap (sets F (itemWidth * i)) q);
+  }
+
+  -- number j of an entry's row is written
+  pub sets-field : (f : ScopeInfo → ScopeInfo) (j x : ℕ) → j < itemWidth → ((a : Item) → putItem (onInfo f a) ≡ set (putItem a) j x)
+      → Amends putItem noItem (onInfo f) F i (set F (itemWidth * i + j) x)
+  sets-field f j x g k = amends-number itemWidth putItem item-long noItem F i (onInfo f) j x g (λ l e h. k (getD l i noItem))
+
+  pub uses-item : Amends putItem noItem (onInfo usedInfo) F i (set F (itemWidth * i + 3) (getD F (itemWidth * i + 3) 0 + 1))
+  unfolding putItem putInfo
+  uses-item =
+      amends-number itemWidth putItem item-long noItem F i (onInfo usedInfo) 3 (getD F (itemWidth * i + 3) 0 + 1) (omega arith)
+      (λ l e h. rw (item-uses F i .is l e h, add-one))
+
+  pub sets-heap : (x : ℕ) → Amends putItem noItem (onInfo (withHeap x)) F i (set F (itemWidth * i + 7) x)
+  unfolding putItem putInfo
+  sets-heap x = sets-field (withHeap x) 7 x (omega arith) (λ a. refl)
+
+  pub sets-enclosing : (b : Bool) → Amends putItem noItem (onInfo (withEnclosing b)) F i (set F (itemWidth * i + 2) (number / 8 * 8 + 4 * bit b + number % 4))
+  unfolding putItem putInfo
+  sets-enclosing b =
+      amends-number itemWidth putItem item-long noItem F i (onInfo (withEnclosing b)) 2 (number / 8 * 8 + 4 * bit b + number % 4) (omega arith)
+      (λ l e h.
+      let v = getD l i noItem .info in
+      rw (marks-told .is l e h, enclosing-changed (v .captured) (v .escapes) (v .«captured_from_enclosing») (v .mutated) b))
+
+-- Several numbers, one after another
+
+module _ (F : List ℕ) (i : ℕ) where
+  pub sets-capture-offsets : (offset read : ℕ)
+      → Amends putItem noItem (onInfo (withCaptureOffsets offset read)) F i (set (set F (itemWidth * i + 6) offset) (itemWidth * i + 8) read)
+  unfolding putItem putInfo
+  sets-capture-offsets offset read =
+      amends-then putItem noItem
+      (sets-field F i (λ v. withCaptureOffsets offset (v .«read_capture_offset») v) 6 offset (omega arith) (λ a. refl))
+      (sets-field _ i (λ v. withCaptureOffsets (v .«capture_offset») read v) 8 read (omega arith) (λ a. refl))
+
+  pub sets-heap-offsets : (heap read parent local : ℕ)
+      → Amends putItem noItem (onInfo (withHeapOffsets heap read parent local)) F i
+      (set (set (set (set F (itemWidth * i + 7) heap) (itemWidth * i + 9) read) (itemWidth * i + 10) parent) (itemWidth * i + 11) local)
+  unfolding putItem putInfo
+  sets-heap-offsets heap read parent local =
+      amends-then putItem noItem
+      (amends-then putItem noItem
+      (amends-then putItem noItem
+      (sets-field F i (λ v. withHeapOffsets heap (v .«read_heap_offset») (v .«parent_heap_offset») (v .«local_heap_offset») v) 7 heap (omega arith) (λ a. refl))
+      (sets-field _ i (λ v. withHeapOffsets (v .«heap_offset») read (v .«parent_heap_offset») (v .«local_heap_offset») v) 9 read (omega arith) (λ a. refl)))
+      (sets-field _ i (λ v. withHeapOffsets (v .«heap_offset») (v .«read_heap_offset») parent (v .«local_heap_offset») v) 10 parent (omega arith) (λ a. refl)))
+      (sets-field _ i (λ v. withHeapOffsets (v .«heap_offset») (v .«read_heap_offset») (v .«parent_heap_offset») local v) 11 local (omega arith) (λ a. refl))

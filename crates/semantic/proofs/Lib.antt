@@ -1,0 +1,3 @@
+pub mod RowCase
+pub mod AmendCase
+pub mod ItemCase

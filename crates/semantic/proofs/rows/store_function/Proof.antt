@@ -1,0 +1,23 @@
+-- `store_function`: the row's numbers are put in its place.
+use Rattle.semantic.proofs.RowCase.{stored}
+use borrow.Author.Needs.{needs}
+use Rattle.semantic.proofs.rows.store_function.Statement.{statement}
+use Rattle.semantic.proofs.rows.store_function.Tie as tie
+
+function-row-requires : tie.Need-function-row-requires
+function-row-requires c κs = search needs
+
+put-row-requires : tie.Need-put-row-requires
+put-row-requires c κs = search needs
+
+same-length : tie.Need-same-length
+same-length c = search needs
+
+returns : tie.Need-returns
+returns c =
+    let o = c .before .before .before .before .before .before .args in
+    stored (o .facts .now) (o .at) _ (c .before .before .before .before .function-row .ensures) (c .before .before .put-row .ensures)
+
+pub store-function-spec : {M : Type 1} → statement M
+store-function-spec =
+    tie.close (tie.spec function-row-requires put-row-requires same-length returns)

@@ -1,0 +1,106 @@
+-- The fields of an entry changed, as a second run does.
+use Prim.Native.Nat.{ℕ, suc}
+use mathlib.Core.Bool.{Bool}
+use Rattle.semantic.specs.Rows.{Item}
+use Rattle.semantic.specs.declared.ScopeInfo.{ScopeInfo}
+
+abbrev pub onInfo : (ScopeInfo → ScopeInfo) → Item → Item
+onInfo f i = record { binder = i .binder; info = f (i .info) }
+
+-- an entry that is used once more
+abbrev pub usedInfo : ScopeInfo → ScopeInfo
+usedInfo c = record {
+  id = c .id;
+  captured = c .captured;
+  «usage_count» = suc (c .«usage_count»);
+  «last_used» = c .«last_used»;
+  «stack_offset» = c .«stack_offset»;
+  escapes = c .escapes;
+  «capture_offset» = c .«capture_offset»;
+  «captured_from_enclosing» = c .«captured_from_enclosing»;
+  mutated = c .mutated;
+  «heap_offset» = c .«heap_offset»;
+  «read_capture_offset» = c .«read_capture_offset»;
+  «read_heap_offset» = c .«read_heap_offset»;
+  «parent_heap_offset» = c .«parent_heap_offset»;
+  «local_heap_offset» = c .«local_heap_offset»;
+  depth = c .depth;
+}
+
+-- its capture offset, and where it is read
+abbrev pub withCaptureOffsets : ℕ → ℕ → ScopeInfo → ScopeInfo
+withCaptureOffsets offset read v = record {
+  id = v .id;
+  captured = v .captured;
+  «usage_count» = v .«usage_count»;
+  «last_used» = v .«last_used»;
+  «stack_offset» = v .«stack_offset»;
+  escapes = v .escapes;
+  «capture_offset» = offset;
+  «captured_from_enclosing» = v .«captured_from_enclosing»;
+  mutated = v .mutated;
+  «heap_offset» = v .«heap_offset»;
+  «read_capture_offset» = read;
+  «read_heap_offset» = v .«read_heap_offset»;
+  «parent_heap_offset» = v .«parent_heap_offset»;
+  «local_heap_offset» = v .«local_heap_offset»;
+  depth = v .depth;
+}
+
+-- its heap offset, where it is read, its parent's and its own
+abbrev pub withHeapOffsets : ℕ → ℕ → ℕ → ℕ → ScopeInfo → ScopeInfo
+withHeapOffsets heap read parent local v = record {
+  id = v .id;
+  captured = v .captured;
+  «usage_count» = v .«usage_count»;
+  «last_used» = v .«last_used»;
+  «stack_offset» = v .«stack_offset»;
+  escapes = v .escapes;
+  «capture_offset» = v .«capture_offset»;
+  «captured_from_enclosing» = v .«captured_from_enclosing»;
+  mutated = v .mutated;
+  «heap_offset» = heap;
+  «read_capture_offset» = v .«read_capture_offset»;
+  «read_heap_offset» = read;
+  «parent_heap_offset» = parent;
+  «local_heap_offset» = local;
+  depth = v .depth;
+}
+
+abbrev pub withEnclosing : Bool → ScopeInfo → ScopeInfo
+withEnclosing b v = record {
+  id = v .id;
+  captured = v .captured;
+  «usage_count» = v .«usage_count»;
+  «last_used» = v .«last_used»;
+  «stack_offset» = v .«stack_offset»;
+  escapes = v .escapes;
+  «capture_offset» = v .«capture_offset»;
+  «captured_from_enclosing» = b;
+  mutated = v .mutated;
+  «heap_offset» = v .«heap_offset»;
+  «read_capture_offset» = v .«read_capture_offset»;
+  «read_heap_offset» = v .«read_heap_offset»;
+  «parent_heap_offset» = v .«parent_heap_offset»;
+  «local_heap_offset» = v .«local_heap_offset»;
+  depth = v .depth;
+}
+
+abbrev pub withHeap : ℕ → ScopeInfo → ScopeInfo
+withHeap h v = record {
+  id = v .id;
+  captured = v .captured;
+  «usage_count» = v .«usage_count»;
+  «last_used» = v .«last_used»;
+  «stack_offset» = v .«stack_offset»;
+  escapes = v .escapes;
+  «capture_offset» = v .«capture_offset»;
+  «captured_from_enclosing» = v .«captured_from_enclosing»;
+  mutated = v .mutated;
+  «heap_offset» = h;
+  «read_capture_offset» = v .«read_capture_offset»;
+  «read_heap_offset» = v .«read_heap_offset»;
+  «parent_heap_offset» = v .«parent_heap_offset»;
+  «local_heap_offset» = v .«local_heap_offset»;
+  depth = v .depth;
+}

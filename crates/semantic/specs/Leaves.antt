@@ -1,0 +1,63 @@
+-- What the functions that read and write rows promise; those that hold for every kind of table are of `table`.
+use Prim.Native.Nat.{ℕ, _+_, _*_, _≤_, _<_}
+use mathlib.Core.List.{List}
+use mathlib.Core.Bool.{true, false≢true}
+use mathlib.Core.Path.{_≡_, refl, sym, subst, _∙_}
+use native.Mathlib.Omega.{arith}
+use lib.ListN.{length, getD, set}
+use Rattle.table.specs.Layout.{layout}
+use Rattle.table.specs.Leaves.{inside, tells-number}
+use Rattle.semantic.specs.Information.{NONE}
+use Rattle.semantic.specs.Rows.{Row, Blank, Variable, Function, CallSite, Let, rowWidth, putRow, row-long, Item, putInfo, noItem, itemWidth, putItem, item-long}
+use Rattle.semantic.specs.Amend.{amended}
+use Rattle.semantic.specs.Kinds.{isVariable, isIdentifier}
+use Rattle.semantic.specs.KindLaws.{variable-told}
+use Rattle.semantic.specs.declared.SemanticInformation.{SemanticInformation}
+use Rattle.semantic.specs.declared.ScopeInfo.{ScopeInfo}
+pub use Rattle.table.specs.Leaves.{Stores, Amends, Tells}
+
+-- what a leaf requires, from the rows
+pub row-inside : (l : List Row) {F : List ℕ} {i : ℕ} → F ≡ layout putRow l → i < length l → rowWidth * i + rowWidth ≤ length F
+row-inside l {F} {i} e h = inside rowWidth putRow row-long Blank F i l e h
+
+pub item-inside : (l : List Item) {F : List ℕ} {i : ℕ} → F ≡ layout putItem l → i < length l → itemWidth * i + itemWidth ≤ length F
+item-inside l {F} {i} e h = inside itemWidth putItem item-long noItem F i l e h
+
+-- the identifier's fact in row i
+pub record Loads (F : List ℕ) (i : ℕ) (r : SemanticInformation) : Type 0 where
+  pub is : (l : List Row) (v : SemanticInformation) → F ≡ layout putRow l → i < length l → getD l i Blank ≡ Variable v → r ≡ v
+
+-- number j of row i is x now, if the row is an identifier's: so is its fact changed by any f that does this to the numbers
+pub record SetsNumber (F : List ℕ) (i j x : ℕ) (F′ : List ℕ) : Type 0 where
+  pub is : (f : SemanticInformation → SemanticInformation)
+      → ((l : List Row) → F ≡ layout putRow l → i < length l
+      → (v : SemanticInformation) → getD l i Blank ≡ Variable v → putRow (Variable (f v)) ≡ set (putRow (Variable v)) j x)
+      → Amends putRow Blank (amended f) F i F′
+
+-- one use more of an identifier's fact in row i can be counted
+pub record UsesFit (F : List ℕ) (i : ℕ) : Type 0 where
+  pub fits : isIdentifier (getD F (rowWidth * i) 0) ≡ true → getD F (rowWidth * i + 4) 0 < NONE
+
+pub uses-fit : (l : List Row) {F : List ℕ} {i : ℕ} → F ≡ layout putRow l → i < length l
+    → ((v : SemanticInformation) → getD l i Blank ≡ Variable v → v .«usage_count» < NONE) → UsesFit F i
+unfolding putRow
+uses-fit l {F} {i} e h k = record {
+  fits = λ t. subst (λ (n : ℕ). n < NONE) (sym (tells-number rowWidth putRow row-long Blank F i 4 (omega arith) .is l e h))
+      (go (getD l i Blank) (sym (variable-told F i refl .is l e h) ∙ t) k);
+}
+  where
+    go : (r : Row) → isVariable r ≡ true → ((v : SemanticInformation) → r ≡ Variable v → v .«usage_count» < NONE) → getD (putRow r) 4 0 < NONE
+    go Blank t f = absurd (false≢true t)
+    go (Variable v) t f = f v refl
+    go (Function v) t f = absurd (false≢true t)
+    go (CallSite v) t f = absurd (false≢true t)
+    go (Let v) t f = absurd (false≢true t)
+
+-- an item of this name and this info is row i
+pub record StoresItem (F : List ℕ) (i name : ℕ) (info : ScopeInfo) (F′ : List ℕ) : Type 0 where
+  pub is : (x : Item) → x .binder .name ≡ name → x .info ≡ info → Stores putItem F i x F′
+
+-- the uses of the entry in row i
+pub item-uses : (F : List ℕ) (i : ℕ) → Tells putItem noItem (λ x. x .info .«usage_count») F i (getD F (itemWidth * i + 3) 0)
+unfolding putItem putInfo
+item-uses F i = tells-number itemWidth putItem item-long noItem F i 3 (omega arith)

@@ -1,0 +1,10 @@
+pub mod Information
+pub mod Rows
+pub mod Numbers
+pub mod Amend
+pub mod Kinds
+pub mod KindLaws
+pub mod Items
+pub mod Marks
+pub mod Decode
+pub mod Leaves

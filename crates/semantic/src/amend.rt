@@ -1,0 +1,83 @@
+// Facts of identifiers changed in place. A row that holds no such fact stays as it is.
+use crate::SemanticInformation;
+use crate::kinds::is_blank;
+use crate::kinds::is_variable;
+use crate::rows::store_information;
+ghost use Prim.Native.Nat.{_+_, _*_, _≤_, _<_};
+ghost use lib.ListN.{length};
+ghost use Rattle.semantic.specs.Information.{shadows, withUsageCount, markSet, markLastUsage, markShadowed};
+ghost use Rattle.semantic.specs.Rows.{Blank, rowWidth, putRow};
+ghost use Rattle.semantic.specs.Amend.{amended, markIf, oneUseMore, usedOr};
+ghost use Rattle.semantic.specs.Leaves.{Amends, SetsNumber, UsesFit};
+
+// Writes a number of the row, if that holds the fact of an identifier.
+fn set_number(facts: &mut [u32], at: usize, place: usize, x: u32)
+    requires { ⌜ (rowWidth * at + rowWidth ≤ length (now facts)) × (place < rowWidth) ⌝ }
+    ensures { λ _. ⌜ SetsNumber (now (facts .entry)) at place x (now (facts .exit)) ⌝ }
+{
+    if is_variable(facts, at) {
+        facts[20 * at + place] = x;
+    }
+}
+
+pub fn with_usage_count(facts: &mut [u32], at: usize, count: u32)
+    requires { ⌜ rowWidth * at + rowWidth ≤ length (now facts) ⌝ }
+    ensures { λ _. ⌜ Amends putRow Blank (amended (withUsageCount count)) (now (facts .entry)) at (now (facts .exit)) ⌝ }
+{
+    set_number(facts, at, 4, count);
+}
+
+pub fn mark_set(facts: &mut [u32], at: usize)
+    requires { ⌜ rowWidth * at + rowWidth ≤ length (now facts) ⌝ }
+    ensures { λ _. ⌜ Amends putRow Blank (amended markSet) (now (facts .entry)) at (now (facts .exit)) ⌝ }
+{
+    set_number(facts, at, 1, 1);
+}
+
+pub fn mark_last_usage(facts: &mut [u32], at: usize)
+    requires { ⌜ rowWidth * at + rowWidth ≤ length (now facts) ⌝ }
+    ensures { λ _. ⌜ Amends putRow Blank (amended markLastUsage) (now (facts .entry)) at (now (facts .exit)) ⌝ }
+{
+    set_number(facts, at, 10, 1);
+}
+
+// The fact of a builtin is marked as shadowed.
+pub fn shadow_if_builtin(facts: &mut [u32], at: usize)
+    requires { ⌜ rowWidth * at + rowWidth ≤ length (now facts) ⌝ }
+    ensures { λ _. ⌜ Amends putRow Blank (amended (λ i. markIf (i .builtin) markShadowed i)) (now (facts .entry)) at (now (facts .exit)) ⌝ }
+{
+    if facts[20 * at + 9] == 1 {
+        set_number(facts, at, 18, 1);
+    }
+}
+
+// A parameter's fact takes its uses, and the id of what it shadows, at the end.
+pub fn end_parameter(facts: &mut [u32], at: usize, count: u32, id: u32)
+    requires { ⌜ rowWidth * at + rowWidth ≤ length (now facts) ⌝ }
+    ensures { λ _. ⌜ Amends putRow Blank (amended (λ i. shadows id (withUsageCount count i))) (now (facts .entry)) at (now (facts .exit)) ⌝ }
+{
+    set_number(facts, at, 4, count);
+    set_number(facts, at, 3, id);
+}
+
+pub fn one_use_more(facts: &mut [u32], at: usize)
+    requires { ⌜ (rowWidth * at + rowWidth ≤ length (now facts)) × UsesFit (now facts) at ⌝ }
+    ensures { λ _. ⌜ Amends putRow Blank (amended oneUseMore) (now (facts .entry)) at (now (facts .exit)) ⌝ }
+{
+    if is_variable(facts, at) {
+        let count = 20 * at + 4;
+        facts[count] = facts[count] + 1;
+    }
+}
+
+// A fact made before counts one use more; where there is none, it is `i`.
+pub fn use_or_store(facts: &mut [u32], at: usize, i: SemanticInformation)
+    requires { ⌜ (rowWidth * at + rowWidth ≤ length (now facts)) × UsesFit (now facts) at ⌝ }
+    ensures { λ _. ⌜ Amends putRow Blank (usedOr i) (now (facts .entry)) at (now (facts .exit)) ⌝ }
+{
+    if is_blank(facts, at) {
+        store_information(facts, at, i);
+    } else {
+        one_use_more(facts, at);
+    }
+}
