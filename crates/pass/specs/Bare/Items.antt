@@ -1,0 +1,154 @@
+-- Captured lists and captures.
+use Prim.Native.Nat.{ℕ, zero, suc, _+_}
+use mathlib.Core.List.{List, [], _∷_, map, map-append}
+use mathlib.Core.Bool.{Bool, true, false, not, _&&_}
+use mathlib.Core.Option.{Option, none, some, Option·map}
+use mathlib.Core.Path.{_≡_, refl, ap, sym, _∙_}
+use lib.ListN.{length, length-map, set}
+use lib.Dec.{eqb, leb, ltb}
+use Rattle.tree.specs.Tree.{Ident}
+use Rattle.tree.specs.Check.{member}
+use Rattle.scope_map.specs.ScopeMap.{ScopeMap, Live, get}
+use Rattle.scope_map.specs.MapLaws.{mapValue, mapValues, mapLive, map-get, map-define}
+use Rattle.semantic.specs.Rows.{Item}
+use Rattle.semantic.specs.declared.Entries.{Entries}
+use Rattle.semantic.specs.declared.ScopeInfo.{ScopeInfo}
+use Rattle.pass.specs.State.{Entry, Capture, State, withCaptures, withCaptured, itemOf, newest}
+use Rattle.pass.specs.Lists.{addCaptured, capturedIn, capturedVars, insertById, sortById, listIn, capturedMost, storeCaptured, storeArguments, rewriteCaptured, nearIn, near, isNear, onInfo, captureOf, numberRow, numberRows, numberList, heapCount, nameOf, namesOf, keep, countOf, find, enclosingOf, keptItem, amendList}
+use Rattle.pass.specs.Bare.{bareIdent, bareItem, bareFacts, bareEntry, bareCapture, bareState, _↝_}
+use Rattle.pass.specs.Bare.Maps.{map-cond, map-set, map-sets, map-take, map-drop, map-replicate}
+use Rattle.pass.specs.Bare.Steps.{bare-id, bare-newest, bare-capture, bare-item, steps}
+
+-- The list of a lambda that ends
+
+pub bare-item-of : (b : Ident) (e : Entry) → itemOf (bareIdent b) (bareEntry e) ≡ bareItem (itemOf b e)
+bare-item-of b e = rw (bare-id (e .lastUsed))
+
+add-captured : (b : Bool) (s : State) (o : Option Ident) (l : List Item)
+    → addCaptured b (bareState s) (Option·map bareIdent o) (map bareItem l) ≡ map bareItem (addCaptured b s o l)
+add-captured false s o l = refl
+add-captured true s none l = refl
+add-captured true s (some b) l = simp (steps, map-cond (map bareItem))
+
+captured-in : (ps : List ℕ) (s : State) (l : List (Live Ident)) → capturedIn ps (bareState s) (mapLive bareIdent l) ≡ map bareItem (capturedIn ps s l)
+unfolding capturedIn mapLive
+captured-in ps s [] = refl
+captured-in ps s (e ∷ l) =
+    rw (captured-in ps s l, bare-newest) (add-captured (ltb 1 (e .layer) && not (member (e .name) ps)) s (newest s (e .name)) (capturedIn ps s l))
+
+pub bare-captured-vars : (ps : List ℕ) (s : State) → capturedVars ps (bareState s) ≡ map bareItem (capturedVars ps s)
+unfolding capturedVars bareState
+bare-captured-vars ps s = captured-in ps s (s .scope .names .live)
+
+insert-by-id : (i : Item) (l : List Item) → insertById (bareItem i) (map bareItem l) ≡ map bareItem (insertById i l)
+unfolding insertById
+insert-by-id i [] = refl
+insert-by-id i (j ∷ l) = rw (insert-by-id i l) (sym (map-cond (map bareItem) (leb (i .info .id) (j .info .id)) _ _))
+
+pub bare-sort : (l : List Item) → sortById (map bareItem l) ≡ map bareItem (sortById l)
+unfolding sortById
+bare-sort [] = refl
+bare-sort (i ∷ l) = rw (bare-sort l) (insert-by-id i (sortById l))
+
+-- Lists in their tables
+
+pub bare-list : (l : List Item) (e : Entries) → listIn (map bareItem l) e ≡ map bareItem (listIn l e)
+bare-list l e = simp (map-take, map-drop)
+
+pub bare-store : (i : ℕ) (l : List Item) → storeCaptured i l ↝ storeCaptured i (map bareItem l)
+unfolding storeCaptured bareState bareFacts
+bare-store i l s =
+    let full = ltb capturedMost (s .facts .capturedTop + length l) in
+    rw (length-map l bareItem, ← map-sets bareItem (s .facts .captured) (s .facts .capturedTop) l, ← map-cond (map bareItem) full) (map-cond bareState full _ _)
+
+pub bare-store-arguments : (l : List Item) → storeArguments l ↝ storeArguments (map bareItem l)
+unfolding storeArguments bareState bareFacts
+bare-store-arguments l s = rw (length-map l bareItem, map-sets bareItem (s .facts .arguments) (s .facts .argumentsTop) l)
+
+pub bare-rewrite : (e : Entries) (l : List Item) → rewriteCaptured e l ↝ rewriteCaptured e (map bareItem l)
+unfolding rewriteCaptured bareState bareFacts
+bare-rewrite e l s = simp (length-map, map-sets, map-append, map-replicate)
+
+-- Offsets on entering a lambda
+
+bare-near : (s : State) (x : ℕ) → near (bareState s) x ≡ near s x
+bare-near s x = rw bare-capture (go (get (s .captures) x))
+  where
+    go : (o : Option (Live Capture)) → nearIn (bareState s) (Option·map (mapValue bareCapture) o) ≡ nearIn s o
+    go none = refl
+    go (some c) = simp steps
+
+-- captures and captured entries changed together
+bare-take : (m : ScopeMap Capture) (l : List Item) (s : State) {k : ScopeMap Capture} {r : List Item} → mapValues bareCapture m ≡ k → map bareItem l ≡ r
+    → bareState (withCaptures m (withCaptured l s)) ≡ withCaptures k (withCaptured r (bareState s))
+unfolding bareState bareFacts
+bare-take m l s {k} p q =
+    ap (λ (n : ScopeMap Capture). withCaptures n (withCaptured (map bareItem l) (bareState s))) p
+    ∙ ap (λ (n : List Item). withCaptures k (withCaptured n (bareState s))) q
+
+module _ (which : Bool) (numbered : ℕ → Option ScopeInfo → ScopeInfo → ScopeInfo) where
+  number-row : (r i : ℕ) (x : Item) → numberRow which numbered r i x ↝ numberRow which numbered r i (bareItem x)
+  unfolding numberRow bareState bareFacts
+  number-row r i x s =
+      let o = near s (x .binder .name) in
+      let y = onInfo (numbered i o) x in
+      rw (bare-near s (x .binder .name))
+      (bare-take _ (set (s .facts .captured) r y) s
+      (map-define bareCapture (x .binder .name) (captureOf which numbered r (isNear o) x) (s .captures))
+      (map-set bareItem (s .facts .captured) r y))
+
+  number-rows : (k r i : ℕ) → numberRows which numbered k r i ↝ numberRows which numbered k r i
+  unfolding numberRows
+  number-rows zero r i s = refl
+  number-rows (suc k) r i s = number-rows k _ _ _ ∙ rw (map-cond bareState, number-row, bare-item)
+
+pub bare-number : (e : Entries) → numberList e ↝ numberList e
+unfolding numberList
+bare-number e s = simp number-rows
+
+pub bare-heaps : (l : List Item) → heapCount (map bareItem l) ≡ heapCount l
+unfolding heapCount
+bare-heaps [] = refl
+bare-heaps (i ∷ l) = rw (bare-heaps l)
+
+-- The list that a second run keeps
+
+pub bare-names-of : (l : List Item) → namesOf (map bareItem l) ≡ namesOf l
+bare-names-of [] = refl
+bare-names-of (i ∷ l) = rw (bare-names-of l)
+
+pub bare-keep : (p : ℕ → Bool) (l : List Item) → keep p (map bareItem l) ≡ map bareItem (keep p l)
+unfolding keep
+bare-keep p [] = refl
+bare-keep p (i ∷ l) = rw (bare-keep p l) (sym (map-cond (map bareItem) (p (nameOf i)) _ _))
+
+bare-count : (x : ℕ) (l : List Item) → countOf x (map bareItem l) ≡ countOf x l
+unfolding countOf
+bare-count x [] = refl
+bare-count x (i ∷ l) = rw (bare-count x l)
+
+bare-find : (x : ℕ) (l : List Item) → find x (map bareItem l) ≡ Option·map bareItem (find x l)
+unfolding find
+bare-find x [] = refl
+bare-find x (i ∷ l) = rw (bare-find x l) (sym (map-cond (Option·map bareItem) (eqb (nameOf i) x) _ _))
+
+bare-enclosing : (m : ScopeMap Capture) (x : ℕ) → enclosingOf (get (mapValues bareCapture m) x) ≡ enclosingOf (get m x)
+bare-enclosing m x = rw (map-get bareCapture) (go (get m x))
+  where
+    go : (o : Option (Live Capture)) → enclosingOf (Option·map (mapValue bareCapture) o) ≡ enclosingOf o
+    go none = refl
+    go (some c) = refl
+
+module _ (now : List Item) (m : ScopeMap Capture) where
+  kept-item : (o : Option Item) (i : Item)
+      → keptItem (map bareItem now) (mapValues bareCapture m) (Option·map bareItem o) (bareItem i) ≡ bareItem (keptItem now m o i)
+  kept-item none i = refl
+  kept-item (some v) i = rw (bare-count (nameOf i) now, bare-enclosing m (nameOf i))
+
+  pub bare-amend-list : (seen : List ℕ) (l : List Item)
+      → amendList (map bareItem now) (mapValues bareCapture m) seen (map bareItem l) ≡ map bareItem (amendList now m seen l)
+  unfolding amendList
+  bare-amend-list seen [] = refl
+  bare-amend-list seen (i ∷ l) =
+      rw (bare-find (nameOf i) now, kept-item (find (nameOf i) now) i, bare-amend-list (nameOf i ∷ seen) l)
+      (ap (λ (j : Item). j ∷ map bareItem (amendList now m (nameOf i ∷ seen) l)) (sym (map-cond bareItem (member (nameOf i) seen) i _)))

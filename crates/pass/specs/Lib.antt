@@ -1,0 +1,12 @@
+pub mod State
+pub mod Read
+pub mod Lists
+pub mod Lambda
+pub mod Visit
+pub mod Run
+pub mod Static
+pub mod TailPosition
+pub mod Laws
+pub mod Scripts
+pub mod Bare
+pub mod Recorded

@@ -1,0 +1,1 @@
+// The pass as a definition: it stands in specs/.

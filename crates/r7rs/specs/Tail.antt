@@ -1,0 +1,37 @@
+-- Tail position, by structure alone. R7RS 3.5.
+use Prim.Native.Nat.{ℕ}
+use mathlib.Core.List.{List, [], _∷_, _++_}
+use mathlib.Core.Bool.{Bool, true, false}
+use Rattle.tree.specs.Tree.{Tree, Trees, ident, const, if, letin, define, lambda, begin, call, set!, nil, cons}
+
+-- a call: its record, its head, and whether it stands in tail position of the innermost lambda around it
+pub record Call : Type 0 where
+  pub at : ℕ
+  pub head : Tree
+  pub tail : Bool
+
+-- The calls of an expression, which stands in tail position itself where `t` says so. "The last expression within the body of a lambda expression
+-- occurs in a tail context." Of an expression in one, so do both branches of an if, the body of a let, and the last child of a begin if it is an
+-- expression: a define is none.
+unfoldable mutual
+  pub calls : Tree → Bool → List Call
+  calls (ident x) t = []
+  calls (const n q) t = []
+  calls (if n a b c) t = calls a false ++ (calls b t ++ calls c t)
+  calls (letin n xs es b) t = callsIn es ++ calls b t
+  calls (define n x b) t = calls b false
+  calls (lambda n xs b) t = calls b true
+  calls (begin n es) t = callsLast es t
+  calls (call n h es) t = record { at = n .at; head = h; tail = t } ∷ (calls h false ++ callsIn es)
+  calls (set! n x e) t = calls e false
+
+  -- of expressions none of which stands in tail position: arguments, initial expressions, the top level
+  pub callsIn : Trees → List Call
+  callsIn nil = []
+  callsIn (cons e es) = calls e false ++ callsIn es
+
+  -- of expressions the last of which stands where `t` says
+  pub callsLast : Trees → Bool → List Call
+  callsLast nil t = []
+  callsLast (cons e nil) t = calls e t
+  callsLast (cons e (cons e′ es)) t = calls e false ++ callsLast (cons e′ es) t
