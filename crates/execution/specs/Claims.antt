@@ -1,0 +1,76 @@
+-- What is claimed of the facts: demands 2 and 3 of document 00. Read this first; each word leads to its definition.
+use Prim.Native.Nat.{ℕ}
+use mathlib.Core.List.{List, []}
+use mathlib.Core.Option.{none}
+use mathlib.Core.Path.{_≡_}
+use lib.ListN.{length}
+use Rattle.tree.specs.Tree.{Trees}
+use Rattle.tree.specs.Define.{innerDefines}
+use Rattle.tree.specs.Accepted.{Accepted}
+use Rattle.semantic.specs.Rows.{Row}
+use Rattle.pass.specs.State.{State}
+use Rattle.pass.specs.Run.{fresh, settled}
+use Rattle.pass.specs.TailPosition.{CallsRecorded}
+use Rattle.pass.specs.Bare.{bares}
+use Rattle.r7rs.specs.Binding.{events}
+use Rattle.r7rs.specs.Run.{plain}
+use Rattle.execution.specs.Slot.{slots}
+use Rattle.execution.specs.Lock.{Lockstep}
+use Rattle.execution.specs.Premises.{FreshAccepts, SettledAccepts, Premises}
+use Rattle.execution.specs.References.{Referred, freshReference, freshBinder, settledReference, settledBinder}
+use Rattle.execution.specs.Acceptance.{nineIn, tenIn, secondIn}
+use Rattle.execution.specs.Positions.{Same}
+
+-- the facts that a run leaves
+abbrev pub rows : State → List Row
+rows s = s .facts .rows
+
+-- Demand 2: "proved are tail position and, where no define is inner, binding from R7RS". Tail position: a call has a fact exactly if its head is no
+-- constant, and its kind is TailCall or SelfTailCall exactly if R7RS puts it in tail position. Of every accepted tree, inner defines or not.
+
+abbrev pub TailFresh : Type 0
+TailFresh = (classes rs : List ℕ) (ts : Trees) → FreshAccepts classes rs ts → CallsRecorded (rows (fresh classes ts)) ts
+
+abbrev pub TailSettled : Type 0
+TailSettled = (classes rs : List ℕ) (ts : Trees) → SettledAccepts classes rs ts → CallsRecorded (rows (settled classes ts)) ts
+
+-- Binding: kind, reference, depth and slot of each identifier read or set, and of each parameter and let name
+
+abbrev pub BindingFresh : Type 0
+BindingFresh =
+    (classes rs : List ℕ) (ts : Trees) → FreshAccepts classes rs ts → innerDefines ts ≡ []
+    → Referred ts (rows (fresh classes ts)) (freshReference classes ts) (freshBinder classes ts)
+
+abbrev pub BindingSettled : Type 0
+BindingSettled =
+    (classes rs : List ℕ) (ts : Trees) → SettledAccepts classes rs ts → innerDefines ts ≡ []
+    → Referred ts (rows (settled classes ts)) (settledReference classes ts) (settledBinder classes ts)
+
+-- Demand 3. "Take any tree that the fresh run accepts, with no inner define and no set! of a parameter or let name that an inner lambda mentions. Run it
+-- on a machine that finds parameters and let names only by the recorded references, depths and slots, and gives up a frame before its return only at
+-- recorded tail calls" (`slots`); "and on the plain machine of document 01, which has R7RS's environments and no fact" (`plain`). "Then no read or
+-- set! ever goes outside a frame. And for every number n, after n moments" the two are in step (`Lockstep`).
+abbrev pub Demand3 : Type 0
+Demand3 =
+    (classes rs : List ℕ) (ts : Trees) → FreshAccepts classes rs ts → Premises ts
+    → (n : ℕ) → let T = rows (fresh classes ts) in Lockstep ts T (slots ts T n) (plain ts n)
+
+-- Refusals 9 to 12, "exact both ways", where no define is inner
+
+abbrev pub NineExact : Type 0
+NineExact = (classes rs : List ℕ) (ts : Trees) → Accepted (length classes) rs ts → innerDefines ts ≡ [] → fresh classes ts .noted .nine ≡ nineIn (events ts)
+
+abbrev pub TenExact : Type 0
+TenExact =
+    (classes rs : List ℕ) (ts : Trees) → Accepted (length classes) rs ts → innerDefines ts ≡ [] → fresh classes ts .noted .nine ≡ none
+    → fresh classes ts .noted .ten ≡ tenIn (events ts)
+
+abbrev pub SecondExact : Type 0
+SecondExact =
+    (classes rs : List ℕ) (ts : Trees) → FreshAccepts classes rs ts → innerDefines ts ≡ [] → settled classes ts .noted .second ≡ secondIn (events ts)
+
+-- "Positions are carried and never consulted: trees that differ only there give equal rows but for positions."
+
+abbrev pub PositionsCarried : Type 0
+PositionsCarried =
+    (classes : List ℕ) (ts us : Trees) → bares ts ≡ bares us → Same (fresh classes ts) (fresh classes us) × Same (settled classes ts) (settled classes us)

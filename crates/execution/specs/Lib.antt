@@ -1,0 +1,13 @@
+pub mod Claims
+pub mod Premises
+pub mod Facts
+pub mod Slot
+pub mod Lock
+pub mod References
+pub mod Acceptance
+pub mod Positions
+pub mod TailPosition
+pub mod Simulation
+pub mod Carried
+pub mod Exact
+pub mod BindingFresh

@@ -1,0 +1,118 @@
+-- What the facts have to say of each name, by R7RS's binding. Demand 2; document 01, "Rules of the pass".
+use Prim.Native.Nat.{ℕ}
+use mathlib.Core.List.{List, [], _∷_, _++_}
+use mathlib.Core.Bool.{Bool, true, false, cond, _&&_, _||_}
+use mathlib.Core.Option.{Option, none, some}
+use mathlib.Core.Path.{_≡_}
+use lib.Dec.{eqb}
+use Rattle.tree.specs.Tree.{Ident, Trees}
+use Rattle.tree.specs.Check.{member}
+use Rattle.tree.specs.Accepted.{All}
+use Rattle.semantic.specs.Information.{NONE}
+use Rattle.semantic.specs.Rows.{Row, Blank, Variable, Function, CallSite, Let}
+use Rattle.semantic.specs.declared.IdentifierStatus.{IdentifierStatus}
+use Rattle.semantic.specs.declared.IdentifierStatus.the-variants.{Global, Local, LetVar, Captured, Free, HeapAllocated}
+use Rattle.pass.specs.Read.{isPrelude}
+use Rattle.r7rs.specs.Binding.{Binder, Mention, events, mentionsIn, bindersIn, meant, isInner}
+use Rattle.r7rs.specs.Bottom.{bottomEntry}
+use Rattle.execution.specs.Facts.{rowOf}
+
+-- what a fact says of a name
+pub record Reference : Type 0 where
+  pub kind : IdentifierStatus
+  pub refers : ℕ
+  pub depth : ℕ
+  pub slot : ℕ
+
+abbrev pub reference : IdentifierStatus → ℕ → ℕ → ℕ → Reference
+reference k r d s = record { kind = k; refers = r; depth = d; slot = s }
+
+abbrev pub referenceIn : Row → Option Reference
+referenceIn Blank = none
+referenceIn (Variable v) = some (reference (v .kind) (v .«refers_to») (v .depth) (v .«stack_offset»))
+referenceIn (Function v) = none
+referenceIn (CallSite v) = none
+referenceIn (Let v) = none
+
+-- Mentions of a binder
+
+abbrev pub isIt : Binder → Option Binder → Bool
+isIt b none = false
+isIt b (some c) = eqb (b .ident .at) (c .ident .at)
+
+abbrev pub isSetOf : Binder → Mention → Bool
+isSetOf b m = m .isSet && isIt b (meant m)
+
+abbrev pub isInnerOf : Binder → Mention → Bool
+isInnerOf b m = isInner m b && isIt b (meant m)
+
+unfoldable pub any : (Mention → Bool) → List Mention → Bool
+any p [] = false
+any p (m ∷ l) = p m || any p l
+
+-- the mention stands in the innermost of the lambdas given
+abbrev pub isWithin : List ℕ → Mention → Bool
+isWithin [] m = false
+isWithin (i ∷ is) m = member i (m .place .around)
+
+-- an inner lambda mentions b, and a set! sets it
+abbrev pub isShared : Binder → List Mention → Bool
+isShared b l = any (isInnerOf b) l && any (isSetOf b) l
+
+-- A name with no parameter or let name to mean. Its bottom entry d: "An entry of depth 1 is read as Global." Else: "no entry is Free, or Global
+-- for a prelude name."
+abbrev pub globalReference : Bool → ℕ → Option Ident → Reference
+globalReference prelude layer (some d) = reference Global (d .id) 1 NONE
+globalReference prelude layer none = reference (cond prelude Global Free) NONE layer NONE
+
+module _ (classes : List ℕ) (ts : Trees) where
+  abbrev pub unbound : Mention → Reference
+  unbound m = globalReference (isPrelude classes (m .ident .name)) (m .place .layer) (bottomEntry ts (m .ident .name) (m .ident .at))
+
+  abbrev pub allMentions : List Mention
+  allMentions = mentionsIn (events ts)
+
+  -- The fresh run. "An entry of the current depth is Local with its slot, or HeapAllocated with it if by then captured and mutated; any other, on a
+  -- fresh run, is Captured with its home slot." `before` are the mentions before m, which means b.
+
+  abbrev pub freshKind : List Mention → Mention → Binder → IdentifierStatus
+  freshKind before m b = cond (isInner m b) Captured (cond (any (isInnerOf b) before && (isSetOf b m || any (isSetOf b) before)) HeapAllocated Local)
+
+  abbrev pub freshBound : List Mention → Mention → Option Binder → Reference
+  freshBound before m none = unbound m
+  freshBound before m (some b) = reference (freshKind before m b) (b .ident .id) (m .place .layer) (b .slot)
+
+  abbrev pub freshReference : List Mention → Mention → Reference
+  freshReference before m = freshBound before m (meant m)
+
+  abbrev pub freshBinder : Binder → Reference
+  freshBinder b = reference (cond (b .isLet) LetVar Local) NONE (b .layer) NONE
+
+  -- The settled run: a name that an inner lambda mentions and that is set lies in the heap, and a captured one has no slot
+
+  abbrev pub settledOwn : Bool → Mention → Binder → Reference
+  settledOwn true m b = reference HeapAllocated (b .ident .id) (m .place .layer) (b .place)
+  settledOwn false m b = reference Local (b .ident .id) (m .place .layer) (b .slot)
+
+  -- a set! of b comes before the end of m's innermost lambda
+  abbrev pub isSetByEnd : List Mention → Mention → Binder → Bool
+  isSetByEnd before m b = any (isSetOf b) before || any (λ o. isSetOf b o && isWithin (m .place .around) o) allMentions
+
+  abbrev pub settledInner : List Mention → Mention → Binder → Reference
+  settledInner before m b = reference (cond (isSetByEnd before m b) HeapAllocated Captured) (b .ident .id) (m .place .layer) NONE
+
+  abbrev pub settledBound : List Mention → Mention → Option Binder → Reference
+  settledBound before m none = unbound m
+  settledBound before m (some b) = cond (isInner m b) (settledInner before m b) (settledOwn (isShared b allMentions) m b)
+
+  abbrev pub settledReference : List Mention → Mention → Reference
+  settledReference before m = settledBound before m (meant m)
+
+  abbrev pub settledBinder : Binder → Reference
+  settledBinder b = reference (cond (isShared b allMentions) HeapAllocated (cond (b .isLet) LetVar Local)) NONE (b .layer) NONE
+
+-- the facts T say, of each identifier read or set and of each parameter and let name, what `wanted` and `wantedBinder` say
+pub record Referred (ts : Trees) (T : List Row) (wanted : List Mention → Mention → Reference) (wantedBinder : Binder → Reference) : Type 0 where
+  pub mentioned : (before after : List Mention) (m : Mention) → mentionsIn (events ts) ≡ before ++ (m ∷ after)
+      → referenceIn (rowOf T (m .ident .at)) ≡ some (wanted before m)
+  pub bound : All (λ b. referenceIn (rowOf T (b .ident .at)) ≡ some (wantedBinder b)) (bindersIn (events ts))

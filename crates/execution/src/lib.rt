@@ -1,0 +1,1 @@
+// The slot machine, and what is claimed of the facts: they stand in specs/.
