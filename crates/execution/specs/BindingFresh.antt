@@ -17,8 +17,8 @@ use Rattle.pass.specs.State.{Noted}
 use Rattle.pass.specs.Laws.Says.{Each, Tells, kindOf, usedInside, isSetIn, SaysCell, SaysOf, Says}
 use Rattle.pass.specs.Read.{isPrelude}
 use Rattle.pass.specs.Laws.Finds.{Of, of-none, of-some, find-all}
-use Rattle.pass.specs.Laws.All.{all-map}
-use Rattle.pass.specs.Laws.Levels.{levels, Known, Placed, placed-all}
+use Rattle.pass.specs.Laws.All.{all-left, all-right, all-map}
+use Rattle.pass.specs.Laws.Levels.{each-mention, levels, Known, Placed, placed-all}
 use Rattle.pass.specs.Laws.Bottoms.{cell, fresh-says}
 use Rattle.r7rs.specs.Binding.{Binder, Mention, Event, enters, mentions, ends, events, mentionsIn, bindersIn, meant, isInner, Use, useOf, usesOf, top}
 use Rattle.r7rs.specs.Bottom.{bottomEntry}
@@ -26,7 +26,7 @@ use Rattle.execution.specs.References.{reference, referenceIn, isIt, isS
 use Rattle.execution.specs.Claims.{BindingFresh}
 
 -- A row that tells is a reference
-refers : {T : List Row} {i r d s : ℕ} {k : IdentifierStatus} → Tells T i k r d s → referenceIn (getD T i Blank) ≡ some (reference k r d s)
+pub refers : {T : List Row} {i r d s : ℕ} {k : IdentifierStatus} → Tells T i k r d s → referenceIn (getD T i Blank) ≡ some (reference k r d s)
 refers t =
     ap referenceIn (t .is)
     ∙ (λ i. some (reference (t .kind i) (t .refers i) (t .depth i) (t .slot i)))
@@ -62,24 +62,16 @@ module _ (classes : List ℕ) (ts : Trees) (T : List Row) (c : Ident → Option 
   says-bound u (mentions m ∷ l) s = says-bound _ l (s .1)
   says-bound u (ends i xs sc ∷ l) s = says-bound u l s
 
-each-all : (Q : Mention → Type 0) (l : List Event) → Each Q l → All Q (mentionsIn l)
+pub each-all : (Q : Mention → Type 0) (l : List Event) → Each Q l → All Q (mentionsIn l)
 each-all Q [] e = tt
 each-all Q (enters b sc ∷ l) e = each-all Q l e
 each-all Q (mentions m ∷ l) e = (e .0, each-all Q l (e .1))
 each-all Q (ends i xs sc ∷ l) e = each-all Q l e
 
-all-before : (Q : Mention → Type 0) (l r : List Mention) → All Q (l ++ r) → All Q l
-all-before Q [] r a = tt
-all-before Q (m ∷ l) r a = (a .0, all-before Q l r (a .1))
-
-all-after : (Q : Mention → Type 0) (l r : List Mention) → All Q (l ++ r) → All Q r
-all-after Q [] r a = a
-all-after Q (m ∷ l) r a = all-after Q l r (a .1)
-
 -- The uses before a mention are the mentions before it
 
 module _ (L : ℕ → ℕ) where
-  abbrev Sound : Mention → Type 0
+  abbrev pub Sound : Mention → Type 0
   Sound m = All (Known L) (m .place .scope)
 
   module _ (b : Binder) (k : Known L b) where
@@ -100,7 +92,7 @@ module _ (L : ℕ → ℕ) where
     inner-one m of-none r = ap (λ (q : Bool). q || usedInside (b .ident .at) r) (sym (and-false (isInner m b)))
     inner-one m (of-some {b = c} h) r = ap (λ (q : Bool). q || usedInside (b .ident .at) r) (same-inner m c h)
 
-    inner-before : (l : List Mention) → All Sound l → usedInside (b .ident .at) (usesOf l) ≡ any (isInnerOf b) l
+    pub inner-before : (l : List Mention) → All Sound l → usedInside (b .ident .at) (usesOf l) ≡ any (isInnerOf b) l
     unfolding any
     inner-before [] a = refl
     inner-before (m ∷ l) a =
@@ -110,7 +102,7 @@ set-one : (b : Binder) (m : Mention) (o : Option Binder) (r : List Use) → isSe
 set-one b m none r = ap (λ (q : Bool). q || isSetIn (b .ident .at) r) (sym (and-false (m .isSet)))
 set-one b m (some c) r = ap (λ (q : Bool). (m .isSet && q) || isSetIn (b .ident .at) r) (eqb-sym (c .ident .at) (b .ident .at))
 
-set-before : (b : Binder) (l : List Mention) → isSetIn (b .ident .at) (usesOf l) ≡ any (isSetOf b) l
+pub set-before : (b : Binder) (l : List Mention) → isSetIn (b .ident .at) (usesOf l) ≡ any (isSetOf b) l
 unfolding any
 set-before b [] = refl
 set-before b (m ∷ l) = set-one b m (meant m) (usesOf l) ∙ ap (λ (q : Bool). isSetOf b m || q) (set-before b l)
@@ -118,7 +110,7 @@ set-before b (m ∷ l) = set-one b m (meant m) (usesOf l) ∙ ap (λ (q : Bool).
 -- The claim
 
 module _ (classes : List ℕ) (ts : Trees) (T : List Row) (L : ℕ → ℕ) (before : List Mention) (m : Mention) where
-  cell-refers : (o : Option Ident) → SaysCell classes T (cell ts) (m .ident) (m .place .layer) o
+  pub cell-refers : (o : Option Ident) → SaysCell classes T (cell ts) (m .ident) (m .place .layer) o
       → referenceIn (getD T (m .ident .at) Blank) ≡ some (globalReference (isPrelude classes (m .ident .name)) (m .place .layer) o)
   cell-refers none t = refers t
   cell-refers (some d) t = refers t
@@ -134,7 +126,7 @@ module _ (classes : List ℕ) (ts : Trees) (T : List Row) (L : ℕ → ℕ) (bef
   meant-refers (some b) e (of-some k) a t = refers t ∙ ap (λ (q : IdentifierStatus). some (reference q (b .ident .id) (m .place .layer) (b .slot))) (kind-refers b e k a)
 
 -- no refusal, so none of 9
-no-nine : (n : Noted) → refusedFirst n ≡ none → n .nine ≡ none
+pub no-nine : (n : Noted) → refusedFirst n ≡ none → n .nine ≡ none
 no-nine n e = go (n .nine) e
   where
     go : (o : Option ℕ) → nineIn o (tenIn (n .ten)) ≡ none → o ≡ none
@@ -147,12 +139,12 @@ binding-fresh classes rs ts a d =
     let T = fresh classes ts .facts .rows in
     let said = fresh-says classes ts (a .accepted .num) (a .accepted .few) d (no-nine (fresh classes ts .noted) (a .notRefused)) in
     let sound : All (Placed (levels ts) 0 (0 + sizes ts)) (mentionsIn (events ts)) =
-    each-all _ (events ts) (placed-all (levels ts) 0 ts (a .accepted .num) top tt (λ i l u. omega arith)) in
+    each-all _ (events ts) (each-mention _ _ (events ts) (placed-all (levels ts) 0 ts (a .accepted .num) top tt (λ i l u. omega arith))) in
     record {
       mentioned = λ before after m e.
           let here = all-map (Placed (levels ts) 0 (0 + sizes ts)) (Sound (levels ts)) (λ n q. q .scope) (before ++ (m ∷ after)) (subst (All (Placed (levels ts) 0 (0 + sizes ts))) e sound) in
-          let scope = all-after (Sound (levels ts)) before (m ∷ after) here .0 in
-          meant-refers classes ts T (levels ts) before m (meant m) refl (find-all (m .place .scope) scope (m .ident .name)) (all-before (Sound (levels ts)) before (m ∷ after) here)
+          let scope = all-right (Sound (levels ts)) before (m ∷ after) here .0 in
+          meant-refers classes ts T (levels ts) before m (meant m) refl (find-all (m .place .scope) scope (m .ident .name)) (all-left (Sound (levels ts)) before (m ∷ after) here)
           (says-at classes ts T (cell ts) [] before after m (subst (SaysAll classes ts T (cell ts) []) e (says-all classes ts T (cell ts) [] (events ts) said)));
       bound = says-bound classes ts T (cell ts) [] (events ts) said;
     }

@@ -10,4 +10,6 @@ pub mod TailPosition
 pub mod Simulation
 pub mod Carried
 pub mod Exact
+pub mod Settled
 pub mod BindingFresh
+pub mod BindingSettled

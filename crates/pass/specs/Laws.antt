@@ -32,3 +32,7 @@ pub mod Script
 pub mod Presumed
 pub mod Levels
 pub mod Bottoms
+pub mod Sound
+pub mod Stage
+pub mod Visitable
+pub mod Idle

@@ -3,7 +3,10 @@ pub mod Read
 pub mod Lists
 pub mod Lambda
 pub mod Visit
+pub mod Stage
 pub mod Run
+pub mod Sound
+pub mod Visitable
 pub mod Static
 pub mod TailPosition
 pub mod Laws

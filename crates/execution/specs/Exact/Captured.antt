@@ -46,13 +46,13 @@ sorted-length (i ∷ l) = inserted-length i (sortById l) ∙ ap suc (sorted-leng
 
 -- The parameters' names
 
-member-name : (x : ℕ) (xs : List Ident) → member x (map nameIn xs) ≡ hasName x xs
+pub member-name : (x : ℕ) (xs : List Ident) → member x (map nameIn xs) ≡ hasName x xs
 member-name x [] = refl
 member-name x (y ∷ ys) = ap (λ (b : Bool). eqb x (y .name) || b) (member-name x ys)
 
 -- they are left out
 module _ (ps : List ℕ) (s : State) where
-  skipped : (e : Live Ident) (l : List (Live Ident)) → ltb 1 (e .layer) && not (member (e .name) ps) ≡ false → capturedIn ps s (e ∷ l) ≡ capturedIn ps s l
+  pub skipped : (e : Live Ident) (l : List (Live Ident)) → ltb 1 (e .layer) && not (member (e .name) ps) ≡ false → capturedIn ps s (e ∷ l) ≡ capturedIn ps s l
   unfolding capturedIn
   skipped e l q = rw q
 
@@ -63,18 +63,18 @@ module _ (ps : List ℕ) (s : State) where
       go true = rw e
       go false = refl
 
-  parameters-out : (isLet : Bool) (base : ℕ) (q : Place) (j : ℕ) (xs : List Ident) (sc : List Binder) (bottom : List (Live Ident)) → All (λ x. member (x .name) ps ≡ true) xs
+  pub parameters-out : (isLet : Bool) (base : ℕ) (q : Place) (j : ℕ) (xs : List Ident) (sc : List Binder) (bottom : List (Live Ident)) → All (λ x. member (x .name) ps ≡ true) xs
       → capturedIn ps s (livesOf (reverseAux (binders isLet base q j xs) sc) bottom) ≡ capturedIn ps s (livesOf sc bottom)
   unfolding binders
   parameters-out isLet base q j [] sc bottom m = refl
   parameters-out isLet base q j (x ∷ xs) sc bottom m = parameters-out isLet base q (suc j) xs _ bottom (m .1) ∙ named-out (q .layer) x (livesOf sc bottom) (m .0)
 
-  bottom-out : (l : List (Live Ident)) → All (λ (e : Live Ident). e .layer ≤ 1) l → capturedIn ps s l ≡ []
+  pub bottom-out : (l : List (Live Ident)) → All (λ (e : Live Ident). e .layer ≤ 1) l → capturedIn ps s l ≡ []
   unfolding capturedIn
   bottom-out [] g = refl
   bottom-out (e ∷ l) g = rw (le-ltb 1 (e .layer) (g .0)) (bottom-out l (g .1))
 
-all-named : (ps : List ℕ) (xs : List Ident) → ((x : ℕ) → hasName x xs ≡ true → member x ps ≡ true) → All (λ x. member (x .name) ps ≡ true) xs
+pub all-named : (ps : List ℕ) (xs : List Ident) → ((x : ℕ) → hasName x xs ≡ true → member x ps ≡ true) → All (λ x. member (x .name) ps ≡ true) xs
 all-named ps [] h = tt
 all-named ps (x ∷ xs) h =
     (h (x .name) (rw (eq-eqb (x .name) (x .name) refl)), all-named ps xs (λ y e. h y (go (eqb y (x .name)) e)))
@@ -97,13 +97,13 @@ found-more {P} b sc c p f = go (eqb (b .ident .name) (c .ident .name)) refl
     go true q = record { binder = b; is = rw q; holds = p }
     go false q = record { binder = f .binder; is = rw q (f .is); holds = f .holds }
 
-all-found : (P : Binder → Type 0) (sc : List Binder) → All P sc → All (Found P sc) sc
+pub all-found : (P : Binder → Type 0) (sc : List Binder) → All P sc → All (Found P sc) sc
 all-found P [] a = tt
 all-found P (b ∷ sc) a =
     (record { binder = b; is = rw (eq-eqb (b .ident .name) (b .ident .name) refl); holds = a .0 }, all-map (λ c f. found-more b sc c (a .0) f) sc (all-found P sc (a .1)))
 
 -- past the parameters
-find-past : (isLet : Bool) (base : ℕ) (q : Place) (j : ℕ) (xs : List Ident) (sc : List Binder) (x : ℕ) → hasName x xs ≡ false
+pub find-past : (isLet : Bool) (base : ℕ) (q : Place) (j : ℕ) (xs : List Ident) (sc : List Binder) (x : ℕ) → hasName x xs ≡ false
     → find (reverseAux (binders isLet base q j xs) sc) x ≡ find sc x
 unfolding binders
 find-past isLet base q j [] sc x h = refl
@@ -207,7 +207,7 @@ function-counts none n b escapes now arguments m s e =
     around (n .at) plain (stored (n .at) (sortById now) s) (arguments-plain arguments _ then insert-plain (n .at) _ _) now (sorted-length now)
 function-counts (some v) n b escapes now arguments m s e = absurd (Option·some-ne-none v e)
 
-closed-plain : (s : State) → Plain s (closeCaptures (closeScope s))
+pub closed-plain : (s : State) → Plain s (closeCaptures (closeScope s))
 unfolding closeCaptures closeScope
 closed-plain s = record { top = refl; ten = refl }
 

@@ -12,7 +12,7 @@ use Rattle.scope_map.specs.ScopeMap as map
 use Rattle.semantic.specs.Information.{NONE}
 use Rattle.semantic.specs.declared.IdentifierStatus.{IdentifierStatus}
 use Rattle.semantic.specs.declared.IdentifierStatus.the-variants.{Global}
-use Rattle.pass.specs.State.{Entry, State, withContext, insert, putEntry, newest, depth}
+use Rattle.pass.specs.State.{Entry, Facts, State, withContext, insert, putEntry, newest, depth}
 use Rattle.pass.specs.Read.{enter, enterDefine, enterTopLevelValue, alias}
 use Rattle.pass.specs.Visit.{topFlags, isLambda, visit, enterTopLambda, enterTop, enterTops, visitTopDefine, visitTop, visitTops}
 use Rattle.pass.specs.Run.{noFacts, start, run, fresh}
@@ -142,16 +142,17 @@ module _ (classes : List ℕ) where
       (λ q. all-tops ts u (none-right (below t) (belowAll ts) e) (p .bottom q) q)
       (keeps-noted (tops-visited classes ts u (trees-any ts) one))
 
-start-bottom : Bottom (names (start noFacts))
+start-bottom : (f : Facts) → Bottom (names (start f))
 unfolding start
-start-bottom = record { one = refl; low = tt }
+start-bottom f = record { one = refl; low = tt }
 
--- a list of trees without inner define, accepted or not
-nine-of : (classes : List ℕ) (ts : Trees) → innerDefines ts ≡ [] → fresh classes ts .noted .nine ≡ nineIn (events ts)
-unfolding fresh run start innerDefines events
-nine-of classes ts e =
-    let p = tops-enter classes (topLevel ts) (start noFacts) start-bottom in
+-- a run over trees without inner define, accepted or not
+pub run-nine : (classes : List ℕ) (ts : Trees) (f : Facts) → innerDefines ts ≡ [] → run classes ts f .noted .nine ≡ nineIn (events ts)
+unfolding run start innerDefines events
+run-nine classes ts f e =
+    let p = tops-enter classes (topLevel ts) (start f) (start-bottom f) in
     all-tops classes (topLevel ts) _ e (p .bottom) (p .nine) ∙ ap nineIn (walk-top ts top)
 
 pub nine-exact : NineExact
-nine-exact classes rs ts a e = nine-of classes ts e
+unfolding fresh
+nine-exact classes rs ts a e = run-nine classes ts noFacts e

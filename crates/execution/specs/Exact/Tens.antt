@@ -43,11 +43,11 @@ module _ (classes : List ℕ) (bottom : List (Live Ident)) where
   -- What a visit leaves to the next
 
   module _ {own : ℕ → Type 0} {before : List Use} {p : Place} {s : State} (i : ℕ) (f : Flags) (h : f .height ≡ p .height) where
-    found : (t : Tree) → Num i t → defines t ≡ [] → Covers own i (i + size t) → Finds own bottom before p s → visit classes t f s .noted .nine ≡ none
+    pub found : (t : Tree) → Num i t → defines t ≡ [] → Covers own i (i + size t) → Finds own bottom before p s → visit classes t f s .noted .nine ≡ none
         → Finds (Minus own i (i + size t)) bottom (before ++ usesIn (walk t p)) p (visit classes t f s)
     found t n d o g e = visits classes [] presumed bottom i t n d f (f .tail) refl h o g e .finds
 
-    found-in : (ts : Trees) → Nums i ts → definesIn ts ≡ [] → f .tail ≡ false → Covers own i (i + sizes ts) → Finds own bottom before p s
+    pub found-in : (ts : Trees) → Nums i ts → definesIn ts ≡ [] → f .tail ≡ false → Covers own i (i + sizes ts) → Finds own bottom before p s
         → visitArguments classes ts f s .noted .nine ≡ none
         → Finds (Minus own i (i + sizes ts)) bottom (before ++ usesIn (walkArguments ts p)) p (visitArguments classes ts f s)
     found-in ts n d b o g e = visits-in classes [] presumed bottom i ts n d f b h o g e .finds

@@ -41,7 +41,7 @@ pub at-height : {own : ℕ → Type 0} {bottom : List (Live Ident)} {before : Li
 at-height h f = record { tables = f .tables; unused = f .unused; captures = f .captures; one = f .one; live = f .live; around = f .around; stands = f .stands }
 
 -- the names around a lambda are outside its body
-around-lambda : {layer i : ℕ} {lambdas : List ℕ} (b : Binder) → 1 ≤ layer → Around layer lambdas b → Around (suc layer) (i ∷ lambdas) b
+pub around-lambda : {layer i : ℕ} {lambdas : List ℕ} (b : Binder) → 1 ≤ layer → Around layer lambdas b → Around (suc layer) (i ∷ lambdas) b
 around-lambda {layer} {i} {lambdas} b h a =
     let inside = lt-ltb (length (b .around)) (suc (length lambdas)) (omega (arith, a .most)) in
     record {
@@ -52,10 +52,10 @@ around-lambda {layer} {i} {lambdas} b h a =
     }
 
 -- none is around a let at the bottom
-around-let : {layer : ℕ} {lambdas : List ℕ} (b : Binder) → layer ≡ 1 → Around layer lambdas b → Around 2 lambdas b
+pub around-let : {layer : ℕ} {lambdas : List ℕ} (b : Binder) → layer ≡ 1 → Around layer lambdas b → Around 2 lambdas b
 around-let {layer} b e a = absurd (omega (arith, a .above, layer-most layer (omega arith) a))
 
-open-row : (b : Bool) (s : State) (i : ℕ) → rowAt (openLet b s) i ≡ rowAt s i
+pub open-row : (b : Bool) (s : State) (i : ℕ) → rowAt (openLet b s) i ≡ rowAt s i
 unfolding openLet openScope
 open-row true s i = refl
 open-row false s i = refl
@@ -119,9 +119,9 @@ module _ {own : ℕ → Type 0} {bottom : List (Live Ident)} {before : List Use}
 
 -- Out of a body: entries stay, and captures but for their layer
 
-record Aside (s t : State) : Type 0 where
-  entries : t .scope .entries ≡ s .scope .entries
-  captures : t .captures ≡ s .captures
+pub record Aside (s t : State) : Type 0 where
+  pub entries : t .scope .entries ≡ s .scope .entries
+  pub captures : t .captures ≡ s .captures
 
 aside : {s t : State} → Steps ⊥ Any s t → Aside s t
 aside c = let q = quiet c in record { entries = ap (λ (k : Scope). k .entries) (q .scope); captures = q .captures }
@@ -142,7 +142,7 @@ unfolding closeLet closeScope
 close-aside true s = record { entries = refl; captures = refl }
 close-aside false s = record { entries = refl; captures = refl }
 
-let-aside : (b : Bool) (n : Node) (xs : List Ident) (height : ℕ) (function : Option Node) (s : State) → Aside s (leaveLet b n xs height function s)
+pub let-aside : (b : Bool) (n : Node) (xs : List Ident) (height : ℕ) (function : Option Node) (s : State) → Aside s (leaveLet b n xs height function s)
 unfolding leaveLet
 let-aside b n xs height function s =
     then (then (names-aside xs s) (aside (make-changes (rowAt s (n .at)) n (entered xs s) height function (leaveNames xs s) tt))) (close-aside b _)

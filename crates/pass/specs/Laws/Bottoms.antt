@@ -21,7 +21,7 @@ use Rattle.pass.specs.Laws.Layers.{liveAt}
 use Rattle.pass.specs.Laws.Tops.{Spread, spread-top}
 use Rattle.pass.specs.Laws.Globals.{definedIn, all-defined, lambdasIn, valuesIn, enteredAll, define-at}
 use Rattle.pass.specs.Laws.All.{all-++, all-map}
-use Rattle.pass.specs.Laws.Levels.{each-map, level, placed}
+use Rattle.pass.specs.Laws.Levels.{each-map, each-mention, level, placed}
 use Rattle.pass.specs.Laws.Says.{Each, cellOf, Says, says-append, says-cell}
 use Rattle.pass.specs.Laws.Presumed.{anyUses}
 use Rattle.pass.specs.Laws.Script.{bottomFor, SaysTops, fresh-script, walk-top}
@@ -81,7 +81,8 @@ module _ (d : Ident) (x : ℕ) where
   get-defined : (l : List (Live Ident)) → All AtBottom l → newestIn (definedIn d l) x ≡ cond (eqb (d .name) x) (some d) (newestIn l x)
   get-defined l a = go (hasIn 1 (d .name) l) refl
     where
-      go : (b : Bool) → hasIn 1 (d .name) l ≡ b → newestIn (cond b (replaceIn 1 (d .name) d l) (liveAt 1 d ∷ l)) x ≡ cond (eqb (d .name) x) (some d) (newestIn l x)
+      go : (b : Bool) → hasIn 1 (d .name) l ≡ b → newestIn (cond b (replaceIn 1 (d .name) d l) (liveAt 1 d ∷ l)) x ≡ cond (eqb (d .name) x) (some d)
+          (newestIn l x)
       go true q = get-replaced l a q
       go false q = get-cons (liveAt 1 d) l x
 
@@ -93,7 +94,8 @@ last-append o p [] r = refl
 last-append o p (d ∷ l) r = last-append (cond (p d) (some (d .name)) o) p l r
 
 -- a define that enters if q holds
-get-if : (q : Bool) (d : Ident) (l : List (Live Ident)) (x : ℕ) → All AtBottom l → newestIn (cond q (definedIn d l) l) x ≡ cond (q && eqb (d .name) x) (some d) (newestIn l x)
+get-if : (q : Bool) (d : Ident) (l : List (Live Ident)) (x : ℕ) → All AtBottom l
+    → newestIn (cond q (definedIn d l) l) x ≡ cond (q && eqb (d .name) x) (some d) (newestIn l x)
 get-if true d l x a = get-defined d x l a
 get-if false d l x a = refl
 
@@ -175,7 +177,8 @@ record After (t : Tree) (k j : ℕ) (m : Mention) : Type 0 where
 
 no-define : (k : ℕ) (t : Tree) → Num k t → defineOf t ≡ [] → Each (After t k (k + size t)) (walk t top)
 no-define k t n e =
-    each-map _ _ (λ m q. record { from = q .from; after = subst (All (λ d. d .at < m .ident .at)) (sym e) tt; below = q .below }) (walk t top) (placed (level t) k t n top tt (λ i l u. omega arith))
+    each-map _ _ (λ m q. record { from = q .from; after = subst (All (λ d. d .at < m .ident .at)) (sym e) tt; below = q .below }) (walk t top)
+    (each-mention _ _ (walk t top) (placed (level t) k t n top tt (λ i l u. omega arith)))
 
 mentions-after : (k : ℕ) (t : Tree) → Num k t → Each (After t k (k + size t)) (walk t top)
 unfolding Num size walk
@@ -184,7 +187,8 @@ mentions-after k (const m q) n = no-define k (const m q) n refl
 mentions-after k (if m a b c) n = no-define k (if m a b c) n refl
 mentions-after k (letin m xs es b) n = no-define k (letin m xs es b) n refl
 mentions-after k (define m x b) n =
-    each-map _ _ (λ c q. record { from = omega (arith, q .from); after = (omega (arith, q .from), tt); below = omega (arith, q .below) }) (walk b top) (placed (level b) (k + 2) b (n .2) top tt (λ i l u. omega arith))
+    each-map _ _ (λ c q. record { from = omega (arith, q .from); after = (omega (arith, q .from), tt); below = omega (arith, q .below) }) (walk b top)
+    (each-mention _ _ (walk b top) (placed (level b) (k + 2) b (n .2) top tt (λ i l u. omega arith)))
 mentions-after k (lambda m xs b) n = no-define k (lambda m xs b) n refl
 mentions-after k (begin m es) n = no-define k (begin m es) n refl
 mentions-after k (call m h es) n = no-define k (call m h es) n refl
@@ -194,44 +198,63 @@ mentions-after k (set! m x e) n = no-define k (set! m x e) n refl
 abbrev pub cell : Trees → Ident → Option Ident
 cell ts x = bottomEntry ts (x .name) (x .at)
 
-module _ (classes : List ℕ) (T : List Row) (ts : Trees) where
+module _ (ts : Trees) where
   -- the trees us are left from the record i on, with the bottom layer l
   abbrev Continues : ℕ → Trees → List (Live Ident) → Type 0
   Continues i us l = (x r : ℕ) → i ≤ r → bottomEntry ts x r ≡ lastOr (newestIn l x) (isValueOf x r) (definesOf us)
 
   -- past the first tree, for a record after its define
   continued : (t : Tree) (us : Trees) (l : List (Live Ident)) (x r : ℕ) → All AtBottom l → All (λ d. d .at < r) (defineOf t)
-      → bottomEntry ts x r ≡ lastOr (newestIn l x) (isValueOf x r) (definesOf (cons t us)) → bottomEntry ts x r ≡ lastOr (newestIn (bottomFor t l) x) (isValueOf x r) (definesOf us)
+      → bottomEntry ts x r ≡ lastOr (newestIn l x) (isValueOf x r) (definesOf (cons t us))
+      → bottomEntry ts x r ≡ lastOr (newestIn (bottomFor t l) x) (isValueOf x r) (definesOf us)
   unfolding definesOf
   continued t us l x r a b e =
       e ∙ last-append (newestIn l x) (isValueOf x r) (defineOf t) (definesOf us)
       ∙ ap (λ (o : Option Ident). lastOr o (isValueOf x r) (definesOf us)) (sym (get-values (defineOf t) l x r a b))
 
-  tops-say : (i j : ℕ) (us : Trees) → Spread i j us → (before : List Use) (l : List (Live Ident)) → All AtBottom l → Continues i us l → SaysTops classes T before l us
+  -- the cells of the mentions of trees at top level, the first with the bottom layer l
+  abbrev pub CellsTops : List (Live Ident) → Trees → Type 0
+  CellsTops l nil = Unit {0}
+  CellsTops l (cons t us) = Each (λ m. cellOf (bottomFor t l) (m .ident) ≡ cell ts (m .ident)) (walk t top) × CellsTops (bottomFor t l) us
+
+  tops-cells : (i j : ℕ) (us : Trees) → Spread i j us → (l : List (Live Ident)) → All AtBottom l → Continues i us l → CellsTops l us
+  tops-cells i j nil p l a c = tt
+  tops-cells i j (cons t us) p l a c =
+      let k = p .0 + size t in
+      let le = p .1 in (
+        each-map _ _ (λ m q.
+            let r = m .ident .at in
+            sym (continued t us l (m .ident .name) r a (q .after) (c (m .ident .name) r (omega (arith, q .from)))
+            ∙ last-none _ (m .ident .name) r (definesOf us) (all-map _ _ (λ d h. omega (arith, q .below)) (definesOf us) (defines-after k j us (p .3)))))
+            (walk t top) (mentions-after (p .0) t (p .2)),
+        tops-cells k j us (p .3) (bottomFor t l) (values-bottom (defineOf t) l a)
+            (λ x r h. continued t us l x r a (all-map _ _ (λ d q. omega (arith, q .at, q .below)) (defineOf t) (define-at (p .0) t (p .2)))
+            (c x r (omega arith))),
+      )
+
+module _ (classes : List ℕ) (T : List Row) (ts : Trees) where
+  tops-say : (us : Trees) (before : List Use) (l : List (Live Ident)) → CellsTops ts l us → SaysTops classes T before l us
       → Says classes T (cell ts) before (walkAll us top)
   unfolding walk
-  tops-say i j nil p before l a c s = tt
-  tops-say i j (cons t us) p before l a c s =
-      let k = p .0 + size t in
-      let le = p .1 in
-      let own : Each (λ m. cellOf (bottomFor t l) (m .ident) ≡ cell ts (m .ident)) (walk t top) =
-      each-map _ _ (λ m q.
-      let r = m .ident .at in
-      sym (continued t us l (m .ident .name) r a (q .after) (c (m .ident .name) r (omega (arith, q .from)))
-      ∙ last-none _ (m .ident .name) r (definesOf us) (all-map _ _ (λ d h. omega (arith, q .below)) (definesOf us) (defines-after k j us (p .3)))))
-      (walk t top) (mentions-after (p .0) t (p .2)) in
-      says-append classes T (cell ts) before (walk t top) (walkAll us top) (says-cell classes T _ (cell ts) before (walk t top) own (s .0))
-      (tops-say k j us (p .3) _ (bottomFor t l) (values-bottom (defineOf t) l a)
-      (λ x r h. continued t us l x r a (all-map _ _ (λ d q. omega (arith, q .at, q .below)) (defineOf t) (define-at (p .0) t (p .2))) (c x r (omega arith))) (s .1))
+  tops-say nil before l c s = tt
+  tops-say (cons t us) before l c s =
+      says-append classes T (cell ts) before (walk t top) (walkAll us top) (says-cell classes T _ (cell ts) before (walk t top) (c .0) (s .0))
+      (tops-say us _ (bottomFor t l) (c .1) (s .1))
+
+-- of a script
+pub script-cells : (ts : Trees) → Nums 0 ts → CellsTops ts (enteredAll (topLevel ts) []) (topLevel ts)
+unfolding bottomEntry getIn
+script-cells ts n =
+    let us = topLevel ts in
+    tops-cells ts 0 (0 + sizes ts) us (spread-top 0 ts n) (enteredAll us []) (entered-bottom us [] tt)
+    (λ x r l. ap (λ (o : Option Ident). lastOr o (isValueOf x r) (definesOf us)) (sym (get-entered us [] x tt)))
 
 -- what the rows of a fresh run say, along the whole walk
 pub fresh-says : (classes : List ℕ) (ts : Trees) → Nums 0 ts → sizes ts ≤ rowsMost → innerDefines ts ≡ [] → fresh classes ts .noted .nine ≡ none
     → Says classes (fresh classes ts .facts .rows) (cell ts) [] (events ts)
-unfolding events bottomEntry getIn
+unfolding events
 fresh-says classes ts n h d e =
     let us = topLevel ts in
     let T = fresh classes ts .facts .rows in
-    subst (Says classes T (cell ts) []) (walk-top ts top)
-    (tops-say classes T ts 0 (0 + sizes ts) us (spread-top 0 ts n) [] (enteredAll us []) (entered-bottom us [] tt)
-    (λ x r l. ap (λ (o : Option Ident). lastOr o (isValueOf x r) (definesOf us)) (sym (get-entered us [] x tt)))
+    subst (Says classes T (cell ts) []) (walk-top ts top) (tops-say classes T ts us [] (enteredAll us []) (script-cells ts n)
     (fresh-script classes anyUses ts n h d e .says))

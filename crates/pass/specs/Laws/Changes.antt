@@ -9,6 +9,7 @@ use borrow.Author.Tests.{lt-ltb}
 use lib.ListN.{length, getD, length-set}
 use Rattle.scope_map.specs.ScopeMap.{ScopeMap, popLayer}
 use Rattle.tree.specs.Tree.{Ident}
+use Rattle.tree.specs.Check.{Refusal}
 use Rattle.semantic.specs.Rows.{Row, Blank}
 use Rattle.semantic.specs.declared.SemanticInformation.{SemanticInformation}
 use Rattle.pass.specs.State.{Entry, Facts, Capture, Noted, State, withFacts, withNames, withCaptures, withContext, withNoted, rowAt, insert, amend, entryAt, putEntry, depth}
@@ -22,6 +23,7 @@ pub record Later (m n : Noted) : Type 0 where
   pub second : n .second ≡ none → m .second ≡ none
   pub firstNine : (i : ℕ) → m .nine ≡ some i → n .nine ≡ some i
   pub firstTen : (i : ℕ) → m .ten ≡ some i → n .ten ≡ some i
+  pub firstSecond : (r : Refusal) → m .second ≡ some r → n .second ≡ some r
 
 -- and no 9 is noted anew unless names change
 pub record Noting (free : Type 0) (m n : Noted) : Type 0 where
@@ -171,7 +173,7 @@ keeps-depth (note n l) h = refl
 
 -- Refusals: one that was noted stays
 pub no-later : {n : Noted} → Later n n
-no-later = record { nine = λ e. e; ten = λ e. e; second = λ e. e; firstNine = λ i e. e; firstTen = λ i e. e }
+no-later = record { nine = λ e. e; ten = λ e. e; second = λ e. e; firstNine = λ i e. e; firstTen = λ i e. e; firstSecond = λ r e. e }
 
 pub later-trans : {l m n : Noted} → Later l m → Later m n → Later l n
 later-trans p q =
@@ -181,6 +183,7 @@ later-trans p q =
       second = λ e. p .second (q .second e);
       firstNine = λ i e. q .firstNine i (p .firstNine i e);
       firstTen = λ i e. q .firstTen i (p .firstTen i e);
+      firstSecond = λ r e. q .firstSecond r (p .firstSecond r e);
     }
 
 pub keeps-noted : {free : Type 0} {own : ℕ → Type 0} {s t : State} → Steps free own s t → Later (s .noted) (t .noted)

@@ -21,6 +21,7 @@ use Rattle.pass.specs.Laws.Changes.{keeps-key, keeps-lengths, quiet}
 use Rattle.pass.specs.Laws.Moves.{moves-lengths, out-of-lambda}
 use Rattle.pass.specs.Laws.Scopes.{Any, function-changes}
 use Rattle.pass.specs.Laws.Visits.{tail-changes, call-changes}
+use Rattle.pass.specs.Laws.Layers.{and-left}
 use Rattle.pass.specs.Laws.Keeps.{But}
 use Rattle.pass.specs.Laws.Calls.{call-site}
 
@@ -58,10 +59,6 @@ tail-key (Function v) = refl
 tail-key (CallSite v) = refl
 tail-key (Let v) = refl
 
-both-true : (a b : Bool) → a && b ≡ true → a ≡ true
-both-true true b e = refl
-both-true false b e = e
-
 -- a recorded tail call stands where the flags allow one
 pub call-row : (n : Node) (h : Tree) (es : Trees) (f : Flags) (s : State) → rowAt s (n .at) ≡ Blank → n .at < length (s .facts .rows)
     → (r : Row) → key r ≡ key (rowAt (endCall n h es f s) (n .at)) → isTailRow r ≡ true → f .tail ≡ true
@@ -80,4 +77,4 @@ call-row n h es f s e l r k t = go (isConstant h) refl
         let b = f .tail && ltb 1 (depth s) in
         let lengths = keeps-lengths (tail-changes {free = ⊥} {own = Any} b es s) .rows in
         let site = call-site h n b (f .counter) (markIfTail b es s) c (omega arith) in
-        both-true (f .tail) (ltb 1 (depth s)) (sym (site .tail) ∙ ap isTailRow (sym (site .is)) ∙ same)
+        and-left (f .tail) (ltb 1 (depth s)) (sym (site .tail) ∙ ap isTailRow (sym (site .is)) ∙ same)

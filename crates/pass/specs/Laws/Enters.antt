@@ -62,7 +62,7 @@ module _ (x : Ident) (e : Entry) (s : State) where
       go false = refl
 
 -- a name is bound where it stands
-around-own : (layer : ℕ) (lambdas : List ℕ) (b : Binder) → 2 ≤ layer → b .layer ≡ layer → b .around ≡ lambdas → Around layer lambdas b
+pub around-own : (layer : ℕ) (lambdas : List ℕ) (b : Binder) → 2 ≤ layer → b .layer ≡ layer → b .around ≡ lambdas → Around layer lambdas b
 around-own layer lambdas b two l a =
     let same : length (b .around) ≡ length lambdas = ap length a in
     record {

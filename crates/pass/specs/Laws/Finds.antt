@@ -91,7 +91,7 @@ abbrev pub liveIn : Option Binder → Option (Live Ident) → Option (Live Ident
 liveIn none o = o
 liveIn (some b) o = some (liveAt (b .layer) (b .ident))
 
-get-live : (sc : List Binder) (bottom : List (Live Ident)) (x : ℕ) → getIn (livesOf sc bottom) x ≡ liveIn (find sc x) (getIn bottom x)
+pub get-live : (sc : List Binder) (bottom : List (Live Ident)) (x : ℕ) → getIn (livesOf sc bottom) x ≡ liveIn (find sc x) (getIn bottom x)
 unfolding getIn
 get-live [] bottom x = refl
 get-live (b ∷ sc) bottom x = go (eqb (b .ident .name) x) (get-live sc bottom x)
@@ -119,7 +119,7 @@ pub data Got (P : Live Ident → Type 0) : Option (Live Ident) → Type 0 where
   got-none : Got P none
   got-some : {e : Live Ident} → P e → Got P (some e)
 
-get-all : {P : Live Ident → Type 0} (l : List (Live Ident)) → All P l → (x : ℕ) → Got P (getIn l x)
+pub get-all : {P : Live Ident → Type 0} (l : List (Live Ident)) → All P l → (x : ℕ) → Got P (getIn l x)
 unfolding getIn
 get-all [] a x = got-none
 get-all {P} (e ∷ l) a x = go (eqb (e .name) x) (get-all l (a .1) x)
@@ -131,7 +131,7 @@ get-all {P} (e ∷ l) a x = go (eqb (e .name) x) (get-all l (a .1) x)
 -- Layers
 
 module _ (layer : ℕ) (h : 1 ≤ layer) where
-  within-bottom : (own : ℕ → Type 0) (E : List Entry) (bottom : List (Live Ident)) → All (Global own E) bottom → Within layer bottom
+  pub within-bottom : (own : ℕ → Type 0) (E : List Entry) (bottom : List (Live Ident)) → All (Global own E) bottom → Within layer bottom
   within-bottom own E [] a = tt
   within-bottom own E (e ∷ bottom) a = (omega (arith, a .0 .layer), within-bottom own E bottom (a .1))
 
@@ -142,7 +142,7 @@ module _ (layer : ℕ) (h : 1 ≤ layer) where
       go true e = omega (arith, a .outer e)
       go false e = omega (arith, a .own e)
 
-  within-lives : (lambdas : List ℕ) (sc : List Binder) → All (Around layer lambdas) sc → (bottom : List (Live Ident)) → Within layer bottom → Within layer (livesOf sc bottom)
+  pub within-lives : (lambdas : List ℕ) (sc : List Binder) → All (Around layer lambdas) sc → (bottom : List (Live Ident)) → Within layer bottom → Within layer (livesOf sc bottom)
   within-lives lambdas [] a bottom w = w
   within-lives lambdas (b ∷ sc) a bottom w = (layer-most (a .0), within-lives lambdas sc (a .1) bottom w)
 

@@ -40,7 +40,7 @@ quiet-names c = ap (λ (k : Scope). k .names) (quiet c .scope)
 
 -- Names enter
 
-not-noted : (o : Option ℕ) (i : ℕ) → orKept o i ≡ none → ⊥
+pub not-noted : (o : Option ℕ) (i : ℕ) → orKept o i ≡ none → ⊥
 not-noted none i e = Option·some-ne-none i e
 not-noted (some a) i e = Option·some-ne-none a e
 

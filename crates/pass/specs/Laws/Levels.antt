@@ -9,23 +9,41 @@ use lib.ListN.{length}
 use lib.Dec.{ltb}
 use Rattle.tree.specs.Tree.{Ident, Tree, Trees, ident, const, if, letin, define, lambda, begin, call, set!, nil, cons, many, size, sizes, NumNames, Num, Nums}
 use Rattle.tree.specs.Accepted.{All}
-use Rattle.r7rs.specs.Binding.{Binder, Place, Mention, raised, lambdaBody, letBody, binders, parameters, letNames, within, Event, enters, mentions, ends, entering, walk, walkArguments, walkAll}
+use Rattle.r7rs.specs.Binding.{Binder, Place, Mention, raised, lambdaBody, letBody, binders, parameters, letNames, within, Event, enters, mentions, ends, bindersIn, entering, walk, walkArguments, walkAll}
 use Rattle.pass.specs.Laws.Keeps.{Off}
 use Rattle.pass.specs.Laws.Says.{Each}
 
--- Each mention of a walk
+-- Each name that enters in a walk, and each mention
 
-module _ (Q : Mention → Type 0) where
-  each-append : (l r : List Event) → Each Q l → Each Q r → Each Q (l ++ r)
+abbrev pub EachEvent : (Binder → Type 0) → (Mention → Type 0) → List Event → Type 0
+EachEvent B Q [] = Unit {0}
+EachEvent B Q (enters b sc ∷ l) = B b × EachEvent B Q l
+EachEvent B Q (mentions m ∷ l) = Q m × EachEvent B Q l
+EachEvent B Q (ends i xs sc ∷ l) = EachEvent B Q l
+
+module _ (B : Binder → Type 0) (Q : Mention → Type 0) where
+  each-append : (l r : List Event) → EachEvent B Q l → EachEvent B Q r → EachEvent B Q (l ++ r)
   each-append [] r p q = q
-  each-append (enters b sc ∷ l) r p q = each-append l r p q
+  each-append (enters b sc ∷ l) r p q = (p .0, each-append l r (p .1) q)
   each-append (mentions m ∷ l) r p q = (p .0, each-append l r (p .1) q)
   each-append (ends i xs sc ∷ l) r p q = each-append l r p q
 
-  each-entering : (bs sc : List Binder) → Each Q (entering bs sc)
+  each-entering : (bs sc : List Binder) → All B bs → EachEvent B Q (entering bs sc)
   unfolding entering
-  each-entering [] sc = tt
-  each-entering (b ∷ bs) sc = each-entering bs (b ∷ sc)
+  each-entering [] sc a = tt
+  each-entering (b ∷ bs) sc a = (a .0, each-entering bs (b ∷ sc) (a .1))
+
+  pub each-mention : (l : List Event) → EachEvent B Q l → Each Q l
+  each-mention [] p = tt
+  each-mention (enters b sc ∷ l) p = each-mention l (p .1)
+  each-mention (mentions m ∷ l) p = (p .0, each-mention l (p .1))
+  each-mention (ends i xs sc ∷ l) p = each-mention l p
+
+  pub each-binder : (l : List Event) → EachEvent B Q l → All B (bindersIn l)
+  each-binder [] p = tt
+  each-binder (enters b sc ∷ l) p = (p .0, each-binder l (p .1))
+  each-binder (mentions m ∷ l) p = each-binder l (p .1)
+  each-binder (ends i xs sc ∷ l) p = each-binder l p
 
 pub each-map : (Q R : Mention → Type 0) → ((m : Mention) → Q m → R m) → (l : List Event) → Each Q l → Each R l
 each-map Q R f [] p = tt
@@ -121,21 +139,36 @@ module _ (L : ℕ → ℕ) where
     pub below : m .ident .at < j
     pub scope : All Known (m .place .scope)
 
-  known-names : (isLet : Bool) (base : ℕ) (q : Place) (j k : ℕ) (xs : List Ident) → NumNames k xs → ((i : ℕ) → k ≤ i → i < k + length xs → L i ≡ length (q .around))
-      → (sc : List Binder) → All Known sc → All Known (reverseAux (binders isLet base q j xs) sc)
+  known-binders : (isLet : Bool) (base : ℕ) (q : Place) (j k : ℕ) (xs : List Ident) → NumNames k xs
+      → ((i : ℕ) → k ≤ i → i < k + length xs → L i ≡ length (q .around))
+      → All Known (binders isLet base q j xs)
   unfolding NumNames binders
-  known-names isLet base q j k [] n h sc a = a
-  known-names isLet base q j k (x ∷ xs) n h sc a =
-      known-names isLet base q (suc j) (k + 1) xs (n .1) (λ i l u. h i (omega arith) (omega arith)) _ (sym (h (x .at) (omega arith) (omega arith)), a)
+  known-binders isLet base q j k [] n h = tt
+  known-binders isLet base q j k (x ∷ xs) n h =
+      (sym (h (x .at) (omega arith) (omega arith)), known-binders isLet base q (suc j) (k + 1) xs (n .1) (λ i l u. h i (omega arith) (omega arith)))
 
-  wider : {i j : ℕ} (k m : ℕ) → k ≤ i → j ≤ m → (l : List Event) → Each (Placed i j) l → Each (Placed k m) l
-  wider k m a b l p = each-map _ _ (λ m q. record { from = omega (arith, q .from); below = omega (arith, q .below); scope = q .scope }) l p
+  known-names : (bs sc : List Binder) → All Known bs → All Known sc → All Known (reverseAux bs sc)
+  known-names [] sc k a = a
+  known-names (b ∷ bs) sc k a = known-names bs (b ∷ sc) (k .1) (k .0, a)
+
+  abbrev pub PlacedIn : ℕ → ℕ → List Event → Type 0
+  PlacedIn k j l = EachEvent Known (Placed k j) l
+
+  wider : {i j : ℕ} (k m : ℕ) → k ≤ i → j ≤ m → (l : List Event) → PlacedIn i j l → PlacedIn k m l
+  wider k m a b [] p = tt
+  wider k m a b (enters c sc ∷ l) p = (p .0, wider k m a b l (p .1))
+  wider k m a b (mentions c ∷ l) p = let q = p .0 in (
+    record { from = omega (arith, q .from); below = omega (arith, q .below); scope = q .scope },
+    wider k m a
+        b l (p .1),
+  )
+  wider k m a b (ends i xs sc ∷ l) p = wider k m a b l p
 
   mutual
     unfolding Num size level walk
 
     pub placed : (k : ℕ) (t : Tree) → Num k t → (p : Place) → All Known (p .scope) → ((i : ℕ) → k ≤ i → i < k + size t → L i ≡ length (p .around) + level t i)
-        → Each (Placed k (k + size t)) (walk t p)
+        → PlacedIn k (k + size t) (walk t p)
     placed k (ident x) n p a h = (record { from = omega arith; below = omega arith; scope = a }, tt)
     placed k (const m q) n p a h = tt
     placed k (if m b c d) n p a h =
@@ -143,10 +176,10 @@ module _ (L : ℕ → ℕ) where
         let k₂ = k₁ + size b in
         let k₃ = k₂ + size c in
         let j = k + size (if m b c d) in
-        each-append _ (walk b p) (walk c p ++ walk d p)
+        each-append _ _ (walk b p) (walk c p ++ walk d p)
         (wider k j (omega arith) (omega arith) (walk b p) (placed k₁ b (n .1) p a (λ i l u.
         omega (arith, h i (omega arith) (omega arith), level-out k₂ c (n .2) i (λ x y. omega arith), level-out k₃ d (n .3) i (λ x y. omega arith)))))
-        (each-append _ (walk c p) (walk d p)
+        (each-append _ _ (walk c p) (walk d p)
         (wider k j (omega arith) (omega arith) (walk c p) (placed k₂ c (n .2) p a (λ i l u.
         omega (arith, h i (omega arith) (omega arith), level-out k₁ b (n .1) i (λ x y. omega arith), level-out k₃ d (n .3) i (λ x y. omega arith)))))
         (wider k j (omega arith) (omega arith) (walk d p) (placed k₃ d (n .3) p a (λ i l u.
@@ -157,15 +190,18 @@ module _ (L : ℕ → ℕ) where
         let k₃ = k₂ + sizes es in
         let j = k + size (letin m xs es b) in
         let q = letBody (length xs) p in
-        let known = known-names true (p .height) q 0 k₁ xs (n .2)
-        (λ i l u. omega (arith, h i (omega arith) (omega arith), levels-out k₂ es (n .3) i (λ x y. omega arith), level-out k₃ b (n .4) i (λ x y. omega arith))) (p .scope) a in
-        each-append _ (walkArguments es p) (entering (letNames xs p) (p .scope) ++ walk b (within (letNames xs p) q))
+        let names = known-binders true (p .height) q 0 k₁ xs (n .2)
+        (λ i l u. omega (arith, h i (omega arith) (omega arith), levels-out k₂ es (n .3) i (λ x y. omega arith), level-out k₃ b (n .4) i (λ x y. omega arith)))
+        in
+        let known = known-names (letNames xs p) (p .scope) names a in
+        each-append _ _ (walkArguments es p) (entering (letNames xs p) (p .scope) ++ walk b (within (letNames xs p) q))
         (wider k j (omega arith) (omega arith) (walkArguments es p) (placed-in k₂ es (n .3) p a (λ i l u.
         omega (arith, h i (omega arith) (omega arith), level-out k₃ b (n .4) i (λ x y. omega arith)))))
-        (each-append _ (entering (letNames xs p) (p .scope)) (walk b (within (letNames xs p) q)) (each-entering _ (letNames xs p) (p .scope))
+        (each-append _ _ (entering (letNames xs p) (p .scope)) (walk b (within (letNames xs p) q)) (each-entering _ _ (letNames xs p) (p .scope) names)
         (wider k j (omega arith) (omega arith) (walk b (within (letNames xs p) q)) (placed k₃ b (n .4) (within (letNames xs p) q) known (λ i l u.
         omega (arith, h i (omega arith) (omega arith), levels-out k₂ es (n .3) i (λ x y. omega arith))))))
-    placed k (define m x b) n p a h = wider k (k + size (define m x b)) (omega arith) (omega arith) (walk b p) (placed (k + 2) b (n .2) p a (λ i l u. h i (omega arith) (omega arith)))
+    placed k (define m x b) n p a h = wider k (k + size (define m x b)) (omega arith) (omega arith) (walk b p)
+        (placed (k + 2) b (n .2) p a (λ i l u. h i (omega arith) (omega arith)))
     placed k (lambda m xs b) n p a h =
         let k₁ = k + 1 in
         let k₂ = k₁ + length xs in
@@ -173,42 +209,48 @@ module _ (L : ℕ → ℕ) where
         let q = lambdaBody m (length xs) p in
         let own : (i : ℕ) → k₁ ≤ i → i < j → L i ≡ suc (length (p .around)) + level b i = λ i l u.
         omega (arith, h i (omega arith) u, inside i (m .at) (m .at + size (lambda m xs b)) (omega arith) (omega arith)) in
-        let known = known-names false 0 q 0 k₁ xs (n .1) (λ i l u. omega (arith, own i l (omega arith), level-out k₂ b (n .2) i (λ x y. omega arith))) (p .scope) a in
-        each-append _ (entering (parameters m xs p) (p .scope)) (walk b (within (parameters m xs p) q) ++ (ends (m .at) xs (p .scope) ∷ [])) (each-entering _ (parameters m xs p) (p .scope))
-        (each-append _ (walk b (within (parameters m xs p) q)) (ends (m .at) xs (p .scope) ∷ [])
-        (wider k j (omega arith) (omega arith) (walk b (within (parameters m xs p) q)) (placed k₂ b (n .2) (within (parameters m xs p) q) known (λ i l u. own i (omega arith) (omega arith)))) tt)
-    placed k (begin m es) n p a h = wider k (k + size (begin m es)) (omega arith) (omega arith) (walkAll es p) (placed-all (k + 1) es (n .1) p a (λ i l u. h i (omega arith) (omega arith)))
+        let names = known-binders false 0 q 0 k₁ xs (n .1) (λ i l u. omega (arith, own i l (omega arith), level-out k₂ b (n .2) i (λ x y. omega arith))) in
+        let known = known-names (parameters m xs p) (p .scope) names a in
+        each-append _ _ (entering (parameters m xs p) (p .scope)) (walk b (within (parameters m xs p) q) ++ (ends (m .at) xs (p .scope) ∷ []))
+        (each-entering _ _ (parameters m xs p) (p .scope) names)
+        (each-append _ _ (walk b (within (parameters m xs p) q)) (ends (m .at) xs (p .scope) ∷ [])
+        (wider k j (omega arith) (omega arith) (walk b (within (parameters m xs p) q)) (placed k₂ b (n .2) (within (parameters m xs p) q) known
+        (λ i l u. own i (omega arith) (omega arith)))) tt)
+    placed k (begin m es) n p a h = wider k (k + size (begin m es)) (omega arith) (omega arith) (walkAll es p)
+        (placed-all (k + 1) es (n .1) p a (λ i l u. h i (omega arith) (omega arith)))
     placed k (call m g es) n p a h =
         let k₁ = k + 1 in
         let k₂ = k₁ + size g in
         let j = k + size (call m g es) in
-        each-append _ (walkArguments es p) (walk g (raised (many es) p))
+        each-append _ _ (walkArguments es p) (walk g (raised (many es) p))
         (wider k j (omega arith) (omega arith) (walkArguments es p) (placed-in k₂ es (n .2) p a (λ i l u.
         omega (arith, h i (omega arith) (omega arith), level-out k₁ g (n .1) i (λ x y. omega arith)))))
         (wider k j (omega arith) (omega arith) (walk g (raised (many es) p)) (placed k₁ g (n .1) (raised (many es) p) a (λ i l u.
         omega (arith, h i (omega arith) (omega arith), levels-out k₂ es (n .2) i (λ x y. omega arith)))))
     placed k (set! m x e) n p a h =
-        each-append _ (walk e p) (mentions (record { ident = x; isSet = true; place = p }) ∷ [])
+        each-append _ _ (walk e p) (mentions (record { ident = x; isSet = true; place = p }) ∷ [])
         (wider k (k + size (set! m x e)) (omega arith) (omega arith) (walk e p) (placed (k + 2) e (n .2) p a (λ i l u. h i (omega arith) (omega arith))))
         (record { from = omega arith; below = omega arith; scope = a }, tt)
 
-    placed-in : (k : ℕ) (ts : Trees) → Nums k ts → (p : Place) → All Known (p .scope) → ((i : ℕ) → k ≤ i → i < k + sizes ts → L i ≡ length (p .around) + levels ts i)
-        → Each (Placed k (k + sizes ts)) (walkArguments ts p)
+    placed-in : (k : ℕ) (ts : Trees) → Nums k ts → (p : Place) → All Known (p .scope)
+        → ((i : ℕ) → k ≤ i → i < k + sizes ts → L i ≡ length (p .around) + levels ts i)
+        → PlacedIn k (k + sizes ts) (walkArguments ts p)
     placed-in k nil n p a h = tt
     placed-in k (cons t ts) n p a h =
         let j = k + sizes (cons t ts) in
-        each-append _ (walk t p) (walkArguments ts (raised 1 p))
+        each-append _ _ (walk t p) (walkArguments ts (raised 1 p))
         (wider k j (omega arith) (omega arith) (walk t p) (placed k t (n .0) p a (λ i l u.
         omega (arith, h i (omega arith) (omega arith), levels-out (k + size t) ts (n .1) i (λ x y. omega arith)))))
         (wider k j (omega arith) (omega arith) (walkArguments ts (raised 1 p)) (placed-in (k + size t) ts (n .1) (raised 1 p) a (λ i l u.
         omega (arith, h i (omega arith) (omega arith), level-out k t (n .0) i (λ x y. omega arith)))))
 
-    pub placed-all : (k : ℕ) (ts : Trees) → Nums k ts → (p : Place) → All Known (p .scope) → ((i : ℕ) → k ≤ i → i < k + sizes ts → L i ≡ length (p .around) + levels ts i)
-        → Each (Placed k (k + sizes ts)) (walkAll ts p)
+    pub placed-all : (k : ℕ) (ts : Trees) → Nums k ts → (p : Place) → All Known (p .scope)
+        → ((i : ℕ) → k ≤ i → i < k + sizes ts → L i ≡ length (p .around) + levels ts i)
+        → PlacedIn k (k + sizes ts) (walkAll ts p)
     placed-all k nil n p a h = tt
     placed-all k (cons t ts) n p a h =
         let j = k + sizes (cons t ts) in
-        each-append _ (walk t p) (walkAll ts p)
+        each-append _ _ (walk t p) (walkAll ts p)
         (wider k j (omega arith) (omega arith) (walk t p) (placed k t (n .0) p a (λ i l u.
         omega (arith, h i (omega arith) (omega arith), levels-out (k + size t) ts (n .1) i (λ x y. omega arith)))))
         (wider k j (omega arith) (omega arith) (walkAll ts p) (placed-all (k + size t) ts (n .1) p a (λ i l u.

@@ -79,7 +79,7 @@ either-names : (b : Bool) (s t : State) → names s ≡ names t → names (cond 
 either-names true s t e = e
 either-names false s t e = refl
 
-by-names : (classes : List ℕ) (r : Rule) (x : Ident) (s : State) → names (readBy classes r x s) ≡ names s
+pub by-names : (classes : List ℕ) (r : Rule) (x : Ident) (s : State) → names (readBy classes r x s) ≡ names s
 unfolding insert amend putEntry
 by-names classes noEntry x s = refl
 by-names classes (depthOne b) x s = refl

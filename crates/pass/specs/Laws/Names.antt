@@ -39,13 +39,13 @@ kept-first none a b e = absurd (Option·none-ne-some b e)
 kept-first (some c) a b e = e
 
 nine-later : (i : ℕ) (n : Noted) → Later n (record { nine = orKept (n .nine) i; ten = n .ten; second = n .second })
-nine-later i n = record { nine = kept-none (n .nine) i; ten = λ e. e; second = λ e. e; firstNine = kept-first (n .nine) i; firstTen = λ j e. e }
+nine-later i n = record { nine = kept-none (n .nine) i; ten = λ e. e; second = λ e. e; firstNine = kept-first (n .nine) i; firstTen = λ j e. e; firstSecond = λ r e. e }
 
 ten-later : (i : ℕ) (n : Noted) → Later n (record { nine = n .nine; ten = orKept (n .ten) i; second = n .second })
-ten-later i n = record { nine = λ e. e; ten = kept-none (n .ten) i; second = λ e. e; firstNine = λ j e. e; firstTen = kept-first (n .ten) i }
+ten-later i n = record { nine = λ e. e; ten = kept-none (n .ten) i; second = λ e. e; firstNine = λ j e. e; firstTen = kept-first (n .ten) i; firstSecond = λ r e. e }
 
 second-later : (k i : ℕ) (n : Noted) → Later n (record { nine = n .nine; ten = n .ten; second = orKept (n .second) (record { number = k; at = i }) })
-second-later k i n = record { nine = λ e. e; ten = λ e. e; second = kept-none (n .second) _; firstNine = λ j e. e; firstTen = λ j e. e }
+second-later k i n = record { nine = λ e. e; ten = λ e. e; second = kept-none (n .second) _; firstNine = λ j e. e; firstTen = λ j e. e; firstSecond = kept-first (n .second) _ }
 
 marked-if : (b : Bool) (v : SemanticInformation) → lasting (markIf b markShadowed v) ≡ lasting v
 marked-if true v = refl

@@ -134,15 +134,15 @@ tells {T} {i} e k r d n =
 module _ {T : List Row} {i : ℕ} where
   -- the facts, by what decides of them
 
-  free-tells : (q : Bool) (x : Ident) {d l : ℕ} → HasKey T i (freeRow q d x Blank) → d ≡ l → Tells T i (cond q GlobalKind Free) NONE l NONE
+  pub free-tells : (q : Bool) (x : Ident) {d l : ℕ} → HasKey T i (freeRow q d x Blank) → d ≡ l → Tells T i (cond q GlobalKind Free) NONE l NONE
   free-tells true x e d = tells e refl refl d refl
   free-tells false x e d = tells e refl refl d refl
 
-  global-tells : (q : Bool) (b x : Ident) → HasKey T i (Variable (globalFact q b x)) → Tells T i GlobalKind (b .id) 1 NONE
+  pub global-tells : (q : Bool) (b x : Ident) → HasKey T i (Variable (globalFact q b x)) → Tells T i GlobalKind (b .id) 1 NONE
   global-tells true b x e = tells e refl refl refl refl
   global-tells false b x e = tells e refl refl refl refl
 
-  local-tells : {d l n : ℕ} {k : IdentifierStatus} (q : Bool) (p : Span) (b : Ident) (e : Entry)
+  pub local-tells : {d l n : ℕ} {k : IdentifierStatus} (q : Bool) (p : Span) (b : Ident) (e : Entry)
       → HasKey T i (Variable (markIf q (heapFact e) (withOffset (e .stackOffset) (refersTo (b .id) (withUsageCount 1 (new (cond q HeapAllocated Local) d p))))))
       → cond q HeapAllocated Local ≡ k → d ≡ l → e .stackOffset ≡ n → Tells T i k (b .id) l n
   local-tells true p b e h k d n = tells h k refl d n

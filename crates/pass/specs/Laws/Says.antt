@@ -31,17 +31,17 @@ Each Q (ends i xs sc ∷ l) = Each Q l
 abbrev pub usesIn : List Event → List Use
 usesIn l = usesOf (mentionsIn l)
 
-uses-of : (l r : List Mention) → usesOf (l ++ r) ≡ usesOf l ++ usesOf r
+pub uses-of : (l r : List Mention) → usesOf (l ++ r) ≡ usesOf l ++ usesOf r
 uses-of [] r = refl
 uses-of (m ∷ l) r = ap (λ (k : List Use). useOf m (meant m) ++ k) (uses-of l r) ∙ sym (append-assoc (useOf m (meant m)) (usesOf l) (usesOf r))
 
-mentions-in : (l r : List Event) → mentionsIn (l ++ r) ≡ mentionsIn l ++ mentionsIn r
+pub mentions-in : (l r : List Event) → mentionsIn (l ++ r) ≡ mentionsIn l ++ mentionsIn r
 mentions-in [] r = refl
 mentions-in (enters b sc ∷ l) r = mentions-in l r
 mentions-in (mentions m ∷ l) r = ap (λ (k : List Mention). m ∷ k) (mentions-in l r)
 mentions-in (ends i xs sc ∷ l) r = mentions-in l r
 
-uses-in : (l r : List Event) → usesIn (l ++ r) ≡ usesIn l ++ usesIn r
+pub uses-in : (l r : List Event) → usesIn (l ++ r) ≡ usesIn l ++ usesIn r
 uses-in l r = ap usesOf (mentions-in l r) ∙ uses-of (mentionsIn l) (mentionsIn r)
 
 -- uses before, then those of l, then those of r
@@ -49,7 +49,7 @@ pub uses-then : (before : List Use) (l r : List Event) → (before ++ usesIn l) 
 uses-then before l r = append-assoc before (usesIn l) (usesIn r) ∙ ap (λ (u : List Use). before ++ u) (sym (uses-in l r))
 
 -- names that enter are no uses
-mentions-entering : (bs sc : List Binder) → mentionsIn (entering bs sc) ≡ []
+pub mentions-entering : (bs sc : List Binder) → mentionsIn (entering bs sc) ≡ []
 unfolding entering
 mentions-entering [] sc = refl
 mentions-entering (b ∷ bs) sc = mentions-entering bs (b ∷ sc)

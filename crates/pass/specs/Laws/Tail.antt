@@ -30,7 +30,7 @@ record Exact (T : List Row) (c : Call) : Type 0 where
   site : Marked T c
   blank : Unrecorded T c
 
-blank-rows : (n i : ℕ) → getD (replicate n Blank) i Blank ≡ Blank
+pub blank-rows : (n i : ℕ) → getD (replicate n Blank) i Blank ≡ Blank
 blank-rows zero i = refl
 blank-rows (suc n) zero = refl
 blank-rows (suc n) (suc i) = blank-rows n i

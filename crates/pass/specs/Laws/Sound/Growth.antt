@@ -1,0 +1,174 @@
+-- How many names are live after a visit: each tree leaves at least one of its records unused, so its names fit in the records before its end.
+use Prim.Native.Nat.{ℕ, suc, _+_, _≤_}
+use mathlib.Core.List.{List}
+use mathlib.Core.Bool.{Bool, true, false}
+use mathlib.Core.Path.{ap, sym}
+use native.Mathlib.Omega.{arith}
+use lib.ListN.{length}
+use lib.Dec.{eqb}
+use Rattle.tree.specs.Tree.{Ident, Tree, Trees, ident, const, if, letin, define, lambda, begin, call, set!, nil, cons, many, size, sizes}
+use Rattle.tree.specs.Define.{topOf, topLevel}
+use Rattle.tree.specs.TreeLaws.{sizes-⊕}
+use Rattle.semantic.specs.Information.{NONE}
+use Rattle.semantic.specs.declared.IdentifierStatus.the-variants.{Global, Local, LocallyDefinedFunction}
+use Rattle.pass.specs.State.{Facts, State, withContext, depth}
+use Rattle.pass.specs.Lambda.{atBottom}
+use Rattle.pass.specs.Visit.{Flags, topFlags, notTail, sameTail, pushed, letBodyFlags, bodyFlags, argumentFlags, isLambda, headFlags, isNil, childFlags, defineFlags, beforeDefine, afterDefine, enterIfLambda, enterChild, enterChildren, visit, visitArguments, visitChildren, enterTopLambda, enterTop, enterTops, visitTopDefine, visitTop, visitTops}
+use Rattle.pass.specs.Run.{start, run}
+use Rattle.pass.specs.Sound.{Grows}
+use Rattle.pass.specs.Laws.Scopes.{Any, lambda-depth, let-stays}
+use Rattle.pass.specs.Laws.Visits.{call-changes, clear-changes}
+use Rattle.pass.specs.Laws.Sound.Rooms.{grows-none, grows-then, grows-wide, grows-quiet, grows-read, grows-mutate, grows-define, grows-value, grows-lambda, grows-let}
+
+-- one after another, in a state with a bottom layer
+next : {a b c d : ℕ} {s t u : State} → 1 ≤ depth s → Grows a b s t → (1 ≤ depth t → Grows c d t u) → Grows (a + c) (b + d) s u
+next h p q = grows-then p (q (omega (arith, p .layers h)))
+
+-- what stands at top level has no more records than the trees
+pub top-sizes : (ts : Trees) → sizes (topLevel ts) ≤ sizes ts
+unfolding topLevel topOf size
+top-sizes nil = omega arith
+top-sizes (cons t ts) = omega (arith, sizes-⊕ (topOf t) (topLevel ts), top-size t, top-sizes ts)
+  where
+    top-size : (t : Tree) → sizes (topOf t) ≤ size t
+    top-size (ident x) = omega arith
+    top-size (const n q) = omega arith
+    top-size (if n a b c) = omega arith
+    top-size (letin n xs es b) = omega arith
+    top-size (define n x b) = omega arith
+    top-size (lambda n xs b) = omega arith
+    top-size (begin n es) = omega arith
+    top-size (call n g es) = omega arith
+    top-size (set! n x e) = omega arith
+
+-- contexts tell nothing
+context : {a b : ℕ} {s t : State} (c : ℕ) → Grows a b s t → Grows a b s (withContext c t)
+context c p = record { live = p .live; layers = p .layers; captureLayers = p .captureLayers }
+
+from-context : {a b : ℕ} {s t : State} (c : ℕ) → Grows a b (withContext c s) t → Grows a b s t
+from-context c p = record { live = p .live; layers = p .layers; captureLayers = p .captureLayers }
+
+module _ (classes : List ℕ) where
+  -- a name enters before the body of its define, or after it, or has entered
+  around : {a c : ℕ} (direct lambda : Bool) (k : ℕ) (x : Ident) (b : Tree) (s : State) {t : State} → Grows a c (beforeDefine classes direct lambda x b s) t
+      → Grows a (suc c) s (afterDefine classes direct lambda k x b t)
+  around true true k x b s p = grows-wide (omega arith) (context k (from-context (x .id) p))
+  around true false k x b s {t} p = grows-wide (omega arith) (grows-then (from-context (x .id) p) (context k (grows-define classes Local NONE x b t)))
+  around false true k x b s p = grows-wide (omega arith) (grows-then (context (x .id) (grows-define classes Local NONE x b s)) (context k p))
+  around false false k x b s {t} p = grows-wide (omega arith) (grows-then p (grows-define classes Local NONE x b t))
+
+  before-bottom : (direct lambda : Bool) (x : Ident) (b : Tree) (s : State) → 1 ≤ depth s → 1 ≤ depth (beforeDefine classes direct lambda x b s)
+  before-bottom true true x b s h = h
+  before-bottom true false x b s h = h
+  before-bottom false true x b s h = omega (arith, grows-define classes Local NONE x b s .layers h)
+  before-bottom false false x b s h = h
+
+  -- names that enter before the visits
+
+  grows-child : (t : Tree) (s : State) → Grows 0 1 s (enterChild classes t s)
+  grows-child (ident x) s = grows-wide (omega arith) grows-none
+  grows-child (const n q) s = grows-wide (omega arith) grows-none
+  grows-child (if n a b c) s = grows-wide (omega arith) grows-none
+  grows-child (letin n xs es b) s = grows-wide (omega arith) grows-none
+  grows-child (define n x b) s = go (isLambda b)
+    where
+      go : (l : Bool) → Grows 0 1 s (enterIfLambda classes l x b s)
+      go true = grows-define classes LocallyDefinedFunction NONE x b s
+      go false = grows-wide (omega arith) grows-none
+  grows-child (lambda n xs b) s = grows-wide (omega arith) grows-none
+  grows-child (begin n es) s = grows-wide (omega arith) grows-none
+  grows-child (call n g es) s = grows-wide (omega arith) grows-none
+  grows-child (set! n x e) s = grows-wide (omega arith) grows-none
+
+  pub grows-children : (ts : Trees) (s : State) → Grows 0 (many ts) s (enterChildren classes ts s)
+  unfolding enterChildren
+  grows-children nil s = grows-none
+  grows-children (cons t ts) s = grows-wide (omega arith) (grows-then (grows-child t s) (grows-children ts _))
+
+  -- The visits
+
+  mutual
+    unfolding visit size
+
+    pub visit-grows : (t : Tree) (f : Flags) (s : State) → 1 ≤ depth s → Grows 1 (size t) s (visit classes t f s)
+    visit-grows (ident x) f s h = grows-wide (omega arith) (grows-read classes x s)
+    visit-grows (const n q) f s h = grows-wide (omega arith) grows-none
+    visit-grows (if n a b c) f s h =
+        let ab = next h (visit-grows a (notTail f) s h) (λ k. visit-grows b (sameTail f) _ k) in
+        grows-wide (omega arith) (next h ab (λ k. visit-grows c (sameTail f) _ k))
+    visit-grows (letin n xs es b) f s h =
+        let t = withContext (s .context) (visitArguments classes es (notTail f) (withContext NONE s)) in
+        let args : Grows (many es) (sizes es) s t = context (s .context) (from-context NONE (arguments-grow es (notTail f) (withContext NONE s) h)) in
+        let bottom = ap (λ (d : ℕ). eqb d 1) (sym (args .layers h)) in
+        grows-wide (omega arith) (next h args (λ k. grows-let (atBottom s) n xs (f .height) (f .function) t bottom
+        (visit-grows b (letBodyFlags (many es) f) _ (let-stays n xs (f .height) (f .function) t k))))
+    visit-grows (define n x b) f s h =
+        let deep = before-bottom (f .direct) (isLambda b) x b s h in
+        grows-wide (omega arith) (around (f .direct) (isLambda b) (s .context) x b s (visit-grows b (defineFlags f) _ deep))
+    visit-grows (lambda n xs b) f s h =
+        grows-wide (omega arith) (grows-lambda n xs b (f .escape) s (visit-grows b (bodyFlags n (length xs) f) _ (omega (arith, lambda-depth n xs s h))))
+    visit-grows (begin n es) f s h = grows-wide (omega arith) (next h (grows-children es s) (λ k. children-grow es f _ k))
+    visit-grows (call n g es) f s h =
+        let p = next h (arguments-grow es (argumentFlags f) s h) (λ k. visit-grows g (headFlags g (many es) f) _ k) in
+        grows-wide (omega arith) (grows-then p (grows-quiet (call-changes {own = Any} n g es f _ (λ c. tt))))
+    visit-grows (set! n x e) f s h =
+        let p = next h (grows-quiet (clear-changes {own = Any} x s)) (λ k. visit-grows e (notTail f) _ k) in
+        grows-wide (omega arith) (grows-then (grows-then p (grows-mutate (x .name) _)) (grows-read classes x _))
+
+    pub arguments-grow : (ts : Trees) (f : Flags) (s : State) → 1 ≤ depth s → Grows (many ts) (sizes ts) s (visitArguments classes ts f s)
+    arguments-grow nil f s h = grows-none
+    arguments-grow (cons t ts) f s h = grows-wide (omega arith) (next h (visit-grows t f s h) (λ k. arguments-grow ts (pushed f) _ k))
+
+    pub children-grow : (ts : Trees) (f : Flags) (s : State) → 1 ≤ depth s → Grows (many ts) (sizes ts) s (visitChildren classes ts f s)
+    children-grow nil f s h = grows-none
+    children-grow (cons t ts) f s h = grows-wide (omega arith) (next h (visit-grows t (childFlags (isNil ts) f) s h) (λ k. children-grow ts f _ k))
+
+  -- The top level
+
+  grows-top : (t : Tree) (s : State) → Grows 0 1 s (enterTop classes t s)
+  grows-top (ident x) s = grows-wide (omega arith) grows-none
+  grows-top (const n q) s = grows-wide (omega arith) grows-none
+  grows-top (if n a b c) s = grows-wide (omega arith) grows-none
+  grows-top (letin n xs es b) s = grows-wide (omega arith) grows-none
+  grows-top (define n x b) s = go (isLambda b)
+    where
+      go : (l : Bool) → Grows 0 1 s (enterTopLambda classes l x b s)
+      go true = grows-define classes Global NONE x b s
+      go false = grows-wide (omega arith) grows-none
+  grows-top (lambda n xs b) s = grows-wide (omega arith) grows-none
+  grows-top (begin n es) s = grows-wide (omega arith) grows-none
+  grows-top (call n g es) s = grows-wide (omega arith) grows-none
+  grows-top (set! n x e) s = grows-wide (omega arith) grows-none
+
+  pub grows-tops : (ts : Trees) (s : State) → Grows 0 (many ts) s (enterTops classes ts s)
+  unfolding enterTops
+  grows-tops nil s = grows-none
+  grows-tops (cons t ts) s = grows-wide (omega arith) (grows-then (grows-top t s) (grows-tops ts _))
+
+  top-define : (l : Bool) (x : Ident) (b : Tree) (s : State) → 1 ≤ depth s → Grows 1 (suc (size b)) s (visitTopDefine classes l x b s)
+  top-define true x b s h = grows-wide (omega arith) (context NONE (from-context (x .id) (visit-grows b topFlags (withContext (x .id) s) h)))
+  top-define false x b s h = grows-wide (omega arith) (next h (grows-value classes x b s) (λ k. visit-grows b topFlags _ k))
+
+  pub top-grows : (t : Tree) (s : State) → 1 ≤ depth s → Grows 1 (size t) s (visitTop classes t s)
+  unfolding visitTop size
+  top-grows (ident x) s h = visit-grows (ident x) topFlags s h
+  top-grows (const n q) s h = grows-wide (omega arith) grows-none
+  top-grows (if n a b c) s h = visit-grows (if n a b c) topFlags s h
+  top-grows (letin n xs es b) s h = visit-grows (letin n xs es b) topFlags s h
+  top-grows (define n x b) s h = grows-wide (omega arith) (top-define (isLambda b) x b s h)
+  top-grows (lambda n xs b) s h = visit-grows (lambda n xs b) topFlags s h
+  top-grows (begin n es) s h = visit-grows (begin n es) topFlags s h
+  top-grows (call n g es) s h = visit-grows (call n g es) topFlags s h
+  top-grows (set! n x e) s h = visit-grows (set! n x e) topFlags s h
+
+  pub tops-grow : (ts : Trees) (s : State) → 1 ≤ depth s → Grows (many ts) (sizes ts) s (visitTops classes ts s)
+  unfolding visitTops size
+  tops-grow nil s h = grows-none
+  tops-grow (cons t ts) s h = grows-wide (omega arith) (next h (top-grows t s h) (λ k. tops-grow ts _ k))
+
+  -- a whole run has no more names than records
+  pub run-grows : (ts : Trees) (f : Facts) → Grows 0 (sizes ts) (start f) (run classes ts f)
+  unfolding run start
+  run-grows ts f =
+      let us = topLevel ts in
+      grows-wide (omega (arith, top-sizes ts)) (next (omega arith) (grows-tops us (start f)) (λ k. tops-grow us _ k))
