@@ -1,9 +1,10 @@
 -- The operations do not look at the values: each commutes with a function on them.
-use Prim.Native.Nat.{ℕ, _-_}
+use Prim.Native.Nat.{ℕ, zero, suc, _-_}
 use mathlib.Core.List.{List, [], _∷_, _++_}
 use mathlib.Core.Bool.{Bool, true, false, cond, _||_}
 use mathlib.Core.Option.{some, Option·map}
 use mathlib.Core.Path.{_≡_, refl, ap, _∙_}
+use lib.ListN.{length, getD}
 use lib.Dec.{eqb, ltb}
 use Rattle.scope_map.specs.ScopeMap.{Live, ScopeMap, isAt, hasIn, replaceIn, removeIn, layerIn, belowLayer, getIn, new, get, depthOf, pushLayer, hasAtTop, define, remove, newestLayer, popLayer}
 
@@ -19,6 +20,17 @@ module _ {A : Type 0} {B : Type 0} (f : A → B) where
   mapValues m = record { depth = m .depth; live = mapLive (m .live) }
 
   -- On lists
+
+  pub map-length : (l : List (Live A)) → length (mapLive l) ≡ length l
+  unfolding mapLive
+  map-length [] = refl
+  map-length (e ∷ l) = ap suc (map-length l)
+
+  pub map-getD : (l : List (Live A)) (i : ℕ) (d : Live A) → getD (mapLive l) i (mapValue d) ≡ mapValue (getD l i d)
+  unfolding mapLive
+  map-getD [] i d = refl
+  map-getD (e ∷ l) zero d = refl
+  map-getD (e ∷ l) (suc i) d = map-getD l i d
 
   map-append : (l r : List (Live A)) → mapLive (l ++ r) ≡ mapLive l ++ mapLive r
   unfolding mapLive
@@ -71,7 +83,7 @@ module _ {A : Type 0} {B : Type 0} (f : A → B) where
       pick true r = map-append (layerIn d l) (e ∷ []) ∙ ap (λ (k : List (Live B)). k ++ (mapValue e ∷ [])) r
       pick false r = refl
 
-  map-belowLayer : (d : ℕ) (l : List (Live A)) → mapLive (belowLayer d l) ≡ belowLayer d (mapLive l)
+  pub map-belowLayer : (d : ℕ) (l : List (Live A)) → mapLive (belowLayer d l) ≡ belowLayer d (mapLive l)
   unfolding mapLive belowLayer
   map-belowLayer d [] = refl
   map-belowLayer d (e ∷ l) = pick (eqb (e .layer) d) (map-belowLayer d l)

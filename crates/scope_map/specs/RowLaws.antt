@@ -6,7 +6,7 @@ use mathlib.Core.Path.{_≡_, refl, ap, sym, _∙_}
 use mathlib.Core.Option.{some}
 use native.Mathlib.Omega.{arith}
 use borrow.Author.Tests.{eqb-true, lt-ltb, le-ltb}
-use lib.ListN.{length}
+use lib.ListN.{length, getD}
 use lib.Dec.{eqb, ltb}
 use Rattle.scope_map.specs.ScopeMap.{Live, isAt, hasIn, replaceIn, removeIn, layerIn, belowLayer, getIn}
 use Rattle.scope_map.specs.SizeLaws.{below-size}
@@ -18,6 +18,13 @@ pub length-liveIn : (t : List ℕ) (n : ℕ) → length (liveIn t n) ≡ n
 unfolding liveIn
 length-liveIn t zero = refl
 length-liveIn t (suc n) = ap suc (length-liveIn t n)
+
+-- the live name that is j names older than the newest
+pub live-row : (t : List ℕ) (n j : ℕ) (d : Live ℕ) → j < n → getD (liveIn t n) j d ≡ rowAt t (n - suc j)
+unfolding liveIn
+live-row t zero j d h = absurd (omega arith)
+live-row t (suc n) zero d h = let z : n ≡ suc n - 1 = omega arith in ap (rowAt t) z
+live-row t (suc n) (suc j) d h = let z : n - suc j ≡ suc n - suc (suc j) = omega arith in live-row t n j d (omega arith) ∙ ap (rowAt t) z
 
 pub live-next : (t : List ℕ) (n : ℕ) → liveIn t (n + 1) ≡ rowAt t n ∷ liveIn t n
 unfolding liveIn

@@ -9,7 +9,7 @@ use lib.Dec.{eqb, ltb}
 use Rattle.scope_map.specs.ScopeMap.{Live, ScopeMap, isAt, replaceIn, removeIn, belowLayer, popLayer, hasAtTop, define, remove}
 
 module _ {A : Type 0} where
-  replace-size : (d x : ℕ) (v : A) (l : List (Live A)) → length (replaceIn d x v l) ≡ length l
+  pub replace-size : (d x : ℕ) (v : A) (l : List (Live A)) → length (replaceIn d x v l) ≡ length l
   unfolding replaceIn
   replace-size d x v [] = refl
   replace-size d x v (e ∷ l) = pick (isAt d x e) (replace-size d x v l)

@@ -1,3 +1,5 @@
 pub mod Layout
 pub mod Leaves
 pub mod Part
+pub mod Region
+pub mod RegionLaws

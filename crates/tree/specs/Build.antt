@@ -151,15 +151,15 @@ bit-of (suc (suc x)) h = absurd (omega arith)
 
 -- What a row of the table of forms leaves of the name and the count
 
-abbrev belowIn : ℕ → Option Form → ℕ
+abbrev pub belowIn : ℕ → Option Form → ℕ
 belowIn N none = 0
 belowIn N (some f) = f .nameBelow N
 
-abbrev mostIn : Option Form → ℕ
+abbrev pub mostIn : Option Form → ℕ
 mostIn none = 0
 mostIn (some f) = f .countMost
 
-row : (N : ℕ) (r : Record) (o : Option Form) → fitsAs N r o ≡ true → (r .name < belowIn N o) × (r .count ≤ mostIn o)
+pub row : (N : ℕ) (r : Record) (o : Option Form) → fitsAs N r o ≡ true → (r .name < belowIn N o) × (r .count ≤ mostIn o)
 row N r none e = absurd (false≢true e)
 row N r (some f) e =
     let named = ltb (r .name) (f .nameBelow N) in

@@ -18,3 +18,8 @@ pub mod FirstLaws
 pub mod Found
 pub mod Seen
 pub mod Walked
+pub mod Stands
+pub mod WithinLaws
+pub mod StandsLaws
+pub mod StandsParts
+pub mod StandsForms

@@ -17,6 +17,10 @@ const NAME: usize = 2;
 
 const COUNT: usize = 3;
 
+const FROM: usize = 4;
+
+const TO: usize = 5;
+
 // How many records there are.
 pub fn len(rs: &[u32]) -> usize
     ensures { λ r. ⌜ r ≡ length (records (now (rs .entry))) ⌝ }
@@ -58,6 +62,20 @@ pub fn count(rs: &[u32], i: usize) -> u32
     ensures { λ r. ⌜ r ≡ nth (now (rs .entry)) i .count ⌝ }
 {
     field(rs, i, COUNT)
+}
+
+pub fn from(rs: &[u32], i: usize) -> u32
+    requires { ⌜ i < length (records (now rs)) ⌝ }
+    ensures { λ r. ⌜ r ≡ nth (now (rs .entry)) i .from ⌝ }
+{
+    field(rs, i, FROM)
+}
+
+pub fn to(rs: &[u32], i: usize) -> u32
+    requires { ⌜ i < length (records (now rs)) ⌝ }
+    ensures { λ r. ⌜ r ≡ nth (now (rs .entry)) i .to ⌝ }
+{
+    field(rs, i, TO)
 }
 
 // How many children record i has: no more than a count of 32 bits gives.

@@ -1,0 +1,211 @@
+-- A name enters, and a define's fact is made. No place of the code stands here.
+use Prim.Native.Nat.{ℕ, zero, suc, _≤_, _<_}
+use mathlib.Core.List.{List, [], _∷_}
+use mathlib.Core.Bool.{Bool, true, false, _&&_}
+use mathlib.Core.Option.{Option, none, some}
+use mathlib.Core.Path.{_≡_, refl, ap, sym, _∙_, subst}
+use native.Mathlib.Omega.{arith}
+use lib.ListN.{length, getD, set}
+use lib.Dec.{ltb}
+use Rattle.tree.specs.RecordLaws.{nth}
+use Rattle.tree.specs.Tree.{Ident}
+use Rattle.scope_map.specs.ScopeMap.{ScopeMap, hasAtTop}
+use Rattle.scope_map.specs.ScopeMap as map
+use Rattle.semantic.specs.Information.{new, shadows, aliasesTo, markBuiltin, markRequired, markShadowed}
+use Rattle.semantic.specs.Rows.{Row, Blank, Variable, Function, CallSite, Let, putRow}
+use Rattle.semantic.specs.Amend.{amended, markIf}
+use Rattle.semantic.specs.Leaves.{Stores, Amends}
+use Rattle.semantic.specs.declared.IdentifierStatus.{IdentifierStatus}
+use Rattle.semantic.specs.declared.IdentifierStatus.the-variants.{Global}
+use Rattle.semantic.specs.declared.SemanticInformation.{SemanticInformation}
+use Rattle.semantic.specs.declared.Span.{Span}
+use Rattle.pass.specs.State.{State, Facts, Entry, rowAt, putEntry, insert, amend, withNames, topLevelEntry, newest, depth}
+use Rattle.pass.specs.Read.{noteLive, enter, statusAt, defineFact, enterDefine, shadowIfBuiltin, shadow, enterTopLevelValue, alias}
+use Rattle.pass.specs.Run.{rowsMost}
+use Rattle.pass.specs.Sound.{Property, Each, usesIn}
+use Rattle.work.specs.Coded.{coded, recordIn}
+use Rattle.work.specs.Works.{Works, Spacious}
+use Rattle.work.specs.WorksLaws.{depth-is, spacious, names-many}
+use Rattle.work.specs.ScopeLaws.{newest-known}
+use Rattle.work.specs.Leaves.{Becomes, Tells, StoresEntry}
+use Rattle.work.specs.Scope.{TellsId, Defines}
+use Rattle.work.specs.Tied.{raw, Tied, Good, Here, usesMost}
+use Rattle.work.specs.TiedLaws.{rowCount, count-amend, facts-entry, tied-works, tied-insert, tied-amend}
+use Rattle.work.specs.declared.Pass.{Pass}
+use Rattle.work.specs.declared.entries.Entry.{Entry as Coded}
+use Rattle.walk.specs.declared.body.Body.{Body}
+use Rattle.names.specs.Facts.{spanOf}
+use Rattle.names.specs.Contract.{SomeState, Room, Enters, DefinesBy, EntersValue, Defined}
+use Rattle.names.specs.Steps.{DefineFact, Shadows}
+use Rattle.names.proofs.KnownCase.{known-name, known-span, known-few, found-none, uses-are}
+
+-- The fact of a define
+
+pub define-fact : {b : Body} {kind k : IdentifierStatus} {a d n h at : ℕ} {rs w : List ℕ} {p : Pass} {q : Span} {i j l m r : SemanticInformation}
+    → d ≡ p .scope .depth → n ≡ nth rs at .name → TellsId rs p w n h → k ≡ statusAt d kind → q ≡ spanOf (nth rs at) → i ≡ new k d q
+    → j ≡ markIf (b .required) markRequired i → l ≡ markIf (b .builtin) markBuiltin j → m ≡ shadows h l → r ≡ aliasesTo a m
+    → DefineFact b kind a rs at p w r
+unfolding defineFact
+define-fact {n = n} {h} {p = p} {q = q} ed en t ek eq ei ej el em er = record {
+  is = λ classes u s x eb kx px k bk.
+      let e₁ : n ≡ x .name = en ∙ known-name kx px in
+      rw (er, em, el, ej, ei, ek, t .is s k bk, eb, e₁, ed, depth-is k, eq ∙ known-span kx px) refl;
+}
+
+-- A name enters
+
+note-names : (b : Bool) (i : ℕ) (s : State) → noteLive b i s .scope .names ≡ s .scope .names
+note-names true i s = refl
+note-names false i s = refl
+
+note-facts : (b : Bool) (i : ℕ) (s : State) → noteLive b i s .facts ≡ s .facts
+note-facts true i s = refl
+note-facts false i s = refl
+
+abbrev isLive : ℕ → State → Bool
+isLive n s = ltb 1 (depth s) && hasAtTop (s .scope .names) n
+
+-- x enters under the name n, its entry at the place i
+abbrev entered : ℕ → ℕ → Ident → Entry → State → State
+entered n i x e s = putEntry i e (withNames (map.define n x (s .scope .names)) (noteLive (isLive n s) i s))
+
+enter-facts : (x : Ident) (e : Entry) (s : State) → enter x e s .facts ≡ s .facts
+unfolding enter
+enter-facts x e s =
+    facts-entry (withNames (map.define (x .name) x (s .scope .names)) (noteLive (isLive (x .name) s) (x .at) s)) (x .at) e
+    ∙ note-facts (isLive (x .name) s) (x .at) s
+
+pub enters : {rs : List ℕ} {at n : ℕ} {e : Coded} {p q r : Pass} {w w₁ w₂ : List ℕ} → n ≡ nth rs at .name
+    → Becomes p w (λ s. noteLive (isLive n s) at s) q w → Defines q w n at r w₁ → StoresEntry w₁ at e w₂ → Enters rs at e p w r w₂
+unfolding enter
+enters {rs} {at} {n} {r = r} {w₁ = w₁} {w₂} en o d m = record {
+  is = λ s x v kx px ev k.
+      let s₁ = noteLive (isLive n s) at s in
+      let s₂ = withNames (map.define n x (s .scope .names)) s₁ in
+      let k₂ : Works r w₁ s₂ = rw (note-names (isLive n s) at s) at (d .is s₁ x px (o .is s k)) in
+      subst (λ (n : ℕ). Works r w₂ (entered n (x .at) x v s)) (en ∙ known-name kx px)
+      (subst (λ (i : ℕ). Works r w₂ (entered n i x v s)) (sym px) (m .is r s₂ v k₂ ev));
+}
+
+-- what is asked after 9 is noted: the names are as many as before
+pub noted-room : {p q : Pass} {w : List ℕ} {at : ℕ} (n : ℕ) → SomeState p w → Room p → at < rowsMost → Becomes p w (λ s. noteLive (isLive n s) at s) q w
+    → Spacious q w × Room q × (at < rowsMost)
+noted-room {at = at} n h r l o =
+    let k = o .is (h .s) (h .works) in
+    let e = ap (λ (m : ScopeMap Ident). length (m .live)) (note-names (isLive n (h .s)) at (h .s)) in
+    (spacious k, omega (arith, names-many k, names-many (h .works), e), l)
+
+pub top-level-fits : {e : Coded} → e ≡ coded topLevelEntry → e .uses < 536870912
+top-level-fits q = omega (arith, uses-are q)
+
+pub defines-by : {b : Body} {kind : IdentifierStatus} {a : ℕ} {rs : List ℕ} {at : ℕ} {p q : Pass} {F w F′ w′ : List ℕ} {e : Coded} {r : SemanticInformation}
+    → DefineFact b kind a rs at p w r → e ≡ coded topLevelEntry → Enters rs at e p w q w′ → Stores putRow F at (Variable r) F′
+    → DefinesBy b kind a rs at p F w q F′ w′
+unfolding enterDefine
+defines-by {kind = kind} {a} {rs} {at} {p} {q} {F} {w} {F′} {w′} {r = r} f ee k m = record {
+  is = λ classes t C eb. record {
+    is = λ A s x h.
+        let s₁ = enter x topLevelEntry s in
+        let t₁ : Tied (raw q F C A w′) s₁ =
+        tied-works s₁ (h .tied) (enter-facts x topLevelEntry s) (k .is s x topLevelEntry (h .known) (h .place) ee (h .tied .works)) in
+        let e = ap (λ (f : Facts). length (f .rows)) (enter-facts x topLevelEntry s) in
+        let j : at < rowCount s₁ = omega (arith, e, h .good .rows, known-few (h .known) (h .place)) in
+        let z : r ≡ defineFact classes kind a x t s = f .is classes t s x eb (h .known) (h .place) (h .tied .works) (h .good .sound .binders) in
+        subst (λ (i : ℕ). Tied (raw q F′ C A w′) (insert i (Variable (defineFact classes kind a x t s)) s₁)) (sym (h .place))
+        (rw z at (tied-insert t₁ j m));
+  };
+}
+
+-- A builtin that a value define hides is marked: what holds of a state holds still
+
+set-has : {A : Type 0} (P : A → Type 0) (l : List A) (b i : ℕ) (a d : A) → P (getD l i d) → P a → P (getD (set l b a) i d)
+set-has P [] b i a d h g = h
+set-has P (x ∷ l) zero zero a d h g = g
+set-has P (x ∷ l) zero (suc i) a d h g = h
+set-has P (x ∷ l) (suc b) zero a d h g = h
+set-has P (x ∷ l) (suc b) (suc i) a d h g = set-has P l b i a d h g
+
+module _ (F : ℕ → Type 0) (f : SemanticInformation → SemanticInformation) (kept : (v : SemanticInformation) → f v .«usage_count» ≡ v .«usage_count») where
+  amended-uses : (r : Row) → F (usesIn r) → F (usesIn (amended f r))
+  amended-uses Blank h = h
+  amended-uses (Variable v) h = subst F (sym (kept v)) h
+  amended-uses (Function v) h = h
+  amended-uses (CallSite v) h = h
+  amended-uses (Let v) h = h
+
+  each-amend : {Q : Property} {s : State} (b : ℕ) → Each Q F s → Each Q F (amend f b s)
+  unfolding amend insert
+  each-amend {s = s} b e = record {
+    named = e .named;
+    binders = e .binders;
+    lasts = e .lasts;
+    items = e .items;
+    taken = e .taken;
+    entryUses = e .entryUses;
+    rowUses = λ i. set-has (λ r. F (usesIn r)) (s .facts .rows) b i (amended f (rowAt s b)) Blank (e .rowUses i) (amended-uses (rowAt s b) (e .rowUses b));
+    itemUses = e .itemUses;
+    captureUses = e .captureUses;
+  }
+
+good-amend : {rs : List ℕ} {s : State} (f : SemanticInformation → SemanticInformation)
+    → ((v : SemanticInformation) → f v .«usage_count» ≡ v .«usage_count») → (b : ℕ) → Good rs s → Good rs (amend f b s)
+unfolding amend insert
+good-amend {s = s} f kept b g = record {
+  rows = count-amend s b f ∙ g .rows;
+  arguments = g .arguments;
+  sound = each-amend (λ n. Unit {0}) f kept b (g .sound);
+  counted = each-amend (λ n. n ≤ usesMost) f kept b (g .counted);
+}
+
+shadow-uses : (classes : List ℕ) (v : SemanticInformation) → shadowIfBuiltin classes v .«usage_count» ≡ v .«usage_count»
+shadow-uses classes v = go (v .builtin)
+  where
+    go : (b : Bool) → markIf b markShadowed v .«usage_count» ≡ v .«usage_count»
+    go true = refl
+    go false = refl
+
+module _ {n : ℕ} {p : Pass} {F w : List ℕ} where
+  pub shadows-newest : {b : ℕ} {F′ : List ℕ} → Tells p w (λ s. recordIn (newest s n)) (some b)
+      → Amends putRow Blank (amended (λ i. markIf (i .builtin) markShadowed i)) F b F′ → Shadows n p F w F′
+  shadows-newest {b} {F′} o a = record {
+    here = λ rs at classes C A s x en h.
+        let z = newest-known rs s n b (h .good .sound .binders) (o .is s (h .tied .works)) in
+        let i : b < rowCount s = omega (arith, h .good .rows, known-few (z .known) (z .at)) in
+        let f = shadowIfBuiltin classes in
+        let k : Here rs at (raw p F′ C A w) (amend f b s) x = record {
+          known = h .known;
+          place = h .place;
+          good = good-amend f (shadow-uses classes) b (h .good);
+          tied = tied-amend (h .tied) i a;
+        } in
+        subst (λ (o : Option Ident). Here rs at (raw p F′ C A w) (shadow classes o s) x) (sym (z .is) ∙ ap (newest s) en)
+        (subst (λ (i : ℕ). Here rs at (raw p F′ C A w) (amend f i s) x) (sym (z .at)) k);
+  }
+
+  pub shadows-none : Tells p w (λ s. recordIn (newest s n)) none → Shadows n p F w F
+  shadows-none o = record {
+    here = λ rs at classes C A s x en h.
+        subst (λ (o : Option Ident). Here rs at (raw p F C A w) (shadow classes o s) x)
+        (sym (found-none (newest s n) (o .is s (h .tied .works))) ∙ ap (newest s) en) h;
+  }
+
+  module _ {rs : List ℕ} {at : ℕ} {F′ : List ℕ} (en : n ≡ nth rs at .name) (m : Shadows n p F w F′) where
+    pub defined-still : Defined rs at p F w → Defined rs at p F′ w
+    defined-still d = let h = d .here in record {
+      captured = d .captured;
+      arguments = d .arguments;
+      s = shadow [] (newest (d .s) (d .x .name)) (d .s);
+      x = d .x;
+      here = m .here rs at [] (d .captured) (d .arguments) (d .s) (d .x) (en ∙ known-name (h .known) (h .place)) h;
+    }
+
+    pub enters-value : {b : Body} {q : Pass} {F″ w′ : List ℕ} → DefinesBy b Global (b .alias) rs at p F′ w q F″ w′ → EntersValue b rs at p F w q F″ w′
+    unfolding enterTopLevelValue
+    enters-value {b} {q} {F″} {w′} d = record {
+      is = λ classes t C eb. record {
+        is = λ A s x h.
+            let s₁ = shadow classes (newest s (x .name)) s in
+            subst (λ (a : ℕ). Tied (raw q F″ C A w′) (enterDefine classes Global a x t s₁)) (ap (λ (b : Body). b .alias) eb)
+            (d .is classes t C eb .is A s₁ x (m .here rs at classes C A s x (en ∙ known-name (h .known) (h .place)) h));
+      };
+    }

@@ -1,0 +1,65 @@
+-- `define_fact`: a new fact, marked by the body, with what it shadows and its alias.
+use Rattle.names.proofs.DefineCase.{define-fact}
+use borrow.Author.Needs.{needs}
+use Rattle.names.proofs.define.define_fact.Statement.{statement}
+use Rattle.names.proofs.define.define_fact.Tie as tie
+
+depth-requires : tie.Need-depth-requires
+depth-requires c κs = search needs
+
+name-requires : tie.Need-name-requires
+name-requires c κs = search needs
+
+newest-id-requires : tie.Need-newest-id-requires
+newest-id-requires c κs = search needs
+
+status-at-requires : tie.Need-status-at-requires
+status-at-requires c κs = search needs
+
+span-at-requires : tie.Need-span-at-requires
+span-at-requires c κs = search needs
+
+new-requires : tie.Need-new-requires
+new-requires c κs = search needs
+
+mark-if-required-requires : tie.Need-mark-if-required-requires
+mark-if-required-requires c κs = search needs
+
+mark-if-builtin-requires : tie.Need-mark-if-builtin-requires
+mark-if-builtin-requires c κs = search needs
+
+shadows-requires : tie.Need-shadows-requires
+shadows-requires c κs = search needs
+
+aliases-to-requires : tie.Need-aliases-to-requires
+aliases-to-requires c κs = search needs
+
+returns : tie.Need-returns
+returns c =
+    let p₁ = c .before in
+    let p₂ = p₁ .before in
+    let p₃ = p₂ .before in
+    let p₄ = p₃ .before in
+    let p₅ = p₄ .before in
+    let p₆ = p₅ .before in
+    let p₇ = p₆ .before in
+    let p₈ = p₇ .before in
+    let p₉ = p₈ .before in
+    define-fact (p₉ .depth .ensures) (p₈ .name .ensures) (p₇ .newest-id .ensures) (p₆ .status-at .ensures) (p₅ .span-at .ensures) (p₄ .new .ensures)
+    (p₃ .mark-if-required .ensures) (p₂ .mark-if-builtin .ensures) (p₁ .shadows .ensures) (c .aliases-to .ensures)
+
+pub define-fact-spec : {M : Type 1} → statement M
+define-fact-spec =
+    tie.close
+    (tie.spec
+    depth-requires
+    name-requires
+    newest-id-requires
+    status-at-requires
+    span-at-requires
+    new-requires
+    mark-if-required-requires
+    mark-if-builtin-requires
+    shadows-requires
+    aliases-to-requires
+    returns)

@@ -1,0 +1,57 @@
+-- `enter_define`: the fact is made first, then the name enters.
+use Rattle.names.proofs.KnownCase.{known-inside, known-few, bounds}
+use Rattle.names.proofs.DefineCase.{defines-by, top-level-fits}
+use borrow.Author.Needs.{needs}
+use Rattle.names.proofs.define.enter_define.Statement.{statement}
+use Rattle.names.proofs.define.enter_define.Tie as tie
+
+define-fact-requires : tie.Need-define-fact-requires
+define-fact-requires c κs = search needs
+
+top-level-requires : tie.Need-top-level-requires
+top-level-requires c κs = search needs
+
+enter-requires : tie.Need-enter-requires
+enter-requires c κs =
+    let p₁ = c .before in
+    let start = p₁ .before .before .before .before .before .before in
+    let a = start .pre .1 in
+    let h = a .here in (
+      record { s = a .s; works = h .tied .works },
+      start .pre .0,
+      known-inside (h .known) (h .place),
+      known-few (h .known) (h .place),
+      top-level-fits (p₁ .top-level .ensures),
+    )
+
+store-information-requires : tie.Need-store-information-requires
+store-information-requires c κs =
+    let start = c .before .before .before .before .before .before .before .before .before .before .before in
+    let h = start .pre .1 .here in
+    bounds (h .good) (h .tied) (known-few (h .known) (h .place)) .row
+
+same-length : tie.Need-same-length
+same-length c = search needs
+
+same-length-2 : tie.Need-same-length-2
+same-length-2 c = search needs
+
+returns : tie.Need-returns
+returns c =
+    let p₁ = c .before .before in
+    let p₂ = p₁ .before .before .before .before in
+    let p₃ = p₂ .before .before in
+    let p₄ = p₃ .before in
+    defines-by (p₄ .define-fact .ensures) (p₃ .top-level .ensures) (p₂ .enter .ensures) (p₁ .store-information .ensures)
+
+pub enter-define-spec : {M : Type 1} → statement M
+enter-define-spec =
+    tie.close
+    (tie.spec
+    define-fact-requires
+    top-level-requires
+    enter-requires
+    store-information-requires
+    same-length
+    same-length-2
+    returns)

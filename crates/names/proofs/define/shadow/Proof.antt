@@ -1,0 +1,48 @@
+-- `shadow`: the newest entry's fact, if there is one.
+use Rattle.work.specs.WorksLaws.{spacious}
+use Rattle.names.proofs.KnownCase.{newest-bounds, told-at, told-none}
+use Rattle.names.proofs.DefineCase.{shadows-newest, shadows-none}
+use borrow.Author.Needs.{needs}
+use Rattle.names.proofs.define.shadow.Statement.{statement}
+use Rattle.names.proofs.define.shadow.Tie as tie
+
+newest-requires : tie.Need-newest-requires
+newest-requires c κs = spacious (c .before .before .pre .tied .works)
+
+enum-known-found : tie.Need-enum-known-found
+enum-known-found c = search needs
+
+enum-told : tie.Need-enum-told
+enum-told c = search needs
+
+returns : tie.Need-returns
+returns c = shadows-none (told-none (c .before .before .newest .ensures) (c .enum-told .given .1))
+
+shadow-if-builtin-requires : tie.Need-shadow-if-builtin-requires
+shadow-if-builtin-requires c κs =
+    let p₁ = c .before .before in
+    let p₂ = p₁ .before .before in
+    let start = p₂ .before .before .before in
+    newest-bounds (start .pre .good) (start .args .name) (start .pre .tied) (told-at (p₂ .newest .ensures) (p₁ .found .given .1)) .row
+
+same-length : tie.Need-same-length
+same-length c = search needs
+
+returns-2 : tie.Need-returns-2
+returns-2 c =
+    let p₁ = c .before .before in
+    let p₂ = p₁ .before .before .before in
+    let p₃ = p₂ .before .before in
+    shadows-newest (told-at (p₃ .newest .ensures) (p₂ .found .given .1)) (p₁ .shadow-if-builtin .ensures)
+
+pub shadow-spec : {M : Type 1} → statement M
+shadow-spec =
+    tie.close
+    (tie.spec
+    newest-requires
+    enum-known-found
+    enum-told
+    returns
+    shadow-if-builtin-requires
+    same-length
+    returns-2)

@@ -1,0 +1,29 @@
+-- `put_use`: the entry is stored, and its uses go to the binder's fact.
+use Rattle.names.proofs.ReadCase.{puts-use}
+use borrow.Author.Needs.{needs}
+use Rattle.names.proofs.read.put_use.Statement.{statement}
+use Rattle.names.proofs.read.put_use.Tie as tie
+
+store-entry-requires : tie.Need-store-entry-requires
+store-entry-requires c κs = search needs
+
+with-usage-count-requires : tie.Need-with-usage-count-requires
+with-usage-count-requires c κs = search needs
+
+same-length : tie.Need-same-length
+same-length c = search needs
+
+same-length-2 : tie.Need-same-length-2
+same-length-2 c = search needs
+
+returns : tie.Need-returns
+returns c =
+    let p₁ = c .before .before in
+    let p₂ = p₁ .before .before .before .before in
+    let start = p₂ .before .before .before .before in
+    puts-use (start .pre .1) (p₂ .store-entry .ensures) (p₁ .with-usage-count .ensures)
+
+pub put-use-spec : {M : Type 1} → statement M
+put-use-spec =
+    tie.close
+    (tie.spec store-entry-requires with-usage-count-requires same-length same-length-2 returns)

@@ -1,0 +1,4 @@
+pub mod Facts
+pub mod Rules
+pub mod Contract
+pub mod Steps

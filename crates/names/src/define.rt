@@ -1,0 +1,111 @@
+// A name enters the scope, and a define's fact is made.
+use crate::facts::mark_if_builtin;
+use crate::facts::mark_if_required;
+use crate::facts::status_at;
+use semantic::IdentifierStatus;
+use semantic::SemanticInformation;
+use walk::body::Body;
+use work::Pass;
+use work::entries::Entry;
+use work::scope::Binder;
+ghost use Prim.Native.Nat.{_<_};
+ghost use lib.ListN.{length};
+ghost use Rattle.tree.specs.Record.{records};
+ghost use Rattle.pass.specs.Run.{rowsMost};
+ghost use Rattle.work.specs.Scope.{KnownHere};
+ghost use Rattle.names.specs.Contract.{SomeState, Room, Enters, Defined, DefinesBy, EntersValue, Settable};
+ghost use Rattle.names.specs.Steps.{DefineFact, Shadows};
+
+// The name at the record enters the newest layer.
+pub fn enter(all: &[u32], at: usize, e: Entry, p: Pass, work: &mut [u32]) -> Pass
+    requires { ⌜ SomeState p (now work) × Room p × (at < length (records (now all))) × (at < rowsMost) × (e .uses < 536870912) ⌝ }
+    ensures { λ r. ⌜ Enters (now (all .entry)) at e p (now (work .entry)) r (now (work .exit)) ⌝ }
+{
+    let name = tree::record::name(all, at);
+    let q = work::notes::note_live(p, work, name, at);
+    let r = work::scope::define_name(q, work, name, at);
+    work::entries::store_entry(work, at, e);
+    r
+}
+
+fn define_fact(
+    all: &[u32],
+    at: usize,
+    kind: IdentifierStatus,
+    alias: u32,
+    b: Body,
+    p: Pass,
+    work: &[u32],
+) -> SemanticInformation
+    requires { ⌜ KnownHere (now all) p (now work) × (at < length (records (now all))) ⌝ }
+    ensures { λ r. ⌜ DefineFact b kind alias (now (all .entry)) at p (now (work .entry)) r ⌝ }
+{
+    let depth = p.depth();
+    let hidden = work::scope::newest_id(all, p, work, tree::record::name(all, at));
+    let i = SemanticInformation::new(
+        status_at(depth, kind),
+        depth,
+        crate::facts::span_at(all, at),
+    );
+    let j = mark_if_required(i, b.required);
+    let k = mark_if_builtin(j, b.builtin);
+    let l = k.shadows(hidden);
+    l.aliases_to(alias)
+}
+
+// A define enters, its name at this record.
+pub fn enter_define(
+    all: &[u32],
+    at: usize,
+    kind: IdentifierStatus,
+    alias: u32,
+    b: Body,
+    p: Pass,
+    facts: &mut [u32],
+    work: &mut [u32],
+) -> Pass
+    requires { ⌜ Room p × Defined (now all) at p (now facts) (now work) ⌝ }
+    ensures { λ r. ⌜ DefinesBy b kind alias (now (all .entry)) at p (now (facts .entry)) (now (work .entry)) r (now (facts .exit)) (now (work .exit)) ⌝ }
+{
+    let fact = define_fact(all, at, kind, alias, b, p, work);
+    let q = enter(all, at, Entry::top_level(), p, work);
+    semantic::rows::store_information(facts, at, fact);
+    q
+}
+
+// The fact of the name's newest entry is marked as shadowed, if it is a builtin's.
+fn shadow(name: u32, p: Pass, facts: &mut [u32], work: &[u32])
+    requires { ⌜ Settable p (now facts) (now work) ⌝ }
+    ensures { λ _. ⌜ Shadows name p (now (facts .entry)) (now (work .entry)) (now (facts .exit)) ⌝ }
+{
+    let found = work::scope::newest(p, work, name);
+    let Binder::At(hidden) = found else {
+        return;
+    };
+    semantic::amend::shadow_if_builtin(facts, hidden);
+}
+
+// A top-level value define marks the builtin that it hides.
+pub fn enter_top_level_value(
+    all: &[u32],
+    at: usize,
+    b: Body,
+    p: Pass,
+    facts: &mut [u32],
+    work: &mut [u32],
+) -> Pass
+    requires { ⌜ Room p × Defined (now all) at p (now facts) (now work) ⌝ }
+    ensures { λ r. ⌜ EntersValue b (now (all .entry)) at p (now (facts .entry)) (now (work .entry)) r (now (facts .exit)) (now (work .exit)) ⌝ }
+{
+    shadow(tree::record::name(all, at), p, facts, work);
+    enter_define(
+        all,
+        at,
+        IdentifierStatus::Global,
+        b.alias,
+        b,
+        p,
+        facts,
+        work,
+    )
+}

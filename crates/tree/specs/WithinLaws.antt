@@ -1,0 +1,99 @@
+-- Laws of records that stand in their place: the first of them, and what follows.
+use Prim.Native.Nat.{ℕ, _+_, _*_, _≤_, _<_}
+use mathlib.Core.List.{List, [], _∷_, _++_, append-assoc}
+use mathlib.Core.Bool.{true}
+use mathlib.Core.Path.{_≡_, refl, ap, sym, _∙_}
+use native.Mathlib.Omega.{arith}
+use native.Mathlib.Nat.{add-zero}
+use lib.ListN.{length, getD, drop, length-append, length-drop}
+use lib.Seq.{drop-drop, drop-at, getD-drop}
+use Rattle.table.specs.Layout.{layout}
+use Rattle.tree.specs.Record.{Record, width, numbers, records}
+use Rattle.tree.specs.RecordLaws.{blank, nth, length-records, records-drop}
+use Rattle.tree.specs.Form.{formOf, fits}
+use Rattle.tree.specs.Tree.{Ident, named}
+use Rattle.tree.specs.TreeLaws.{numbers-append, length-numbers}
+use Rattle.tree.specs.Build.{row}
+use Rattle.tree.specs.Accepted.{All}
+use Rattle.tree.specs.Stands.{Within}
+
+-- from record at + k on
+pub drop-records : (rs : List ℕ) (at k : ℕ) → drop (width * k) (drop (width * at) rs) ≡ drop (width * (at + k)) rs
+drop-records rs at k =
+    let e : width * at + width * k ≡ width * (at + k) = omega arith in
+    drop-drop (width * k) (width * at) rs ∙ ap (λ (n : ℕ). drop n rs) e
+
+records-append : (l : List Record) (m : List ℕ) → records (numbers l ++ m) ≡ l ++ records m
+unfolding records layout
+records-append [] m = refl
+records-append (r ∷ l) m = ap (λ (k : List Record). r ∷ k) (records-append l m)
+
+module _ {A : Type 0} (P : A → Type 0) where
+  pub all-front : (l m : List A) → All P (l ++ m) → All P l
+  all-front [] m p = tt
+  all-front (a ∷ l) m p = (p .0, all-front l m (p .1))
+
+  pub all-rest : (l m : List A) → All P (l ++ m) → All P m
+  all-rest [] m p = p
+  all-rest (a ∷ l) m p = all-rest l m (p .1)
+
+module _ {N : ℕ} {rs : List ℕ} {at : ℕ} where
+  pub records-at : {l : List Record} (w : Within N rs at l) → drop at (records rs) ≡ l ++ records (w .rest)
+  records-at {l} w = sym (records-drop rs at) ∙ ap records (w .is) ∙ records-append l (w .rest)
+
+  pub end-inside : {l : List Record} → Within N rs at l → at + length l ≤ length (records rs)
+  end-inside {l} w =
+      omega (
+        arith,
+        w .inside,
+        length-records rs,
+        length-drop at (records rs),
+        ap length (records-at w),
+        length-append l (records (w .rest)),
+      )
+
+  -- The records in front, and those after them
+  pub front : (l m : List Record) → Within N rs at (l ++ m) → Within N rs at l
+  front l m w = record {
+    rest = numbers m ++ w .rest;
+    is = w .is ∙ ap (λ (k : List ℕ). k ++ w .rest) (numbers-append l m) ∙ append-assoc (numbers l) (numbers m) (w .rest);
+    inside = w .inside;
+    fields = all-front (λ r. fits N r ≡ true) l m (w .fields);
+    few = omega (arith, w .few, length-append l m);
+  }
+
+  pub following : (l m : List Record) {k : ℕ} → length l ≡ k → Within N rs at (l ++ m) → Within N rs (at + k) m
+  unfolding front
+  following l m {k} e w =
+      let f = front l m w in
+      record {
+        rest = w .rest;
+        is = sym (drop-records rs at k)
+            ∙ ap (drop (width * k)) (f .is)
+            ∙ drop-at (numbers l) (numbers m ++ w .rest) (width * k) (omega (arith, length-numbers l));
+        inside = omega (arith, end-inside f, length-records rs);
+        fields = all-rest (λ r. fits N r ≡ true) l m (w .fields);
+        few = omega (arith, w .few, length-append l m);
+      }
+
+  -- The first record
+  module _ {r : Record} {l : List Record} (w : Within N rs at (r ∷ l)) where
+    pub first : nth rs at ≡ r
+    first =
+        ap (λ (n : ℕ). getD (records rs) n blank) (sym (add-zero at))
+        ∙ sym (getD-drop at (records rs) 0 blank)
+        ∙ ap (λ (k : List Record). getD k 0 blank) (records-at w)
+
+    pub first-inside : at < length (records rs)
+    first-inside = omega (arith, end-inside w)
+
+    pub first-few : at < 4096
+    first-few = omega (arith, w .few)
+
+    pub later : Within N rs (at + 1) l
+    later = following (r ∷ []) l refl w
+
+-- the name of a record of form 1 is one of the N
+pub name-below : (N : ℕ) (x : Ident) → fits N (named x) ≡ true → x .name < N
+unfolding fits formOf
+name-below N x e = row N (named x) (formOf 1) e .0

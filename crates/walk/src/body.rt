@@ -1,0 +1,75 @@
+// What the body of a define says of its name.
+use semantic::NONE;
+use table::wide;
+ghost use mathlib.Core.Path.{_≡_};
+ghost use mathlib.Core.List.{List};
+ghost use mathlib.Core.Bool.{false};
+ghost use Prim.Native.Nat.{ℕ, _<_};
+ghost use lib.ListN.{length, getD};
+ghost use Rattle.pass.specs.Read.{isClass};
+ghost use Rattle.tree.specs.RecordLaws.{nth};
+ghost use Rattle.walk.specs.Contract.{SomeTreeOf, TellsIdent, TellsBuiltin, TellsBody};
+
+pub struct Body {
+    pub builtin: bool,
+    pub required: bool,
+    pub alias: u32,
+    pub lambda: bool,
+}
+
+pub fn is_class(classes: &[u8], name: u32, k: u8) -> bool
+    requires { ⌜ (name < length (now classes)) × (0 < k) ⌝ }
+    ensures { λ r. ⌜ r ≡ isClass k (getD (now (classes .entry)) name 0) ⌝ }
+{
+    let c = classes[wide(name)];
+    c / k % 2 == 1
+}
+
+// Whether the tree at the record is an identifier of the class k.
+fn is_ident_of(classes: &[u8], all: &[u32], at: usize, k: u8) -> bool
+    requires { ⌜ SomeTreeOf (length (now classes)) (now all) at × (0 < k) ⌝ }
+    ensures { λ r. ⌜ TellsIdent (now (classes .entry)) k (now (all .entry)) at r ⌝ }
+{
+    tree::record::form(all, at) == 1 && is_class(classes, tree::record::name(all, at), k)
+}
+
+// `is_a_builtin_definition`, of a call.
+fn is_builtin(classes: &[u8], all: &[u32], at: usize) -> bool
+    requires { ⌜ SomeTreeOf (length (now classes)) (now all) at × (nth (now all) at .form ≡ 8) ⌝ }
+    ensures { λ r. ⌜ TellsBuiltin (now (classes .entry)) (now (all .entry)) at r ⌝ }
+{
+    if tree::record::count(all, at) <= 1 {
+        return false;
+    }
+    is_ident_of(classes, all, at + 1, 2) && is_ident_of(classes, all, at + 2, 4)
+}
+
+fn plain_body(alias: u32, lambda: bool) -> Body
+    ensures { λ r. ⌜ r ≡ record { builtin = false; required = false; alias = alias; lambda = lambda } ⌝ }
+{
+    Body {
+        builtin: false,
+        required: false,
+        alias,
+        lambda,
+    }
+}
+
+// The body at the record. `is_a_require_definition` is of a call's head.
+pub fn body_at(classes: &[u8], all: &[u32], at: usize) -> Body
+    requires { ⌜ SomeTreeOf (length (now classes)) (now all) at ⌝ }
+    ensures { λ r. ⌜ TellsBody (now (classes .entry)) (now (all .entry)) at r ⌝ }
+{
+    let form = tree::record::form(all, at);
+    match form {
+        1 => plain_body(tree::record::id(all, at), false),
+        6 => plain_body(NONE, true),
+        8 => Body {
+            builtin: is_builtin(classes, all, at),
+            required: is_ident_of(classes, all, at + 1, 8),
+            alias: NONE,
+            lambda: false,
+        },
+        _ => plain_body(NONE, false),
+    }
+}

@@ -1,0 +1,18 @@
+// How many records a tree has.
+ghost use mathlib.Core.List.{List};
+ghost use Prim.Native.Nat.{ℕ};
+ghost use Rattle.walk.specs.Contract.{SomeTree, Extends};
+
+pub fn extent_at(all: &[u32], at: usize) -> usize
+    requires { ⌜ SomeTree (now all) at ⌝ }
+    ensures { λ r. ⌜ Extends (now (all .entry)) at r ⌝ }
+{
+    let n = tree::record::len(all);
+    let mut open = 1;
+    let mut i = at;
+    while 0 < open && i < n {
+        open = open - 1 + tree::record::children(all, i);
+        i += 1;
+    }
+    i - at
+}

@@ -1,0 +1,87 @@
+// Which names the records of an expression use, and whether a lambda stands among them.
+ghost use mathlib.Core.Path.{_≡_};
+ghost use mathlib.Core.List.{List};
+ghost use Prim.Native.Nat.{ℕ, _<_};
+ghost use lib.ListN.{length};
+ghost use Rattle.tree.specs.Record.{records};
+ghost use Rattle.tree.specs.RecordLaws.{nth};
+ghost use Rattle.walk.specs.Bound.{isNamed, boundBy};
+ghost use Rattle.walk.specs.Contract.{SomeBody, UsesName, HoldsLambda, SomeNames, HoldsName};
+
+// Names of a lambda or a let: the record of the first, and how many.
+pub struct Names {
+    pub first: usize,
+    pub count: usize,
+}
+
+// Whether one of the names is x.
+pub fn holds(all: &[u32], names: Names, x: u32) -> bool
+    requires { ⌜ SomeNames (now all) names ⌝ }
+    ensures { λ r. ⌜ HoldsName (now (all .entry)) names x r ⌝ }
+{
+    let first = names.first;
+    let mut i = 0;
+    while i < names.count {
+        if tree::record::name(all, first + i) == x {
+            return true;
+        }
+        i += 1;
+    }
+    false
+}
+
+// Whether the record is an identifier of the name.
+fn is_named(all: &[u32], i: usize, name: u32) -> bool
+    requires { ⌜ i < length (records (now all)) ⌝ }
+    ensures { λ r. ⌜ r ≡ isNamed name (nth (now (all .entry)) i) ⌝ }
+{
+    tree::record::form(all, i) == 1 && name == tree::record::name(all, i)
+}
+
+// How many names the record binds, which stand right after it.
+fn bound(all: &[u32], i: usize) -> usize
+    requires { ⌜ i < length (records (now all)) ⌝ }
+    ensures { λ r. ⌜ r ≡ boundBy (nth (now (all .entry)) i) ⌝ }
+{
+    let form = tree::record::form(all, i);
+    if form == 9 {
+        return 0;
+    }
+    tree::form::names(form, tree::record::count(all, i))
+}
+
+// Whether an identifier of the name is read or set in the records from `first` up to `end`. Names that are bound are passed by, but the
+// target of a set! is a use.
+pub fn uses_name(all: &[u32], first: usize, end: usize, name: u32) -> bool
+    requires { ⌜ SomeBody (now all) first end ⌝ }
+    ensures { λ r. ⌜ UsesName (now (all .entry)) first end name r ⌝ }
+{
+    let mut due = 0;
+    let mut i = first;
+    while i < end {
+        if due == 0 {
+            if is_named(all, i, name) {
+                return true;
+            }
+            due = bound(all, i);
+        } else {
+            due -= 1;
+        }
+        i += 1;
+    }
+    false
+}
+
+pub fn holds_lambda(all: &[u32], first: usize, end: usize) -> bool
+    requires { ⌜ SomeBody (now all) first end ⌝ }
+    ensures { λ r. ⌜ HoldsLambda (now (all .entry)) first end r ⌝ }
+{
+    let mut i = first;
+    while i < end {
+        if tree::record::form(all, i) == 6 {
+            return true;
+        }
+        i += 1;
+    }
+    false
+}

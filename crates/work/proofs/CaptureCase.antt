@@ -1,0 +1,106 @@
+-- The captures, against the map of the code and their rows.
+use Prim.Native.Nat.{ℕ, _+_, _*_, _/_, _%_, _≤_, _<_}
+use mathlib.Core.List.{List, [], _∷_}
+use mathlib.Core.Option.{some}
+use mathlib.Core.Path.{_≡_, ap, sym, subst, _∙_}
+use native.Mathlib.Omega.{arith}
+use lib.ListN.{length, getD, set}
+use Rattle.table.specs.Region.{region}
+use Rattle.table.specs.RegionLaws.{set-region, set-elsewhere, elsewhere-same, elsewhere-wider}
+use Rattle.tree.specs.Tree.{bit}
+use Rattle.scope_map.specs.ScopeMap.{Live, pushLayer, popLayer, getIn}
+use Rattle.scope_map.specs.MapLaws.{mapValues, map-popLayer}
+use Rattle.scope_map.specs.Held.{Gets}
+use Rattle.scope_map.specs.Held as map
+use Rattle.scope_map.specs.declared.ScopeMap.{ScopeMap as Map}
+use Rattle.scope_map.specs.declared.Found.{Found}
+use Rattle.semantic.specs.Numbers.{bit-one}
+use Rattle.semantic.specs.Marks.{bit-low}
+use Rattle.pass.specs.State.{Capture}
+use Rattle.pass.specs.Lambda.{closeCaptures}
+use Rattle.pass.specs.Run.{itemsMost}
+use Rattle.pass.specs.Read.{usedCapture, useIn}
+use Rattle.work.specs.Coded.{takenOf, takenWidth, putTaken}
+use Rattle.work.specs.Works.{workLong, capturesFirst, capturesLength, takenFirst, takenLength, rowOf}
+use Rattle.work.specs.WorksLaws.{part-length}
+use Rattle.work.specs.Passes.{inCaptures}
+use Rattle.work.specs.Leaves.{Becomes}
+use Rattle.work.specs.Captures.{takenIn, opened, GetsCapture, LoadsTaken, UsesCapture}
+use Rattle.work.specs.CapturesLaws.{found-below, taken-found, taken-uses}
+use Rattle.work.specs.declared.Pass.{Pass}
+use Rattle.work.specs.declared.captures.Taken.{Taken}
+use Rattle.work.proofs.Changes.{captures-changed}
+use Rattle.work.proofs.CaptureRows.{taken-pop, use-rows, taken-use}
+
+-- What is told
+
+pub capture-gets : {p : Pass} {w : List ℕ} {x : ℕ} {f : Found} → Gets (p .captures) (region w capturesFirst capturesLength) x f → GetsCapture p w x f
+capture-gets g = record { is = λ s k. g .row (mapValues rowOf (s .captures)) (k .captures) }
+
+taken-back : (t : Taken) → takenIn (putTaken t) ≡ t
+unfolding takenIn putTaken
+taken-back t =
+    let n = 2 * t .uses + bit (t .enclosing) in
+    let a : n / 2 ≡ t .uses = omega (arith, bit-low (t .enclosing)) in
+    let b : n % 2 ≡ bit (t .enclosing) = omega (arith, bit-low (t .enclosing)) in
+    rw (a, b, bit-one (t .enclosing))
+
+pub loads-taken : (w : List ℕ) (i : ℕ) {row : List ℕ} {r : Taken} → row ≡ region (region w takenFirst takenLength) (takenWidth * i) takenWidth
+    → r ≡ takenIn row → LoadsTaken w i r
+loads-taken w i e q = record {
+  is = λ p s x d v c k f g.
+      q ∙ ap takenIn (e ∙ taken-found (region w takenFirst takenLength) (s .captures .live) (k .taken) x f g) ∙ taken-back (takenOf (c .value));
+}
+
+-- A layer opens, or goes: the table stays
+
+module _ {p : Pass} {w : List ℕ} {m : Map} where
+  pub captures-open : map.Becomes (p .captures) (region w capturesFirst capturesLength) pushLayer m (region w capturesFirst capturesLength)
+      → Becomes p w opened (inCaptures m p) w
+  captures-open b = record {
+    is = λ s k. captures-changed k m (pushLayer (s .captures)) elsewhere-same (b .held (mapValues rowOf (s .captures)) (k .captures)) (k .taken);
+  }
+
+  pub captures-close : map.Becomes (p .captures) (region w capturesFirst capturesLength) popLayer m (region w capturesFirst capturesLength)
+      → Becomes p w closeCaptures (inCaptures m p) w
+  unfolding closeCaptures
+  captures-close b = record {
+    is = λ s k.
+        captures-changed k m (popLayer (s .captures)) elsewhere-same
+        (rw (map-popLayer rowOf (s .captures)) (b .held (mapValues rowOf (s .captures)) (k .captures)))
+        (taken-pop (region w takenFirst takenLength) (s .captures) (k .taken));
+  }
+
+-- One use more
+
+module _ (w : List ℕ) (i : ℕ) (z : length w ≡ workLong) (h : i < itemsMost) where
+  uses-at : UsesCapture w i (set w (takenFirst + (3 * i + 2)) (getD w (takenFirst + (3 * i + 2)) 0 + 2))
+  unfolding putTaken
+  uses-at =
+      let v = getD w (takenFirst + (3 * i + 2)) 0 + 2 in
+      let t = region w takenFirst takenLength in
+      let l : length t ≡ takenLength = part-length w z takenFirst takenLength (omega arith) in
+      let b : takenFirst + takenLength ≤ length w = omega arith in
+      let j : 3 * i + 2 < takenLength = omega arith in
+      let q : 3 * i + 3 ≤ length t = omega arith in
+      let e = set-elsewhere w takenFirst takenLength b (3 * i + 2) v j in
+      record {
+        is = λ p s x d n k f.
+            let m = s .captures .live in
+            let row : (c : Live Capture) → getIn m x ≡ some c → region (set t (3 * i + 2) v) (3 * i) 3 ≡ putTaken (takenOf (usedCapture (c .value))) =
+            λ c g.
+            let a : takenFirst + 3 * i + 2 ≡ takenFirst + (3 * i + 2) = omega arith in
+            let u = ap (λ (k : ℕ). getD w k 0) (sym a) ∙ taken-uses k x (found-below m x f) f g in
+            set-region t (3 * i) 3 q 2 v (omega arith)
+            ∙ ap (λ (r : List ℕ). set r 2 v) (taken-found t m (k .taken) x f g)
+            ∙ ap (λ (n : ℕ). c .value .binder .at ∷ c .value .binder .id ∷ n ∷ []) (omega (arith, u)) in
+            captures-changed k (p .captures) (record { depth = s .captures .depth; live = useIn x m }) (elsewhere-wider (omega arith) (omega arith) e)
+            (rw (e .before capturesFirst capturesLength (omega arith), use-rows x m) (k .captures))
+            (rw (set-region w takenFirst takenLength b (3 * i + 2) v j)
+            (taken-use t (set t (3 * i + 2) v) i x (set-elsewhere t (3 * i) 3 q 2 v (omega arith)) m f row (k .taken)));
+      }
+
+  pub uses-capture : UsesCapture w i (set w (takenFirst + 3 * i + 2) (getD w (takenFirst + 3 * i + 2) 0 + 2))
+  uses-capture =
+      let a : takenFirst + (3 * i + 2) ≡ takenFirst + 3 * i + 2 = omega arith in
+      subst (λ (n : ℕ). UsesCapture w i (set w n (getD w n 0 + 2))) a uses-at

@@ -1,0 +1,9 @@
+pub mod PassCase
+pub mod Changes
+pub mod EntryCase
+pub mod ScopeCase
+pub mod NoteCase
+pub mod CaptureRows
+pub mod CaptureCase
+pub mod CaptureDefine
+pub mod BinderCase

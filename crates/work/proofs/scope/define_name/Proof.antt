@@ -1,0 +1,38 @@
+-- `define_name`: the map of records has the name, and the rest of the table stays.
+use Rattle.work.proofs.ScopeCase.{names-length, defines}
+use native.Mathlib.Omega.{arith}
+use borrow.Author.Needs.{needs}
+use Rattle.work.proofs.scope.define_name.Statement.{statement}
+use Rattle.work.proofs.scope.define_name.Tie as tie
+
+narrow-requires : tie.Need-narrow-requires
+narrow-requires c κs = search needs
+
+slice-relend-prefix-define : tie.Need-slice-relend-prefix-define
+slice-relend-prefix-define c = search needs
+
+slice-aggregate-define : tie.Need-slice-aggregate-define
+slice-aggregate-define c = names-length (c .before .before .before .before .pre .0)
+
+define-requires : tie.Need-define-requires
+define-requires c κs = omega (arith, names-length (c .before .before .before .before .pre .0), c .before .before .before .before .pre .1)
+
+same-length : tie.Need-same-length
+same-length c = search needs
+
+returns : tie.Need-returns
+returns c =
+    let d = c .before .before .define in
+    defines (c .before .before .before .before .before .before .before .pre .0) (d .kept .1 .0)
+    (c .before .before .before .before .narrow .ensures) (d .ensures)
+
+pub define-name-spec : {M : Type 1} → statement M
+define-name-spec =
+    tie.close
+    (tie.spec
+    narrow-requires
+    slice-relend-prefix-define
+    slice-aggregate-define
+    define-requires
+    same-length
+    returns)

@@ -1,0 +1,81 @@
+-- What the code holds of an entry, of a capture and of a refusal; and their rows of the work table.
+use Prim.Native.Nat.{ℕ, suc, _+_, _*_}
+use mathlib.Core.List.{List, [], _∷_}
+use mathlib.Core.Option.{Option, none, some}
+use mathlib.Core.Path.{_≡_, refl}
+use lib.ListN.{length}
+use Rattle.tree.specs.Tree.{Ident, bit}
+use Rattle.tree.specs.Check.{Refusal}
+use Rattle.semantic.specs.Rows.{Item}
+use Rattle.pass.specs.State.{Entry, Capture}
+use Rattle.work.specs.declared.entries.Entry.{Entry as Coded}
+use Rattle.work.specs.declared.captures.Taken.{Taken}
+use Rattle.work.specs.declared.Noted.{Noted}
+use Rattle.work.specs.declared.Noted.the-variants as noted
+use Rattle.work.specs.declared.Second.{Second}
+use Rattle.work.specs.declared.Second.the-variants as second
+use Rattle.work.specs.declared.scope.Binder.{Binder}
+use Rattle.work.specs.declared.scope.Binder.the-variants as binder
+
+-- the record of an identifier, counted from 1; 0 is none
+abbrev pub lastCode : Option Ident → ℕ
+lastCode none = 0
+lastCode (some x) = suc (x .at)
+
+abbrev pub coded : Entry → Coded
+coded e = record {
+  captured = e .captured;
+  mutated = e .mutated;
+  uses = e .usageCount;
+  last = lastCode (e .lastUsed);
+  slot = e .stackOffset;
+  heap = e .heapOffset;
+  depth = e .depth;
+}
+
+abbrev pub entryWidth : ℕ
+entryWidth = 5
+
+unfoldable pub putCoded : Coded → List ℕ
+putCoded e = (bit (e .captured) + 2 * bit (e .mutated) + 4 * e .uses) ∷ e .last ∷ e .slot ∷ e .heap ∷ e .depth ∷ []
+
+abbrev pub putEntryRow : Entry → List ℕ
+putEntryRow e = putCoded (coded e)
+
+pub entry-long : (e : Entry) → length (putEntryRow e) ≡ entryWidth
+unfolding putCoded
+entry-long e = refl
+
+abbrev pub takenOf : Capture → Taken
+takenOf c = record { binder = c .binder .at; id = c .binder .id; uses = c .usageCount; enclosing = c .fromEnclosing }
+
+abbrev pub takenWidth : ℕ
+takenWidth = 3
+
+unfoldable pub putTaken : Taken → List ℕ
+putTaken t = t .binder ∷ t .id ∷ (2 * t .uses + bit (t .enclosing)) ∷ []
+
+-- of a captured entry, its binder's record
+abbrev pub putBinder : Item → List ℕ
+putBinder i = i .binder .at ∷ []
+
+-- Options
+
+abbrev pub notedOf : Noted → Option ℕ
+notedOf (noted.At i) = some i
+notedOf noted.Nothing = none
+
+abbrev pub refusalAt : ℕ → ℕ → Refusal
+refusalAt n i = record { number = n; at = i }
+
+abbrev pub secondOf : Second → Option Refusal
+secondOf (second.At n i) = some (refusalAt n i)
+secondOf second.Nothing = none
+
+abbrev pub recordIn : Option Ident → Option ℕ
+recordIn none = none
+recordIn (some x) = some (x .at)
+
+abbrev pub recordOf : Binder → Option ℕ
+recordOf (binder.At i) = some i
+recordOf binder.Nothing = none

@@ -1,0 +1,15 @@
+pub mod Known
+pub mod Coded
+pub mod Works
+pub mod Passes
+pub mod Entries
+pub mod Leaves
+pub mod Scope
+pub mod Captures
+pub mod WorksLaws
+pub mod ScopeLaws
+pub mod WorksKept
+pub mod CapturesLaws
+pub mod Start
+pub mod Tied
+pub mod TiedLaws

@@ -1,0 +1,49 @@
+-- The tables and what is threaded beside them hold a state; and what of a state keeps the code inside its tables.
+use Prim.Native.Nat.{ℕ}
+use mathlib.Core.List.{List}
+use mathlib.Core.Path.{_≡_}
+use lib.ListN.{length}
+use Rattle.table.specs.Layout.{layout}
+use Rattle.tree.specs.Tree.{Ident}
+use Rattle.semantic.specs.Rows.{putRow, putItem}
+use Rattle.pass.specs.State.{State}
+use Rattle.pass.specs.Sound.{Sound, Counted}
+use Rattle.pass.specs.Run.{rowsMost, itemsMost}
+use Rattle.work.specs.Known.{Known}
+use Rattle.work.specs.Works.{Works}
+use Rattle.work.specs.declared.Pass.{Pass}
+
+-- what the code holds
+pub record Raw : Type 0 where
+  pub pass : Pass
+  pub facts : List ℕ
+  pub captured : List ℕ
+  pub arguments : List ℕ
+  pub work : List ℕ
+
+abbrev pub raw : Pass → List ℕ → List ℕ → List ℕ → List ℕ → Raw
+raw p f c a w = record { pass = p; facts = f; captured = c; arguments = a; work = w }
+
+pub record Tied (z : Raw) (s : State) : Type 0 where
+  pub facts : z .facts ≡ layout putRow (s .facts .rows)
+  pub captured : z .captured ≡ layout putItem (s .facts .captured)
+  pub arguments : z .arguments ≡ layout putItem (s .facts .arguments)
+  pub works : Works (z .pass) (z .work) s
+
+-- no count of uses comes near what a number can hold
+abbrev pub usesMost : ℕ
+usesMost = 268435456
+
+-- the identifiers are the tree's, the tables have their lengths, and the counts are small
+pub record Good (rs : List ℕ) (s : State) : Type 0 where
+  pub rows : length (s .facts .rows) ≡ rowsMost
+  pub arguments : length (s .facts .arguments) ≡ itemsMost
+  pub sound : Sound (Known rs) s
+  pub counted : Counted usesMost s
+
+-- the record at holds the identifier x
+pub record Here (rs : List ℕ) (at : ℕ) (z : Raw) (s : State) (x : Ident) : Type 0 where
+  pub known : Known rs x
+  pub place : x .at ≡ at
+  pub good : Good rs s
+  pub tied : Tied z s

@@ -1,0 +1,79 @@
+-- Changes of a state that the work table does not see.
+use Prim.Native.Nat.{ℕ, zero, suc}
+use mathlib.Core.List.{List, [], _∷_}
+use mathlib.Core.Path.{_≡_, refl, ap, sym, _∙_}
+use lib.ListN.{getD, set}
+use Rattle.table.specs.Layout.{layout}
+use Rattle.semantic.specs.Rows.{Row, Item, noItem}
+use Rattle.semantic.specs.declared.SemanticInformation.{SemanticInformation}
+use Rattle.pass.specs.State.{Facts, State, withFacts, withContext, withCaptured, itemAt, insert, amend}
+use Rattle.work.specs.Coded.{putBinder}
+use Rattle.work.specs.Works.{Beside, besidePass, besideState, Works}
+use Rattle.work.specs.Passes.{inContext, withTops}
+use Rattle.work.specs.declared.Pass.{Pass}
+
+binder-same : (l : List Item) (r : ℕ) (x : Item) → x .binder .at ≡ getD l r noItem .binder .at → layout putBinder (set l r x) ≡ layout putBinder l
+unfolding layout
+binder-same [] r x e = refl
+binder-same (i ∷ l) zero x e = ap (λ (n : ℕ). n ∷ layout putBinder l) e
+binder-same (i ∷ l) (suc r) x e = ap (λ (m : List ℕ). i .binder .at ∷ m) (binder-same l r x e)
+
+module _ {p : Pass} {w : List ℕ} {s : State} (k : Works p w s) where
+  -- what is threaded beside the table may change with the state
+  pub works-as : (q : Pass) (t : State) → q .scope ≡ p .scope → q .captures ≡ p .captures → t .scope ≡ s .scope → t .captures ≡ s .captures
+      → t .facts .captured ≡ s .facts .captured → besidePass q ≡ besideState t → Works q w t
+  works-as q t a b c d e f = record {
+    long = k .long;
+    names = rw (a, c) (k .names);
+    entries = rw c (k .entries);
+    captures = rw (b, d) (k .captures);
+    taken = rw d (k .taken);
+    binders = rw e (k .binders);
+    beside = f;
+  }
+
+  pub insert-kept : (i : ℕ) (r : Row) → Works p w (insert i r s)
+  unfolding insert
+  insert-kept i r = works-as p (insert i r s) refl refl refl refl refl (k .beside)
+
+  pub amend-kept : (f : SemanticInformation → SemanticInformation) (i : ℕ) → Works p w (amend f i s)
+  unfolding insert amend
+  amend-kept f i = works-as p (amend f i s) refl refl refl refl refl (k .beside)
+
+  pub context-kept : (c : ℕ) → Works (inContext c p) w (withContext c s)
+  context-kept c = works-as (inContext c p) (withContext c s) refl refl refl refl refl (ap (λ (b : Beside). record {
+    context = c;
+    capturedTop = b .capturedTop;
+    argumentsTop = b .argumentsTop;
+    nine = b .nine;
+    ten = b .ten;
+    second = b .second;
+  }) (k .beside))
+
+  -- other captured entries, with the same binders
+  pub items-kept : (l : List Item) → layout putBinder l ≡ layout putBinder (s .facts .captured) → Works p w (withCaptured l s)
+  items-kept l e = record {
+    long = k .long;
+    names = k .names;
+    entries = k .entries;
+    captures = k .captures;
+    taken = k .taken;
+    binders = k .binders ∙ sym e;
+    beside = k .beside;
+  }
+
+  -- the entry in row r is another, with the same binder's record
+  pub item-kept : (r : ℕ) (x : Item) → x .binder .at ≡ itemAt s r .binder .at → Works p w (withCaptured (set (s .facts .captured) r x) s)
+  item-kept r x e = items-kept (set (s .facts .captured) r x) (binder-same (s .facts .captured) r x e)
+
+  -- other facts, with the same captured entries
+  pub facts-kept : (f : Facts) → f .captured ≡ s .facts .captured → Works (withTops (f .capturedTop) (f .argumentsTop) p) w (withFacts f s)
+  facts-kept f e =
+      works-as (withTops (f .capturedTop) (f .argumentsTop) p) (withFacts f s) refl refl refl refl e (ap (λ (b : Beside). record {
+        context = b .context;
+        capturedTop = f .capturedTop;
+        argumentsTop = f .argumentsTop;
+        nine = b .nine;
+        ten = b .ten;
+        second = b .second;
+      }) (k .beside))

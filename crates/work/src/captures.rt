@@ -1,0 +1,168 @@
+// The captures of a second run, by name. The value of a name is a row of the captured entries.
+use crate::BINDERS;
+use crate::CAPTURES;
+use crate::Pass;
+use crate::TAKEN;
+use crate::WORK;
+use crate::narrow;
+use scope_map::Found;
+use table::wide;
+ghost use mathlib.Core.Path.{_≡_};
+ghost use mathlib.Core.List.{List};
+ghost use Prim.Native.Nat.{ℕ, _+_, _*_, _≤_, _<_};
+ghost use lib.ListN.{length, getD};
+ghost use Rattle.table.specs.Region.{region};
+ghost use Rattle.scope_map.specs.Held.{Places};
+ghost use Rattle.pass.specs.Run.{itemsMost};
+ghost use Rattle.pass.specs.Lambda.{closeCaptures};
+ghost use Rattle.work.specs.Coded.{putTaken};
+ghost use Rattle.work.specs.Works.{Spacious, workLong, capturesFirst, capturesLength, takenFirst};
+ghost use Rattle.work.specs.Leaves.{Becomes};
+ghost use Rattle.work.specs.Captures.{takenIn, opened, GetsCapture, LoadsTaken, UsesCapture, DefinesRow, takenPut, DefinesCapture, TellsBinder, StoresBinder};
+
+// What is known of a capture beside the row that it stands for: the record and the id of its binder, its uses, and whether the lambda
+// around takes the name too.
+pub struct Taken {
+    pub binder: u32,
+    pub id: u32,
+    pub uses: u32,
+    pub enclosing: bool,
+}
+
+fn taken_row(t: Taken) -> [u32; 3]
+    requires { ⌜ t .uses < 2147483647 ⌝ }
+    ensures { λ r. ⌜ r ≡ putTaken t ⌝ }
+{
+    [t.binder, t.id, 2 * t.uses + t.enclosing as u32]
+}
+
+fn taken_of(row: [u32; 3]) -> Taken
+    ensures { λ r. ⌜ r ≡ takenIn row ⌝ }
+{
+    let last = row[2];
+    Taken {
+        binder: row[0],
+        id: row[1],
+        uses: last / 2,
+        enclosing: last % 2 == 1,
+    }
+}
+
+// The newest capture of the name: its place, its layer, and its row of the captured entries.
+pub fn newest_capture(p: Pass, work: &[u32], name: u32) -> Found
+    requires { ⌜ Spacious p (now work) ⌝ }
+    ensures { λ r. ⌜ GetsCapture p (now (work .entry)) name r ⌝ }
+{
+    let captures = p.captures;
+    let start = CAPTURES;
+    let end = TAKEN;
+    captures.get(&work[start..end], name)
+}
+
+pub fn load_taken(work: &[u32], place: usize) -> Taken
+    requires { ⌜ (length (now work) ≡ workLong) × (place < itemsMost) ⌝ }
+    ensures { λ r. ⌜ LoadsTaken (now (work .entry)) place r ⌝ }
+{
+    let start = TAKEN;
+    let end = BINDERS;
+    let part = &work[start..end];
+    let mut row = [0; 3];
+    table::get(part, 3 * place, &mut row);
+    taken_of(row)
+}
+
+// One use more of the capture at the place.
+pub fn use_capture(work: &mut [u32], place: usize)
+    requires { ⌜ (length (now work) ≡ workLong) × (place < itemsMost) × (getD (now work) (takenFirst + 3 * place + 2) 0 < 4294967294) ⌝ }
+    ensures { λ _. ⌜ UsesCapture (now (work .entry)) place (now (work .exit)) ⌝ }
+{
+    let i = TAKEN + 3 * place + 2;
+    work[i] = work[i] + 2;
+}
+
+// The place of the capture that defining the name writes.
+fn capture_place(p: Pass, work: &[u32], name: u32) -> usize
+    requires { ⌜ Spacious p (now work) ⌝ }
+    ensures { λ r. ⌜ Places (p .captures) (region (now (work .entry)) capturesFirst capturesLength) name r ⌝ }
+{
+    let captures = p.captures;
+    let start = CAPTURES;
+    let end = TAKEN;
+    captures.place(&work[start..end], name)
+}
+
+// The map alone: what is known of the capture is not written yet.
+fn define_row(p: Pass, work: &mut [u32], name: u32, r: usize) -> Pass
+    requires { ⌜ Spacious p (now work) × (3 * p .captures .length + 3 ≤ capturesLength) × (r < itemsMost) ⌝ }
+    ensures { λ q. ⌜ DefinesRow p (now (work .entry)) name r q (now (work .exit)) ⌝ }
+{
+    let captures = p.captures;
+    let start = CAPTURES;
+    let end = TAKEN;
+    let row = narrow(r);
+    let more = captures.define(&mut work[start..end], name, row);
+    let mut q = p;
+    q.captures = more;
+    q
+}
+
+fn put_taken(work: &mut [u32], place: usize, t: Taken)
+    requires { ⌜ (length (now work) ≡ workLong) × (place < itemsMost) × (t .uses < 2147483647) ⌝ }
+    ensures { λ _. ⌜ now (work .exit) ≡ takenPut (now (work .entry)) place t ⌝ }
+{
+    let row = taken_row(t);
+    let start = TAKEN;
+    let end = BINDERS;
+    table::put(&mut work[start..end], 3 * place, &row);
+}
+
+// The captured entry in row r is the name's newest capture.
+pub fn define_capture(p: Pass, work: &mut [u32], name: u32, r: usize, t: Taken) -> Pass
+    requires { ⌜ Spacious p (now work) × (3 * p .captures .length + 3 ≤ capturesLength) × (r < itemsMost) × (t .uses < 2147483647) ⌝ }
+    ensures { λ q. ⌜ DefinesCapture p (now (work .entry)) name r t q (now (work .exit)) ⌝ }
+{
+    let place = capture_place(p, work, name);
+    let q = define_row(p, work, name, r);
+    put_taken(work, place, t);
+    q
+}
+
+pub fn open_captures(p: Pass) -> Pass
+    requires { ⌜ p .captures .depth < 4294967295 ⌝ }
+    ensures { λ r. ⌜ ((w : List ℕ) → Becomes p w opened r w) ⌝ }
+{
+    let captures = p.captures;
+    let more = captures.push_layer();
+    let mut q = p;
+    q.captures = more;
+    q
+}
+
+pub fn close_captures(p: Pass, work: &[u32]) -> Pass
+    requires { ⌜ Spacious p (now work) ⌝ }
+    ensures { λ r. ⌜ Becomes p (now (work .entry)) closeCaptures r (now (work .entry)) ⌝ }
+{
+    let captures = p.captures;
+    let start = CAPTURES;
+    let end = TAKEN;
+    let fewer = captures.pop_layer(&work[start..end]);
+    let mut q = p;
+    q.captures = fewer;
+    q
+}
+
+// The binder's record of the captured entry in row r.
+pub fn binder_at(work: &[u32], r: usize) -> usize
+    requires { ⌜ (length (now work) ≡ workLong) × (r < itemsMost) ⌝ }
+    ensures { λ b. ⌜ TellsBinder (now (work .entry)) r b ⌝ }
+{
+    wide(work[BINDERS + r])
+}
+
+pub fn set_binder(work: &mut [u32], r: usize, b: usize)
+    requires { ⌜ (length (now work) ≡ workLong) × (r < itemsMost) × (b < 4294967296) ⌝ }
+    ensures { λ _. ⌜ StoresBinder (now (work .entry)) r b (now (work .exit)) ⌝ }
+{
+    let value = narrow(b);
+    work[BINDERS + r] = value;
+}

@@ -1,0 +1,88 @@
+// What the pass works on beside the facts: the live names, what is known of each, the captures, and what is noted.
+use scope_map::ScopeMap;
+use semantic::NONE;
+ghost use mathlib.Core.Path.{_≡_};
+ghost use Prim.Native.Nat.{_<_};
+ghost use Rattle.work.specs.Passes.{passNew, inContext};
+
+pub mod captures;
+pub mod entries;
+pub mod notes;
+pub mod scope;
+
+// The work table: the rows of the scope's map; an entry for each record; the rows of the captures' map; what is known of each capture, by
+// its place; and the binder's record of each captured entry, by its row.
+const ENTRIES: usize = 12288;
+
+const CAPTURES: usize = 32768;
+
+const TAKEN: usize = 45056;
+
+pub const BINDERS: usize = 57344;
+
+pub const WORK: usize = 61440;
+
+// The record of a refusal's first place.
+pub enum Noted {
+    At(usize),
+    Nothing,
+}
+
+// The first refusal of a second run: its number and record.
+pub enum Second {
+    At(u32, usize),
+    Nothing,
+}
+
+// What a visit threads beside the tables.
+pub struct Pass {
+    // `defining_context`: the id of the define that the walk is in, or NONE
+    pub context: u32,
+    pub scope: ScopeMap,
+    pub captures: ScopeMap,
+    // how many captured and argument entries all lists have
+    pub captured_top: usize,
+    pub arguments_top: usize,
+    pub nine: Noted,
+    pub ten: Noted,
+    pub second: Second,
+}
+
+impl Pass {
+    pub fn new(captured_top: usize, arguments_top: usize) -> Self
+        ensures { λ r. ⌜ r ≡ passNew «captured_top» «arguments_top» ⌝ }
+    {
+        Pass {
+            context: NONE,
+            scope: ScopeMap::new(),
+            captures: ScopeMap::new(),
+            captured_top,
+            arguments_top,
+            nine: Noted::Nothing,
+            ten: Noted::Nothing,
+            second: Second::Nothing,
+        }
+    }
+
+    pub fn with_context(mut self, context: u32) -> Self
+        ensures { λ r. ⌜ r ≡ inContext context self ⌝ }
+    {
+        self.context = context;
+        self
+    }
+
+    pub fn depth(self) -> u32
+        ensures { λ r. ⌜ r ≡ self .scope .depth ⌝ }
+    {
+        let names = self.scope;
+        names.depth
+    }
+}
+
+// A record's number, or a row's, as a number of a table.
+pub fn narrow(x: usize) -> u32
+    requires { ⌜ x < 4294967296 ⌝ }
+    ensures { λ r. ⌜ r ≡ x ⌝ }
+{
+    x as u32
+}

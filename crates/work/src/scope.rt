@@ -1,0 +1,131 @@
+// The live names. The value of a name is its binder's record.
+use crate::ENTRIES;
+use crate::Pass;
+use crate::narrow;
+use scope_map::Found;
+use scope_map::Row;
+use semantic::NONE;
+use table::wide;
+ghost use mathlib.Core.List.{List};
+ghost use Prim.Native.Nat.{ℕ, _+_, _*_, _≤_, _<_};
+ghost use Rattle.scope_map.specs.ScopeMap.{hasAtTop};
+ghost use Rattle.pass.specs.State.{newest};
+ghost use Rattle.pass.specs.Run.{rowsMost};
+ghost use Rattle.pass.specs.Lambda.{openScope, closeScope};
+ghost use Rattle.work.specs.Coded.{recordIn, recordOf};
+ghost use Rattle.work.specs.Works.{Spacious, scopeLength};
+ghost use Rattle.work.specs.Leaves.{Becomes, Tells};
+ghost use Rattle.work.specs.Scope.{KnownHere, TellsId, Defines, removed, StartsLayer, TellsLive};
+
+// The binder's record of a name's newest entry.
+pub enum Binder {
+    At(usize),
+    Nothing,
+}
+
+pub fn newest(p: Pass, work: &[u32], name: u32) -> Binder
+    requires { ⌜ Spacious p (now work) ⌝ }
+    ensures { λ r. ⌜ Tells p (now (work .entry)) (λ s. recordIn (newest s name)) (recordOf r) ⌝ }
+{
+    let names = p.scope;
+    let end = ENTRIES;
+    let found = names.get(&work[..end], name);
+    let Found::At {
+        row: _,
+        layer: _,
+        value,
+    } = found
+    else {
+        return Binder::Nothing;
+    };
+    Binder::At(wide(value))
+}
+
+// The id of the name's newest binder, or NONE.
+pub fn newest_id(all: &[u32], p: Pass, work: &[u32], name: u32) -> u32
+    requires { ⌜ KnownHere (now all) p (now work) ⌝ }
+    ensures { λ r. ⌜ TellsId (now (all .entry)) p (now (work .entry)) name r ⌝ }
+{
+    let found = newest(p, work, name);
+    let Binder::At(b) = found else {
+        return NONE;
+    };
+    tree::record::id(all, b)
+}
+
+pub fn has_at_top(p: Pass, work: &[u32], name: u32) -> bool
+    requires { ⌜ Spacious p (now work) ⌝ }
+    ensures { λ r. ⌜ Tells p (now (work .entry)) (λ s. hasAtTop (s .scope .names) name) r ⌝ }
+{
+    let names = p.scope;
+    let end = ENTRIES;
+    names.contains_key_at_top(&work[..end], name)
+}
+
+pub fn define_name(p: Pass, work: &mut [u32], name: u32, at: usize) -> Pass
+    requires { ⌜ Spacious p (now work) × (3 * p .scope .length + 3 ≤ scopeLength) × (at < rowsMost) ⌝ }
+    ensures { λ r. ⌜ Defines p (now (work .entry)) name at r (now (work .exit)) ⌝ }
+{
+    let names = p.scope;
+    let end = ENTRIES;
+    let value = narrow(at);
+    let more = names.define(&mut work[..end], name, value);
+    let mut q = p;
+    q.scope = more;
+    q
+}
+
+pub fn remove_name(p: Pass, work: &mut [u32], name: u32) -> Pass
+    requires { ⌜ Spacious p (now work) ⌝ }
+    ensures { λ r. ⌜ Becomes p (now (work .entry)) (removed name) r (now (work .exit)) ⌝ }
+{
+    let names = p.scope;
+    let end = ENTRIES;
+    let fewer = names.remove(&mut work[..end], name);
+    let mut q = p;
+    q.scope = fewer;
+    q
+}
+
+pub fn open_scope(p: Pass) -> Pass
+    requires { ⌜ p .scope .depth < 4294967295 ⌝ }
+    ensures { λ r. ⌜ ((w : List ℕ) → Becomes p w openScope r w) ⌝ }
+{
+    let names = p.scope;
+    let more = names.push_layer();
+    let mut q = p;
+    q.scope = more;
+    q
+}
+
+pub fn close_scope(p: Pass, work: &[u32]) -> Pass
+    requires { ⌜ Spacious p (now work) ⌝ }
+    ensures { λ r. ⌜ Becomes p (now (work .entry)) closeScope r (now (work .entry)) ⌝ }
+{
+    let names = p.scope;
+    let end = ENTRIES;
+    let fewer = names.pop_layer(&work[..end]);
+    let mut q = p;
+    q.scope = fewer;
+    q
+}
+
+// The first row of the newest layer's names; they stand in the rows from it on, in the order they entered.
+pub fn newest_layer(p: Pass, work: &[u32]) -> usize
+    requires { ⌜ Spacious p (now work) ⌝ }
+    ensures { λ r. ⌜ StartsLayer p (now (work .entry)) r ⌝ }
+{
+    let names = p.scope;
+    let end = ENTRIES;
+    names.newest_layer(&work[..end])
+}
+
+// The live name in row i, the oldest being in row 0.
+pub fn live_at(p: Pass, work: &[u32], i: usize) -> Row
+    requires { ⌜ Spacious p (now work) × (i < p .scope .length) ⌝ }
+    ensures { λ r. ⌜ TellsLive p (now (work .entry)) i r ⌝ }
+{
+    let names = p.scope;
+    let end = ENTRIES;
+    names.row_at(&work[..end], i)
+}
