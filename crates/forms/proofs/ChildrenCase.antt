@@ -1,0 +1,183 @@
+-- The lambda defines among trees, over states.
+use Prim.Native.Nat.{ℕ, _+_, _-_, _≤_, _<_}
+use mathlib.Core.List.{List}
+use mathlib.Core.Bool.{Bool, true, false}
+use mathlib.Core.Path.{_≡_, refl, ap, sym, subst, _∙_}
+use native.Mathlib.Omega.{arith}
+use lib.ListN.{length}
+use Rattle.tree.specs.Record.{records}
+use Rattle.tree.specs.RecordLaws.{nth}
+use Rattle.tree.specs.Tree.{Ident, Tree, Trees, ident, const, if, letin, define, lambda, begin, call, set!, many}
+use Rattle.tree.specs.Parts.{own}
+use Rattle.tree.specs.Stands.{Stands, StandAll}
+use Rattle.tree.specs.StandsLaws.{root, root-form, tree-few}
+use Rattle.tree.specs.StandsParts.{define-parts}
+use Rattle.tree.specs.StandsForms.{define-of}
+use Rattle.semantic.specs.Information.{NONE}
+use Rattle.semantic.specs.declared.IdentifierStatus.{IdentifierStatus}
+use Rattle.pass.specs.State.{State}
+use Rattle.pass.specs.Visit.{isLambda}
+use Rattle.pass.specs.Sound.{Grows}
+use Rattle.pass.specs.Laws.Sound.Rooms.{grows-none, grows-wide, grows-define}
+use Rattle.work.specs.WorksLaws.{names-many}
+use Rattle.work.specs.Tied.{raw, Tied, Good}
+use Rattle.work.specs.declared.Pass.{Pass}
+use Rattle.walk.specs.Contract.{SomeTree, SomeTreeOf, Extends, TellsBody}
+use Rattle.walk.specs.declared.body.Body.{Body as Says}
+use Rattle.names.specs.Contract.{Room, Defined, DefinesBy}
+use Rattle.forms.specs.Contract.{Fits, NamesRoom, ChildFits, EntersChild, ChildrenFit, EntersChildren}
+use Rattle.forms.specs.Defines.{enterIf, enterOne, enterEach}
+use Rattle.forms.specs.GoodLaws.{good-define}
+use Rattle.forms.proofs.Idents.{known-ident}
+use Rattle.forms.proofs.Trees.{Walks, Left, Head, left-all, left-done, left-head}
+use Rattle.forms.proofs.DefinesCase.{define-here}
+
+-- One tree
+
+module _ (classes rs : List ℕ) (at : ℕ) (kind : IdentifierStatus) (p : Pass) (F w : List ℕ) where
+  pub child-inside : ChildFits (length classes) rs at p F w → at < length (records rs)
+  child-inside a = root (a .stands) .inside
+
+  pub no-define : (nth rs at .form ≡ 5 → ⊥) → EntersChild classes rs at kind p F w p F w
+  unfolding own
+  no-define out = record { is = λ C A s t a f. go C A s t (λ e. out (root-form a ∙ e)) (f .tied) }
+    where
+      go : (C A : List ℕ) (s : State) (t : Tree) → (own t .form ≡ 5 → ⊥) → Tied (raw p F C A w) s → Tied (raw p F C A w) (enterOne classes kind t s)
+      go C A s (ident x) out k = k
+      go C A s (const n q) out k = k
+      go C A s (if n a b c) out k = k
+      go C A s (letin n xs es b) out k = k
+      go C A s (define n x b) out k = absurd (out refl)
+      go C A s (lambda n xs b) out k = k
+      go C A s (begin n es) out k = k
+      go C A s (call n h es) out k = k
+      go C A s (set! n x e) out k = k
+
+  module _ (five : nth rs at .form ≡ 5) where
+    pub child-body : ChildFits (length classes) rs at p F w → SomeTreeOf (length classes) rs (at + 2)
+    child-body a = let d = define-of (a .stands) five in record { t = d .b; stands = d .parts .body }
+
+    pub child-room : ChildFits (length classes) rs at p F w → Room p × Defined rs (at + 1) p F w
+    child-room a =
+        let d = define-of (a .stands) five in
+        (omega (arith, a .room), record { captured = a .captured; arguments = a .arguments; s = a .s; x = d .x; here = define-here (d .parts) (a .fits) })
+
+    module _ {b : Says} (tells : TellsBody classes rs (at + 2) b) where
+      pub child-lambda : b .lambda ≡ true → {p′ : Pass} {F′ w′ : List ℕ} → DefinesBy b kind NONE rs (at + 1) p F w p′ F′ w′
+          → EntersChild classes rs at kind p F w p′ F′ w′
+      child-lambda l m = record {
+        is = λ C A s t a f.
+            let d = define-of a five in
+            let e = tells .is (d .b) (d .parts .body) in
+            let z : isLambda (d .b) ≡ true = sym (ap (λ (c : Says). c .lambda) e) ∙ l in
+            rw (d .is, z) (m .is classes (d .b) C e .is A s (d .x) (define-here (d .parts) f));
+      }
+
+      pub child-value : b .lambda ≡ false → EntersChild classes rs at kind p F w p F w
+      child-value l = record {
+        is = λ C A s t a f.
+            let d = define-of a five in
+            let z : isLambda (d .b) ≡ false = sym (ap (λ (c : Says). c .lambda) (tells .is (d .b) (d .parts .body))) ∙ l in
+            rw (d .is, z) (f .tied);
+      }
+
+-- Trees in a row
+
+pub enters-walk : (classes : List ℕ) (kind : IdentifierStatus) → Walks (enterEach classes kind) (enterOne classes kind)
+unfolding enterEach
+enters-walk classes kind = record { none = λ s. refl; more = λ t ts s. refl }
+
+module _ (classes : List ℕ) (kind : IdentifierStatus) where
+  good-one : {N : ℕ} {rs : List ℕ} {at : ℕ} {s : State} (t : Tree) → Stands N rs at t → Good rs s → Good rs (enterOne classes kind t s)
+  good-one (ident x) a g = g
+  good-one (const n q) a g = g
+  good-one (if n u b c) a g = g
+  good-one (letin n xs es b) a g = g
+  good-one {rs = rs} {s = s} (define n x b) a g = go (isLambda b)
+    where
+      go : (l : Bool) → Good rs (enterIf classes kind l x b s)
+      go true = good-define classes kind NONE x b (known-ident (define-parts a .name)) g
+      go false = g
+  good-one (lambda n xs b) a g = g
+  good-one (begin n es) a g = g
+  good-one (call n h es) a g = g
+  good-one (set! n x e) a g = g
+
+  grows-one : (t : Tree) (s : State) → Grows 0 1 s (enterOne classes kind t s)
+  grows-one (ident x) s = grows-wide (omega arith) grows-none
+  grows-one (const n q) s = grows-wide (omega arith) grows-none
+  grows-one (if n u b c) s = grows-wide (omega arith) grows-none
+  grows-one (letin n xs es b) s = grows-wide (omega arith) grows-none
+  grows-one (define n x b) s = go (isLambda b)
+    where
+      go : (l : Bool) → Grows 0 1 s (enterIf classes kind l x b s)
+      go true = grows-define classes kind NONE x b s
+      go false = grows-wide (omega arith) grows-none
+  grows-one (lambda n xs b) s = grows-wide (omega arith) grows-none
+  grows-one (begin n es) s = grows-wide (omega arith) grows-none
+  grows-one (call n h es) s = grows-wide (omega arith) grows-none
+  grows-one (set! n x e) s = grows-wide (omega arith) grows-none
+
+-- the state of the loop: i trees are done, and the next is at the record `at`
+pub record Going (classes rs : List ℕ) (first k : ℕ) (kind : IdentifierStatus) (p : Pass) (F w : List ℕ) (at i : ℕ) (q : Pass) (F′ w′ : List ℕ) : Type 0 where
+  pub is : (C A : List ℕ) (s : State) (es : Trees) → StandAll (length classes) rs first es → k ≡ many es → Fits rs (raw p F C A w) s
+      → Left (enters-walk classes kind) (length classes) rs at (k - i) (raw q F′ C A w′) (enterEach classes kind es s)
+
+module _ {classes rs : List ℕ} {first k : ℕ} {kind : IdentifierStatus} {p : Pass} {F w : List ℕ} where
+  pub going-starts : Going classes rs first k kind p F w first 0 p F w
+  going-starts = record { is = λ C A s es a b f. left-all (enters-walk classes kind) (length classes) rs first k _ es s a b f }
+
+  module _ {at i : ℕ} {q : Pass} {F′ w′ : List ℕ} (m : Going classes rs first k kind p F w at i q F′ w′) where
+    pub going-ends : k ≤ i → EntersChildren classes rs first k kind p F w q F′ w′
+    going-ends h = record { is = λ C A s es a b f. left-done (enters-walk classes kind) (length classes) rs (m .is C A s es a b f) (omega arith) }
+
+    module _ (h : i < k) where
+      -- what the next tree leaves
+      left : {q′ : Pass} {F″ w″ C A : List ℕ} {out : State} (l : Left (enters-walk classes kind) (length classes) rs at (k - i) (raw q F′ C A w′) out)
+          (t : Head (enters-walk classes kind) (length classes) rs at (k - i) (l .s) out) → EntersChild classes rs at kind q F′ w′ q′ F″ w″
+          → Fits rs (raw q′ F″ C A w″) (enterOne classes kind (t .t) (l .s))
+      left {C = C} {A} l t d =
+          record { good = good-one classes kind (t .t) (t .stands) (l .fits .good); tied = d .is C A (l .s) (t .t) (t .stands) (l .fits) }
+
+      pub going-goes : {n : ℕ} {q′ : Pass} {F″ w″ : List ℕ} → EntersChild classes rs at kind q F′ w′ q′ F″ w″ → Extends rs at n
+          → Going classes rs first k kind p F w (at + n) (i + 1) q′ F″ w″
+      going-goes {n} {q′} {F″} {w″} d x = record {
+        is = λ C A s es a b f.
+            let l = m .is C A s es a b f in
+            let t = left-head (enters-walk classes kind) (length classes) rs l (omega arith) in
+            subst (λ (j : ℕ). Left (enters-walk classes kind) (length classes) rs (at + n) j (raw q′ F″ C A w″) (enterEach classes kind es s)) (omega arith)
+            (t .next n _ (x .is (length classes) (t .t) (t .stands)) (left l t d));
+      }
+
+      module _ (a : ChildrenFit (length classes) rs first k p F w) where
+        here : Left (enters-walk classes kind) (length classes) rs at (k - i) (raw q F′ (a .captured) (a .arguments) w′) (enterEach classes kind (a .es) (a .s))
+        here = m .is (a .captured) (a .arguments) (a .s) (a .es) (a .stand) (a .count) (a .fits)
+
+        tree-here : Head (enters-walk classes kind) (length classes) rs at (k - i) (here .s) (enterEach classes kind (a .es) (a .s))
+        tree-here = left-head (enters-walk classes kind) (length classes) rs here (omega arith)
+
+        pub going-fits : NamesRoom q (k - i) → ChildFits (length classes) rs at q F′ w′
+        going-fits r = record {
+          captured = a .captured;
+          arguments = a .arguments;
+          s = here .s;
+          t = tree-here .t;
+          stands = tree-here .stands;
+          fits = here .fits;
+          room = omega arith;
+        }
+
+        pub going-tree : SomeTree rs at
+        going-tree = record { names = length classes; tree = record { t = tree-here .t; stands = tree-here .stands } }
+
+        pub going-few : {n : ℕ} → Extends rs at n → at + n ≤ 4096
+        going-few x = omega (arith, tree-few (tree-here .stands), x .is (length classes) (tree-here .t) (tree-here .stands))
+
+        -- one name more at most
+        pub going-room : {q′ : Pass} {F″ w″ : List ℕ} → NamesRoom q (k - i) → EntersChild classes rs at kind q F′ w′ q′ F″ w″ → NamesRoom q′ (k - (i + 1))
+        going-room r d = omega (
+          arith,
+          names-many (here .fits .tied .works),
+          names-many (left here tree-here d .tied .works),
+          grows-one classes kind (tree-here .t) (here .s) .live,
+        )

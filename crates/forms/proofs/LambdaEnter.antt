@@ -1,0 +1,225 @@
+-- A lambda is entered, over states.
+use Prim.Native.Nat.{ℕ, zero, suc, _≤_, _<_}
+use mathlib.Core.List.{List}
+use mathlib.Core.Bool.{Bool, true, false, cond}
+use mathlib.Core.Option.{Option, none, some}
+use mathlib.Core.Path.{_≡_, refl, ap, sym, subst, _∙_}
+use native.Mathlib.Omega.{arith}
+use lib.ListN.{length, length-map}
+use Rattle.tree.specs.Tree.{named}
+use Rattle.semantic.specs.Information.{NONE}
+use Rattle.semantic.specs.Rows.{Row, Blank, Item, putRow}
+use Rattle.semantic.specs.Kinds.{functionIn, functionFound}
+use Rattle.semantic.specs.Leaves.{Tells}
+use Rattle.semantic.specs.declared.Entries.{Entries}
+use Rattle.semantic.specs.declared.FunctionInformation.{FunctionInformation}
+use Rattle.semantic.specs.declared.FoundFunction.{FoundFunction}
+use Rattle.semantic.specs.declared.IdentifierStatus.the-variants.{Local}
+use Rattle.semantic.specs.declared.ScopeInfo.{ScopeInfo}
+use Rattle.pass.specs.State.{State, Scope, withContext, rowAt, itemAt}
+use Rattle.pass.specs.Lists.{isOf, numberRow, numberRows, numberList, numberedHeap, numberedCapture}
+use Rattle.pass.specs.Lambda.{openCaptures, openScope, enterParameters, enterLambda}
+use Rattle.pass.specs.Laws.Sound.Scopes.{each-push, each-push-captures, each-open}
+use Rattle.pass.specs.Laws.Sound.Known.{knowing, inside-listed}
+use Rattle.pass.specs.Laws.Sound.Counted.{asking-nothing, any-listed}
+use Rattle.pass.specs.Run.{rowsMost, itemsMost, itemsLength}
+use Rattle.work.specs.WorksLaws.{depth-is, names-many, captures-many, captured-many}
+use Rattle.work.specs.Passes.{inContext}
+use Rattle.work.specs.Leaves.{Becomes}
+use Rattle.work.specs.Captures.{opened}
+use Rattle.work.specs.Tied.{raw, Tied}
+use Rattle.work.specs.declared.Pass.{Pass}
+use Rattle.walk.specs.declared.uses.Names.{Names}
+use Rattle.lists.specs.Contract.{Inside, CapturesRoom, SomeHeld, Numbers, CountsHeap}
+use Rattle.forms.specs.Contract.{Fits, NamesFit, EntersNames, ListsFit, LambdaFits, EntersLambda}
+use Rattle.forms.specs.declared.bound.Entering.{Entering}
+use Rattle.forms.specs.FitsLaws.{told, tied-context, good-each}
+use Rattle.forms.specs.Lambdas.{ListOpens, OpensList, ListInside, EntersBy}
+use Rattle.forms.proofs.LetsCase.{captured-length}
+use Rattle.semantic.specs.declared.FoundFunction.the-variants as function
+use Rattle.pass.specs.Sound as pass
+use Rattle.forms.specs.declared.bound.Heaps.the-variants as heaps
+
+-- What numbering a list leaves as it was
+
+record Numbered (s t : State) : Type 0 where
+  pub rows : t .facts .rows ≡ s .facts .rows
+  pub arguments : t .facts .arguments ≡ s .facts .arguments
+  pub context : t .context ≡ s .context
+  pub scope : t .scope ≡ s .scope
+
+numbered-then : {s t u : State} → Numbered s t → Numbered t u → Numbered s u
+numbered-then a b = record { rows = b .rows ∙ a .rows; arguments = b .arguments ∙ a .arguments; context = b .context ∙ a .context; scope = b .scope ∙ a .scope }
+
+module _ (which : Bool) (f : ℕ → Option ScopeInfo → ScopeInfo → ScopeInfo) where
+  numbered-row : (b : Bool) (r i : ℕ) (x : Item) (s : State) → Numbered s (cond b (numberRow which f r i x s) s)
+  unfolding numberRow
+  numbered-row true r i x s = record { rows = refl; arguments = refl; context = refl; scope = refl }
+  numbered-row false r i x s = record { rows = refl; arguments = refl; context = refl; scope = refl }
+
+  numbered-rows : (k r i : ℕ) (s : State) → Numbered s (numberRows which f k r i s)
+  unfolding numberRows
+  numbered-rows zero r i s = record { rows = refl; arguments = refl; context = refl; scope = refl }
+  numbered-rows (suc k) r i s =
+      numbered-then (numbered-row (isOf which f (itemAt s r)) r i (itemAt s r) s) (numbered-rows k (suc r) _ _)
+
+numbered-list : (e : Entries) (s : State) → Numbered s (numberList e s)
+unfolding numberList
+numbered-list e s = numbered-then (numbered-rows false numberedCapture (e .length) (e .first) 0 s) (numbered-rows true numberedHeap (e .length) (e .first) 0 _)
+
+record Opened (s t : State) : Type 0 where
+  pub rows : t .facts .rows ≡ s .facts .rows
+  pub arguments : t .facts .arguments ≡ s .facts .arguments
+  pub scope : t .scope ≡ s .scope
+
+captures-opened : (o : Option FunctionInformation) (s : State) → Opened s (openCaptures o s)
+unfolding openCaptures
+captures-opened none s = record { rows = refl; arguments = refl; scope = refl }
+captures-opened (some v) s = let n = numbered-list (v .«captured_vars») (opened s) in record { rows = n .rows; arguments = n .arguments; scope = n .scope }
+
+-- The captures' layer
+
+opened-fits : {rs : List ℕ} {p q : Pass} {F C A w : List ℕ} {s : State} → ((w : List ℕ) → Becomes p w opened q w) → Fits rs (raw p F C A w) s
+    → Fits rs (raw q F C A w) (opened s)
+opened-fits {w = w} {s} k f = record {
+  good = good-each (f .good) (record { rows = refl; arguments = refl }) (λ Q l F z h. each-push-captures l z h);
+  tied = record { facts = f .tied .facts; captured = f .tied .captured; arguments = f .tied .arguments; works = k w .is s (f .tied .works) };
+}
+
+module _ {v : FoundFunction} {p : Pass} {C w : List ℕ} {q : Pass} (opens : (w : List ℕ) → Becomes p w opened q w) where
+  pub opens-none : v ≡ function.Nothing → OpensList v p C w q C w
+  unfolding openCaptures
+  opens-none e = record { is = λ rs F A s f. rw e (opened-fits opens f .tied) }
+
+  module _ {i : FunctionInformation} (e : v ≡ function.Found i) where
+    pub list-numbers : ListOpens v p C w → Inside (i .«captured_vars») × CapturesRoom q (i .«captured_vars») × SomeHeld q C w
+    list-numbers a =
+        let f = opened-fits opens (a .fits) in
+        let l = a .lists i (ap functionFound e) in (
+          l .0,
+          omega (arith, l .1, captures-many (a .fits .tied .works), captures-many (f .tied .works)),
+          record { rs = a .rs; held = record { facts = a .facts; arguments = a .arguments; s = opened (a .s); good = f .good; tied = f .tied } },
+        )
+
+    module _ {r : Pass} {C′ w′ : List ℕ} (numbers : Numbers (i .«captured_vars») q C w r C′ w′) where
+      numbered-tied : {rs F A : List ℕ} {s : State} → Fits rs (raw p F C A w) s → Tied (raw r F C′ A w′) (numberList (i .«captured_vars») (opened s))
+      numbered-tied {rs} {F} {A} {s} f = let g = opened-fits opens f in numbers .is rs .is F A (opened s) (g .good) (g .tied)
+
+      pub opens-escaping : i .escapes ≡ true → {r′ : Pass} → r′ ≡ inContext NONE r → OpensList v p C w r′ C′ w′
+      unfolding openCaptures
+      opens-escaping x k = record { is = λ rs F A s f. rw (e, x, k) (tied-context NONE (numbered-tied f)) }
+
+      pub opens-staying : i .escapes ≡ false → OpensList v p C w r C′ w′
+      unfolding openCaptures
+      opens-staying x = record {
+        is = λ rs F A s f.
+            let n = numbered-list (i .«captured_vars») (opened s) in
+            rw (e, x) (subst (λ (c : ℕ). Tied (raw r F C′ A w′) (withContext c (numberList (i .«captured_vars») (opened s)))) (n .context) (numbered-tied f));
+      }
+
+-- What the parameters have in common
+
+module _ {v : FoundFunction} {C : List ℕ} where
+  pub enters-first : v ≡ function.Nothing → {e : Entries} → e ≡ record { first = 0; length = 0 }
+      → EntersBy v C (record { kind = Local; base = 0; heaps = heaps.Nothing; before = e })
+  unfolding enterParameters
+  enters-first q k = record { is = λ rs p F A w s xs f. rw (q, k); base = refl; inside = rw k (omega arith); few = tt }
+
+  pub enters-again : {i : FunctionInformation} → v ≡ function.Found i → ListInside v → {n : ℕ} → CountsHeap C (i .«captured_vars») n → n ≤ itemsMost
+      → EntersBy v C (record { kind = Local; base = 0; heaps = heaps.Around n; before = i .arguments })
+  unfolding enterParameters
+  enters-again {i} q l c small = record {
+    is = λ rs p F A w s xs f. rw (q, c .is (s .facts .captured) (f .tied .captured) (captured-many (f .tied .works)));
+    base = refl;
+    inside = l i (ap functionFound q) .1;
+    few = small;
+  }
+
+-- The lambda
+
+inside-of : (x : Option FunctionInformation) → ((i : FunctionInformation) → x ≡ some i → Inside (i .«captured_vars»)) → pass.Inside x
+inside-of none h = tt
+inside-of (some i) h = h i refl
+
+module _ {rs : List ℕ} {at : ℕ} {p : Pass} {F C A w : List ℕ} (few : at < rowsMost) (v : FoundFunction)
+    (found : Tells putRow Blank functionIn F at (functionFound v)) where
+  -- the fact that the row holds
+  fact-is : {s : State} → Fits rs (raw p F C A w) s → functionFound v ≡ functionIn (rowAt s at)
+  fact-is f = told (f .tied) (f .good .rows) at few functionIn found
+
+  pub lambda-opens : {n : Names} → LambdaFits rs at n p F C A w → ListOpens v p C w
+  lambda-opens b = record {
+    rs = rs;
+    facts = F;
+    arguments = A;
+    s = b .s;
+    fits = b .fits;
+    shallow = b .shallow .captures;
+    lists = λ i e. let l = b .lists i (sym (fact-is (b .fits)) ∙ e) in (l .0, l .2);
+  }
+
+  pub lambda-inside : {n : Names} → LambdaFits rs at n p F C A w → ListInside v
+  lambda-inside b = λ i e. let l = b .lists i (sym (fact-is (b .fits)) ∙ e) in (l .0, l .1)
+
+  module _ {o : Pass} {C′ w′ : List ℕ} (opens : OpensList v p C w o C′ w′) where
+    captures-fit : {s : State} → Fits rs (raw p F C A w) s → ListsFit p s at → Fits rs (raw o F C′ A w′) (openCaptures (functionFound v) s)
+    captures-fit {s} f l =
+        let k = captures-opened (functionFound v) s in
+        let i = inside-of (functionFound v) (λ i e. l i (sym (fact-is f) ∙ e) .0) in
+        record {
+          good = record {
+            rows = ap length (k .rows) ∙ f .good .rows;
+            arguments = ap length (k .arguments) ∙ f .good .arguments;
+            sound = each-open (knowing (λ x q. q .few)) tt (functionFound v) (inside-listed (functionFound v) i) (f .good .sound);
+            counted = each-open asking-nothing (omega arith) (functionFound v) (any-listed (functionFound v)) (f .good .counted);
+          };
+          tied = opens .is rs F A s f;
+        }
+
+    pub scope-shallow : {n : Names} → LambdaFits rs at n p F C A w → o .scope .depth < 4294967295
+    scope-shallow b =
+        let g = captures-fit (b .fits) (b .lists) in
+        let k = ap (λ (c : Scope). c .names .depth) (captures-opened (functionFound v) (b .s) .scope) in
+        omega (arith, b .shallow .scope, depth-is (b .fits .tied .works), depth-is (g .tied .works))
+
+    module _ {q : Pass} (layer : (w : List ℕ) → Becomes o w openScope q w) where
+      scope-fit : {s : State} → Fits rs (raw p F C A w) s → ListsFit p s at → Fits rs (raw q F C′ A w′) (openScope (openCaptures (functionFound v) s))
+      unfolding openScope
+      scope-fit f l =
+          let g = captures-fit f l in
+          record {
+            good = good-each (g .good) (record { rows = refl; arguments = refl }) (λ Q k F z h. each-push k z h);
+            tied = record { facts = g .tied .facts; captured = g .tied .captured; arguments = g .tied .arguments; works = layer w′ .is _ (g .tied .works) };
+          }
+
+      pub scope-captured : {n : Names} → LambdaFits rs at n p F C A w → length C′ ≡ itemsLength
+      scope-captured b = captured-length (scope-fit (b .fits) (b .lists))
+
+      module _ {g : Entering} (by : EntersBy v C′ g) where
+        pub lambda-names : {n : Names} → LambdaFits rs at n p F C A w → NamesFit rs n g q F A w′
+        unfolding openScope
+        lambda-names b =
+            let f = scope-fit (b .fits) (b .lists) in
+            let k = ap (λ (c : Scope). length (c .names .live)) (captures-opened (functionFound v) (b .s) .scope) in
+            record {
+              captured = C′;
+              s = openScope (openCaptures (functionFound v) (b .s));
+              xs = b .xs;
+              told = b .told;
+              fits = f;
+              room = omega (arith, b .room, names-many (b .fits .tied .works), names-many (f .tied .works));
+              inside = by .inside;
+              slots = omega (arith, by .base, b .told .stand .within .few, length-map (b .xs) named, b .told .count);
+              few = by .few;
+            }
+
+        pub lambda-entered : {n : Names} {p′ : Pass} {F′ w″ : List ℕ} → EntersNames rs n g q F A w′ p′ F′ w″ → EntersLambda rs at n p F C A w p′ F′ C′ w″
+        unfolding enterLambda
+        lambda-entered {n} {p′} {F′} {w″} m = record {
+          is = λ s xs node em t f l.
+              let u = openScope (openCaptures (functionFound v) s) in
+              let z = scope-fit f l in
+              let x : functionFound v ≡ functionIn (rowAt s (node .at)) = fact-is f ∙ ap (λ (i : ℕ). functionIn (rowAt s i)) (sym em) in
+              let y = subst (λ (r : State). Tied (raw p′ F′ C′ A w″) r) (by .is rs q F A w′ u xs z) (m .is C′ u xs t z) in
+              subst (λ (fn : Option FunctionInformation). Tied (raw p′ F′ C′ A w″) (enterParameters fn xs (openScope (openCaptures fn s)))) x y;
+        }

@@ -1,0 +1,214 @@
+-- Lets, over states: what is known on entering.
+use Prim.Native.Nat.{ℕ, _+_, _*_, _≤_, _<_}
+use mathlib.Core.List.{List}
+use mathlib.Core.Bool.{Bool, true, false}
+use mathlib.Core.Option.{Option, none, some}
+use mathlib.Core.Path.{_≡_, refl, ap, sym, _∙_}
+use native.Mathlib.Omega.{arith}
+use lib.ListN.{length}
+use lib.Dec.{eqb}
+use borrow.Author.Tests.{eq-eqb, ne-eqb}
+use Rattle.table.specs.Layout.{layout, length-layout}
+use Rattle.tree.specs.Tree.{Node}
+use Rattle.semantic.specs.Rows.{Blank, rowWidth, putRow, itemWidth, putItem, item-long}
+use Rattle.semantic.specs.Kinds.{functionIn, letIn, functionFound, letFound}
+use Rattle.semantic.specs.Leaves.{Tells}
+use Rattle.semantic.specs.declared.Entries.{Entries}
+use Rattle.semantic.specs.declared.FunctionInformation.{FunctionInformation}
+use Rattle.semantic.specs.declared.LetInformation.{LetInformation}
+use Rattle.semantic.specs.declared.FoundFunction.{FoundFunction}
+use Rattle.semantic.specs.declared.FoundLet.{FoundLet}
+use Rattle.semantic.specs.declared.IdentifierStatus.the-variants.{LetVar}
+use Rattle.pass.specs.State.{State, Facts, rowAt, depth}
+use Rattle.pass.specs.Lists.{listIn}
+use Rattle.pass.specs.Lambda.{openScope, heapsAround, letArguments, atBottom, openLet, enterLet, functionId}
+use Rattle.pass.specs.Laws.Sound.Scopes.{each-open-let}
+use Rattle.pass.specs.Run.{rowsMost, itemsMost, itemsLength}
+use Rattle.work.specs.WorksLaws.{depth-is, names-many, captured-many}
+use Rattle.work.specs.Leaves.{Becomes}
+use Rattle.work.specs.Tied.{raw}
+use Rattle.work.specs.declared.Pass.{Pass}
+use Rattle.walk.specs.declared.uses.Names.{Names}
+use Rattle.lists.specs.Contract.{Told, Inside, CountsHeap}
+use Rattle.forms.specs.Flags.{AroundIs}
+use Rattle.forms.specs.Contract.{Fits, NamesFit, EntersNames, LetFits, EntersLet, heapsIn}
+use Rattle.forms.specs.declared.flags.Around.{Around}
+use Rattle.forms.specs.declared.flags.Around.the-variants.{Lambda, Nothing}
+use Rattle.forms.specs.declared.bound.Heaps.{Heaps}
+use Rattle.forms.specs.FitsLaws.{fact-inside, told, good-each}
+use Rattle.forms.specs.Lets.{AroundFits, TellsHeaps, TellsFunction, LetAt, TellsLet}
+use Rattle.semantic.specs.declared.FoundFunction.the-variants as function
+use Rattle.semantic.specs.declared.FoundLet.the-variants as letin
+use Rattle.pass.specs.Lambda as pass
+use Rattle.forms.specs.declared.bound.Heaps.the-variants as heaps
+
+-- the captured entries' table
+pub captured-length : {rs : List ℕ} {p : Pass} {F C A w : List ℕ} {s : State} → Fits rs (raw p F C A w) s → length C ≡ itemsLength
+captured-length {s = s} f =
+    omega (arith, ap length (f .tied .captured), length-layout itemWidth putItem item-long (s .facts .captured), captured-many (f .tied .works))
+
+-- The lambda around
+
+record LambdaIs (i d : ℕ) (o : Option Node) : Type 0 where
+  pub n : Node
+  pub is : o ≡ some n
+  pub at : i ≡ n .at
+  pub id : d ≡ n .id
+
+lambda-is : {i d : ℕ} (o : Option Node) → AroundIs (Lambda i d) o → LambdaIs i d o
+lambda-is none a = absurd a
+lambda-is (some n) a = record { n = n; is = refl; at = a .0; id = a .1 }
+
+nothing-is : (o : Option Node) → AroundIs Nothing o → o ≡ none
+nothing-is none a = refl
+nothing-is (some n) a = absurd a
+
+module _ {a : Around} where
+  pub no-lambda : a ≡ Nothing → (F C : List ℕ) → TellsHeaps a F C heaps.Nothing
+  no-lambda e F C = record { is = λ rs p A w s o h f. rw (nothing-is o (rw e at h)); few = tt }
+
+  pub no-id : a ≡ Nothing → {r : ℕ} → r ≡ functionId none → TellsFunction a r
+  no-id e q = record { is = λ o h. rw (nothing-is o (rw e at h)) q }
+
+  module _ {i d : ℕ} (e : a ≡ Lambda i d) where
+    pub lambda-id : TellsFunction a d
+    lambda-id = record { is = λ o h. let k = lambda-is o (rw e at h) in rw (k .is) (k .id) }
+
+    module _ {F C : List ℕ} where
+      pub around-few : AroundFits a F C → i < rowsMost
+      around-few b = let k = lambda-is (b .function) (rw e at (b .around)) in omega (arith, k .at, b .outer (k .n) (k .is) .0)
+
+      pub around-fact : AroundFits a F C → rowWidth * i + rowWidth ≤ length F
+      around-fact b = fact-inside (b .fits .tied) (b .fits .good .rows) i (around-few b)
+
+      module _ (few : i < rowsMost) (r : FoundFunction) (t : Tells putRow Blank functionIn F i (functionFound r)) where
+        -- what the row of the lambda around says, in one state
+        row-says : {rs : List ℕ} {p : Pass} {A w : List ℕ} {s : State} {o : Option Node} (k : LambdaIs i d o) → Fits rs (raw p F C A w) s
+            → functionFound r ≡ functionIn (rowAt s (k .n .at))
+        row-says {s = s} k f = told (f .tied) (f .good .rows) i few functionIn t ∙ ap (λ (j : ℕ). functionIn (rowAt s j)) (k .at)
+
+        pub no-function : r ≡ function.Nothing → TellsHeaps a F C heaps.Nothing
+        no-function q = record {
+          is = λ rs p A w s o h f.
+              let k = lambda-is o (rw e at h) in
+              let z : functionIn (rowAt s (k .n .at)) ≡ none = sym (row-says k f) ∙ ap functionFound q in
+              rw (k .is, z);
+          few = tt;
+        }
+
+        module _ {v : FunctionInformation} (q : r ≡ function.Found v) where
+          pub list-inside : AroundFits a F C → Inside (v .«captured_vars») × (length C ≡ itemsLength)
+          list-inside b =
+              let k = lambda-is (b .function) (rw e at (b .around)) in
+              let z : functionIn (rowAt (b .s) (k .n .at)) ≡ some v = sym (row-says k (b .fits)) ∙ ap functionFound q in
+              (b .outer (k .n) (k .is) .1 v z, captured-length (b .fits))
+
+          pub heaps-counted : {n : ℕ} → CountsHeap C (v .«captured_vars») n → n ≤ itemsMost → TellsHeaps a F C (heaps.Around n)
+          heaps-counted {n} c small = record {
+            is = λ rs p A w s o h f.
+                let k = lambda-is o (rw e at h) in
+                let z : functionIn (rowAt s (k .n .at)) ≡ some v = sym (row-says k f) ∙ ap functionFound q in
+                rw (k .is, z) (ap some (c .is (s .facts .captured) (f .tied .captured) (captured-many (f .tied .works))));
+            few = small;
+          }
+
+-- The list of the let's fact
+
+module _ {at : ℕ} {F : List ℕ} where
+  pub let-fact : LetAt at F → rowWidth * at + rowWidth ≤ length F
+  let-fact a = fact-inside (a .fits .tied) (a .fits .good .rows) at (a .few)
+
+  module _ (a : LetAt at F) (r : FoundLet) (t : Tells putRow Blank letIn F at (letFound r)) where
+    let-says : {rs : List ℕ} {p : Pass} {C A w : List ℕ} {s : State} → Fits rs (raw p F C A w) s → letFound r ≡ letIn (rowAt s at)
+    let-says f = told (f .tied) (f .good .rows) at (a .few) letIn t
+
+    pub no-let : r ≡ letin.Nothing → {e : Entries} → e ≡ record { first = 0; length = 0 } → TellsLet at F e
+    no-let q k = record {
+      is = λ rs p C A w s f.
+          let z : letIn (rowAt s at) ≡ none = sym (let-says f) ∙ ap letFound q in
+          rw (k, z);
+      inside = rw k (omega arith);
+    }
+
+    pub let-list : {v : LetInformation} → r ≡ letin.Found v → TellsLet at F (v .arguments)
+    let-list {v} q = record {
+      is = λ rs p C A w s f.
+          let z : letIn (rowAt s at) ≡ some v = sym (let-says f) ∙ ap letFound q in
+          rw z;
+      inside = a .list v (sym (let-says (a .fits)) ∙ ap letFound q);
+    }
+
+-- A layer opens at the bottom
+
+module _ {p : Pass} where
+  pub layer-opens : {d : ℕ} → d ≡ p .scope .depth → d ≡ 1 → {q : Pass} → ((w : List ℕ) → Becomes p w openScope q w)
+      → (w : List ℕ) → Becomes p w (λ s. openLet (atBottom s) s) q w
+  unfolding openLet
+  layer-opens ed e k w = record {
+    is = λ s h.
+        let z : eqb (depth s) 1 ≡ true = eq-eqb (depth s) 1 (sym (depth-is h) ∙ sym ed ∙ e) in
+        rw z (k w .is s h);
+  }
+
+  pub layer-stays : {d : ℕ} → d ≡ p .scope .depth → (d ≡ 1 → ⊥) → (w : List ℕ) → Becomes p w (λ s. openLet (atBottom s) s) p w
+  unfolding openLet
+  layer-stays ed e w = record {
+    is = λ s h.
+        let z : eqb (depth s) 1 ≡ false = ne-eqb (depth s) 1 (λ q. e (ed ∙ depth-is h ∙ q)) in
+        rw z h;
+  }
+
+opened-facts : (b : Bool) (s : State) → openLet b s .facts ≡ s .facts
+unfolding openLet openScope
+opened-facts true s = refl
+opened-facts false s = refl
+
+opened-live : (b : Bool) (s : State) → length (openLet b s .scope .names .live) ≡ length (s .scope .names .live)
+unfolding openLet openScope
+opened-live true s = refl
+opened-live false s = refl
+
+module _ {rs : List ℕ} {p : Pass} {F C A w : List ℕ} {q : Pass}
+    (opens : (w : List ℕ) → Becomes p w (λ s. openLet (atBottom s) s) q w) where
+  opened-fits : {s : State} → Fits rs (raw p F C A w) s → Fits rs (raw q F C A w) (openLet (atBottom s) s)
+  opened-fits {s} f =
+      let e = opened-facts (atBottom s) s in
+      record {
+        good = good-each (f .good) (record { rows = ap (λ (g : Facts). length (g .rows)) e; arguments = ap (λ (g : Facts). length (g .arguments)) e })
+            (λ Q l F z h. each-open-let l z (atBottom s) h);
+        tied = record {
+          facts = f .tied .facts ∙ ap (λ (g : Facts). layout putRow (g .rows)) (sym e);
+          captured = f .tied .captured ∙ ap (λ (g : Facts). layout putItem (g .captured)) (sym e);
+          arguments = f .tied .arguments ∙ ap (λ (g : Facts). layout putItem (g .arguments)) (sym e);
+          works = opens w .is s (f .tied .works);
+        };
+      }
+
+  module _ {at : ℕ} {n : Names} {height : ℕ} {a : Around} {o : Heaps} {l : Entries} (heapsTold : TellsHeaps a F C o) (letTold : TellsLet at F l) where
+    pub let-names : LetFits rs at n height a p F C A w → NamesFit rs n (record { kind = LetVar; base = height; heaps = o; before = l }) q F A w
+    let-names b =
+        let f = opened-fits (b .fits) in
+        record {
+          captured = C;
+          s = openLet (atBottom (b .s)) (b .s);
+          xs = b .xs;
+          told = b .told;
+          fits = f;
+          room = omega (arith, b .room, names-many (b .fits .tied .works), names-many (f .tied .works), opened-live (atBottom (b .s)) (b .s));
+          inside = letTold .inside;
+          slots = b .slots;
+          few = heapsTold .few;
+        }
+
+    pub let-entered : {p′ : Pass} {F′ w′ : List ℕ} → EntersNames rs n (record { kind = LetVar; base = height; heaps = o; before = l }) q F A w p′ F′ w′
+        → EntersLet rs at n height a p F C A w p′ F′ w′
+    unfolding enterLet
+    let-entered {p′} {F′} {w′} m = record {
+      is = λ s xs node function en ar t f.
+          let u = openLet (atBottom s) s in
+          let g = opened-fits f in
+          let x : heapsIn o ≡ heapsAround u function = heapsTold .is rs q A w u function ar g in
+          let y : listIn (u .facts .arguments) l ≡ letArguments u (rowAt u (node .at)) =
+          letTold .is rs q C A w u g ∙ ap (λ (i : ℕ). letArguments u (rowAt u i)) (sym en) in
+          rw (x, y) at (m .is C u xs t g);
+    }

@@ -1,0 +1,67 @@
+-- `mark_lasts`: the names of the layer one after another.
+use Prim.Native.Nat.{_-_}
+use mathlib.Core.Path.{_≡_, refl}
+use native.Mathlib.Omega.{arith}
+use lib.ListN.{length}
+use borrow.Author.Needs.{needs}
+use Rattle.work.specs.WorksLaws.{spacious}
+use Rattle.forms.proofs.EndsCase.{Lasting, lasting-starts, lasting-ends, lasting-goes, lasting-binder, lasting-last, lasting-facts}
+use Rattle.forms.proofs.bound.mark_lasts.Statement.{statement}
+use Rattle.forms.proofs.bound.mark_lasts.Tie as tie
+
+abbrev Inv-loop : tie.InvT-loop
+Inv-loop p facts₀ work end i₀ facts i = (length facts ≡ length facts₀) × Lasting p facts₀ work i facts
+
+abbrev μ-loop : tie.MeasureT-loop
+μ-loop p facts₀ work end i₀ facts i = end - i
+
+newest-layer-requires : tie.Need-newest-layer-requires Inv-loop μ-loop
+newest-layer-requires c κs = spacious (c .before .before .before .pre .fits .tied .works)
+
+loop-holds : tie.Need-loop-holds Inv-loop μ-loop
+loop-holds c = (refl, lasting-starts (c .newest-layer .ensures))
+
+live-at-requires : tie.Need-live-at-requires Inv-loop μ-loop
+live-at-requires c κs = (spacious (c .before .before .before .before .before .before .pre .fits .tied .works), c .loop-test .taken)
+
+wide-requires : tie.Need-wide-requires Inv-loop μ-loop
+wide-requires c κs = search needs
+
+load-entry-requires : tie.Need-load-entry-requires Inv-loop μ-loop
+load-entry-requires c κs = (c .before .before .before .before .before .before .before .before .pre .fits .tied .works .long, omega (arith, c .wide .ensures, lasting-binder (c .before .before .before .loop .inv .1) (c .before .before .before .before .before .before .before .before .pre) (c .before .live-at .ensures)))
+
+mark-last-requires : tie.Need-mark-last-requires Inv-loop μ-loop
+mark-last-requires c κs = (lasting-last (c .before .before .before .before .before .loop .inv .1) (c .before .before .before .before .before .before .before .before .before .before .pre) (c .before .load-entry .ensures), lasting-facts (c .before .before .before .before .before .loop .inv .1) (c .before .before .before .before .before .before .before .before .before .before .pre))
+
+add-i : tie.Need-add-i Inv-loop μ-loop
+add-i c = record { fits = omega (arith, spacious (c .before .before .before .before .before .before .before .before .before .before .before .before .before .pre .fits .tied .works) .names) }
+
+loop-less : tie.Need-loop-less Inv-loop μ-loop
+loop-less c = omega arith
+
+loop-again : tie.Need-loop-again Inv-loop μ-loop
+loop-again c = (omega arith, lasting-goes (c .before .before .before .before .before .before .before .before .loop .inv .1) (c .before .before .before .before .before .before .live-at .ensures) (c .before .before .before .before .before .wide .ensures) (c .before .before .before .before .load-entry .ensures) (c .before .before .mark-last .ensures))
+
+same-length : tie.Need-same-length Inv-loop μ-loop
+same-length c = omega arith
+
+returns : tie.Need-returns Inv-loop μ-loop
+returns c = lasting-ends (c .before .loop .inv .1) (c .loop-test .left)
+
+pub mark-lasts-spec : {M : Type 1} → statement M
+mark-lasts-spec =
+    tie.close
+    (tie.spec
+    Inv-loop
+    μ-loop
+    newest-layer-requires
+    loop-holds
+    live-at-requires
+    wide-requires
+    load-entry-requires
+    mark-last-requires
+    add-i
+    loop-less
+    loop-again
+    same-length
+    returns)

@@ -1,0 +1,66 @@
+-- `enter_children`: the trees are gone through one after another.
+use Prim.Native.Nat.{_≤_, _-_}
+use mathlib.Core.Path.{_≡_, refl}
+use native.Mathlib.Omega.{arith}
+use lib.ListN.{length}
+use Rattle.forms.specs.Contract.{NamesRoom}
+use Rattle.forms.proofs.ChildrenCase.{Going, going-starts, going-ends, going-goes, going-fits, going-tree, going-few, going-room}
+use Rattle.forms.proofs.defines.enter_children.Statement.{statement}
+use Rattle.forms.proofs.defines.enter_children.Tie as tie
+
+abbrev Inv-loop : tie.InvT-loop
+Inv-loop classes all first k kind facts₀ work₀ q₀ at₀ i₀ facts work q at i =
+    (i ≤ k) × (length facts ≡ length facts₀) × (length work ≡ length work₀) × NamesRoom q (k - i)
+    × Going classes all first k kind q₀ facts₀ work₀ at i q facts work
+
+abbrev μ-loop : tie.MeasureT-loop
+μ-loop classes all first k kind facts₀ work₀ q₀ at₀ i₀ facts work q at i = k - i
+
+loop-holds : tie.Need-loop-holds Inv-loop μ-loop
+loop-holds c = (omega arith, refl, refl, omega (arith, c .before .before .before .before .pre .room), going-starts)
+
+enter-child-requires : tie.Need-enter-child-requires Inv-loop μ-loop
+enter-child-requires c κs = going-fits (c .before .before .before .loop .inv .4) (omega arith) (c .before .before .before .before .before .before .before .before .pre) (c .before .before .before .loop .inv .3)
+
+extent-at-requires : tie.Need-extent-at-requires Inv-loop μ-loop
+extent-at-requires c κs = going-tree (c .before .before .before .before .before .before .before .before .loop .inv .4) (omega arith) (c .before .before .before .before .before .before .before .before .before .before .before .before .before .pre)
+
+add-at : tie.Need-add-at Inv-loop μ-loop
+add-at c = record { fits = omega (arith, going-few (c .before .before .before .before .before .before .before .before .before .loop .inv .4) (omega arith) (c .before .before .before .before .before .before .before .before .before .before .before .before .before .before .pre) (c .extent-at .ensures)) }
+
+add-i : tie.Need-add-i Inv-loop μ-loop
+add-i c = omega arith
+
+loop-less : tie.Need-loop-less Inv-loop μ-loop
+loop-less c = omega arith
+
+loop-again : tie.Need-loop-again Inv-loop μ-loop
+loop-again c =
+    let g = c .before .before .before .before .before .before .before .before .before .loop .inv .4 in
+    (omega arith, omega arith, omega arith, going-room g (omega arith) (c .before .before .before .before .before .before .before .before .before .before .before .before .before .before .pre) (c .before .before .before .before .before .before .before .before .before .loop .inv .3) (c .before .before .before .before .before .enter-child .ensures), going-goes g (omega arith) (c .before .before .before .before .before .enter-child .ensures) (c .extent-at .ensures))
+
+same-length : tie.Need-same-length Inv-loop μ-loop
+same-length c = omega arith
+
+same-length-2 : tie.Need-same-length-2 Inv-loop μ-loop
+same-length-2 c = omega arith
+
+returns : tie.Need-returns Inv-loop μ-loop
+returns c = going-ends (c .before .loop .inv .4) (omega arith)
+
+pub enter-children-spec : {M : Type 1} → statement M
+enter-children-spec =
+    tie.close
+    (tie.spec
+    Inv-loop
+    μ-loop
+    loop-holds
+    enter-child-requires
+    extent-at-requires
+    add-at
+    add-i
+    loop-less
+    loop-again
+    same-length
+    same-length-2
+    returns)

@@ -1,0 +1,47 @@
+-- `enter_lambda`: the layers, then the parameters.
+use borrow.Author.Needs.{needs}
+use Rattle.forms.specs.FitsLaws.{fact-inside}
+use Rattle.forms.proofs.LambdaEnter.{lambda-opens, lambda-inside, scope-shallow, scope-captured, lambda-names, lambda-entered}
+use Rattle.forms.proofs.lambda.enter_lambda.Statement.{statement}
+use Rattle.forms.proofs.lambda.enter_lambda.Tie as tie
+
+function-at-requires : tie.Need-function-at-requires
+function-at-requires c κs = fact-inside (c .before .before .before .before .before .before .pre .fits .tied) (c .before .before .before .before .before .before .pre .fits .good .rows) _ (c .before .before .before .before .before .before .pre .few)
+
+open-list-requires : tie.Need-open-list-requires
+open-list-requires c κs = lambda-opens (c .before .before .before .before .before .before .before .before .before .pre .few) (c .before .before .function-at .result) (c .before .before .function-at .ensures) (c .before .before .before .before .before .before .before .before .before .pre)
+
+open-scope-requires : tie.Need-open-scope-requires
+open-scope-requires c κs = scope-shallow (c .before .before .before .before .before .before .before .before .before .before .before .before .before .before .pre .few) (c .before .before .before .before .before .before .before .function-at .result) (c .before .before .before .before .before .before .before .function-at .ensures) (c .before .before .before .before .open-list .ensures) (c .before .before .before .before .before .before .before .before .before .before .before .before .before .before .pre)
+
+entering-requires : tie.Need-entering-requires
+entering-requires c κs = (lambda-inside (c .before .before .before .before .before .before .before .before .before .before .before .before .before .before .before .before .pre .few) (c .before .before .before .before .before .before .before .before .before .function-at .result) (c .before .before .before .before .before .before .before .before .before .function-at .ensures) (c .before .before .before .before .before .before .before .before .before .before .before .before .before .before .before .before .pre), scope-captured (c .before .before .before .before .before .before .before .before .before .before .before .before .before .before .before .before .pre .few) (c .before .before .before .before .before .before .before .before .before .function-at .result) (c .before .before .before .before .before .before .before .before .before .function-at .ensures) (c .before .before .before .before .before .before .open-list .ensures) (c .before .open-scope .ensures) (c .before .before .before .before .before .before .before .before .before .before .before .before .before .before .before .before .pre))
+
+enter-names-requires : tie.Need-enter-names-requires
+enter-names-requires c κs = lambda-names (c .before .before .before .before .before .before .before .before .before .before .before .before .before .before .before .before .before .before .before .pre .few) (c .before .before .before .before .before .before .before .before .before .before .before .before .function-at .result) (c .before .before .before .before .before .before .before .before .before .before .before .before .function-at .ensures) (c .before .before .before .before .before .before .before .before .before .open-list .ensures) (c .before .before .before .before .open-scope .ensures) (c .before .before .entering .ensures) (c .before .before .before .before .before .before .before .before .before .before .before .before .before .before .before .before .before .before .before .pre)
+
+same-length : tie.Need-same-length
+same-length c = search needs
+
+same-length-2 : tie.Need-same-length-2
+same-length-2 c = search needs
+
+same-length-3 : tie.Need-same-length-3
+same-length-3 c = search needs
+
+returns : tie.Need-returns
+returns c = lambda-entered (c .before .before .before .before .before .before .before .before .before .before .before .before .before .before .before .before .before .before .before .before .before .before .before .before .pre .few) (c .before .before .before .before .before .before .before .before .before .before .before .before .before .before .before .before .before .function-at .result) (c .before .before .before .before .before .before .before .before .before .before .before .before .before .before .before .before .before .function-at .ensures) (c .before .before .before .before .before .before .before .before .before .before .before .before .before .before .open-list .ensures) (c .before .before .before .before .before .before .before .before .before .open-scope .ensures) (c .before .before .before .before .before .before .before .entering .ensures) (c .before .before .before .before .enter-names .ensures)
+
+pub enter-lambda-spec : {M : Type 1} → statement M
+enter-lambda-spec =
+    tie.close
+    (tie.spec
+    function-at-requires
+    open-list-requires
+    open-scope-requires
+    entering-requires
+    enter-names-requires
+    same-length
+    same-length-2
+    same-length-3
+    returns)

@@ -1,0 +1,38 @@
+-- `enter_let`: a layer at the bottom, and the names.
+use borrow.Author.Needs.{needs}
+use Rattle.forms.proofs.LetsCase.{let-names, let-entered}
+use Rattle.forms.proofs.lets.enter_let.Statement.{statement}
+use Rattle.forms.proofs.lets.enter_let.Tie as tie
+
+heaps-around-requires : tie.Need-heaps-around-requires
+heaps-around-requires c κs = search needs
+
+let-arguments-requires : tie.Need-let-arguments-requires
+let-arguments-requires c κs = search needs
+
+open-let-requires : tie.Need-open-let-requires
+open-let-requires c κs = search needs
+
+enter-names-requires : tie.Need-enter-names-requires
+enter-names-requires c κs = let-names (c .before .before .open-let .ensures) (c .before .before .before .before .before .heaps-around .ensures) (c .before .before .before .let-arguments .ensures) (c .before .before .before .before .before .before .before .before .before .before .before .before .pre)
+
+same-length : tie.Need-same-length
+same-length c = search needs
+
+same-length-2 : tie.Need-same-length-2
+same-length-2 c = search needs
+
+returns : tie.Need-returns
+returns c = let-entered (c .before .before .before .before .before .before .before .open-let .ensures) (c .before .before .before .before .before .before .before .before .before .before .heaps-around .ensures) (c .before .before .before .before .before .before .before .before .let-arguments .ensures) (c .before .before .before .before .enter-names .ensures)
+
+pub enter-let-spec : {M : Type 1} → statement M
+enter-let-spec =
+    tie.close
+    (tie.spec
+    heaps-around-requires
+    let-arguments-requires
+    open-let-requires
+    enter-names-requires
+    same-length
+    same-length-2
+    returns)

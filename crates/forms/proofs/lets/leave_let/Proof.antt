@@ -1,0 +1,42 @@
+-- `leave_let`: the names, the fact, the layer.
+use borrow.Author.Needs.{needs}
+use Rattle.forms.proofs.LetEnds.{ends-fact, ends-make, ends-spacious, let-left}
+use Rattle.forms.proofs.lets.leave_let.Statement.{statement}
+use Rattle.forms.proofs.lets.leave_let.Tie as tie
+
+is-blank-requires : tie.Need-is-blank-requires
+is-blank-requires c κs = ends-fact (c .before .before .before .before .before .pre)
+
+leave-names-requires : tie.Need-leave-names-requires
+leave-names-requires c κs = search needs
+
+make-let-requires : tie.Need-make-let-requires
+make-let-requires c κs = ends-make (c .before .before .before .before .before .before .before .before .before .before .is-blank .ensures) (c .before .before .before .before .before .before .before .leave-names .ensures) (c .before .before .before .before .before .before .before .before .before .before .before .before .before .before .before .before .pre)
+
+close-let-requires : tie.Need-close-let-requires
+close-let-requires c κs = ends-spacious (c .before .before .before .before .before .before .before .before .before .before .before .before .before .before .before .before .is-blank .ensures) (c .before .before .before .before .before .before .before .before .before .before .before .before .before .leave-names .ensures) (c .before .before .before .before .before .make-let .ensures) (c .before .before .before .before .before .before .before .before .before .before .before .before .before .before .before .before .before .before .before .before .before .before .pre)
+
+same-length : tie.Need-same-length
+same-length c = search needs
+
+same-length-2 : tie.Need-same-length-2
+same-length-2 c = search needs
+
+same-length-3 : tie.Need-same-length-3
+same-length-3 c = search needs
+
+returns : tie.Need-returns
+returns c = let-left (c .before .before .before .before .before .before .before .before .before .before .before .before .before .before .before .before .before .is-blank .ensures) (c .before .before .before .before .before .before .before .before .before .before .before .before .before .before .leave-names .ensures) (c .before .before .before .before .before .before .make-let .ensures) (c .before .before .before .before .before .before .before .before .before .before .before .before .before .before .before .before .before .before .before .before .before .before .before .pre .few) (c .close-let .ensures)
+
+pub leave-let-spec : {M : Type 1} → statement M
+leave-let-spec =
+    tie.close
+    (tie.spec
+    is-blank-requires
+    leave-names-requires
+    make-let-requires
+    close-let-requires
+    same-length
+    same-length-2
+    same-length-3
+    returns)

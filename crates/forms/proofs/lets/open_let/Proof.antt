@@ -1,0 +1,20 @@
+-- `open_let`, by the depth.
+use borrow.Author.Needs.{needs}
+use Rattle.forms.proofs.LetsCase.{layer-opens, layer-stays}
+use Rattle.forms.proofs.lets.open_let.Statement.{statement}
+use Rattle.forms.proofs.lets.open_let.Tie as tie
+
+depth-requires : tie.Need-depth-requires
+depth-requires c κs = search needs
+
+open-scope-requires : tie.Need-open-scope-requires
+open-scope-requires c κs = search needs
+
+returns : tie.Need-returns
+returns c = layer-opens (c .before .before .depth .ensures) (c .before .if1 .taken) (c .open-scope .ensures)
+
+returns-2 : tie.Need-returns-2
+returns-2 c = layer-stays (c .before .depth .ensures) (c .if1 .left)
+
+pub open-let-spec : {M : Type 1} → statement M
+open-let-spec = tie.close (tie.spec depth-requires open-scope-requires returns returns-2)

@@ -1,0 +1,306 @@
+// Names of a lambda or a let, as they enter and leave.
+use lists::captured::info_of;
+use names::define::enter;
+use semantic::Entries;
+use semantic::IdentifierStatus;
+use semantic::SemanticInformation;
+use table::wide;
+use walk::uses::Names;
+use work::Pass;
+use work::entries::Entry;
+use work::entries::load_entry;
+use work::narrow;
+use work::notes::note_second;
+use work::scope::live_at;
+use work::scope::newest_id;
+use work::scope::newest_layer;
+use work::scope::remove_name;
+ghost use mathlib.Core.Path.{_≡_};
+ghost use mathlib.Core.Bool.{true, false, cond};
+ghost use Prim.Native.Nat.{suc, _+_, _≤_, _<_};
+ghost use lib.ListN.{length};
+ghost use Rattle.pass.specs.Run.{rowsMost, itemsMost, factsLength, itemsLength};
+ghost use Rattle.lists.specs.Contract.{Inside};
+ghost use Rattle.forms.specs.Contract.{FewHeaps, NamesFit, EntersNames};
+ghost use Rattle.forms.specs.Bound.{TellsHeap, NameFits, EntersWith, EntersLocal, EntersHeap, EntersName, SlotsFit, Marked, MarksLast, MarksLasts, BinderFits, LayerFits, NamesStore, StoresArgument, StoresLayer, StoresNames, NamesEnd, EndsParameters, LeavesNames};
+
+pub fn no_entries() -> Entries
+    ensures { λ r. ⌜ r ≡ record { first = 0; length = 0 } ⌝ }
+{
+    Entries {
+        first: 0,
+        length: 0,
+    }
+}
+
+// How many heap entries the lambda around has, where there is one.
+pub enum Heaps {
+    Around(u32),
+    Nothing,
+}
+
+// What names that enter have in common: their kind, the slot of the first, the heap entries around, and the list of the run before.
+pub struct Entering {
+    pub kind: IdentifierStatus,
+    pub base: u32,
+    pub heaps: Heaps,
+    pub before: Entries,
+}
+
+// Whether the entry at place j of a list is captured and mutated.
+fn is_heap(arguments: &[u32], before: Entries, j: usize) -> bool
+    requires { ⌜ Inside before × (length (now arguments) ≡ itemsLength) ⌝ }
+    ensures { λ r. ⌜ TellsHeap (now (arguments .entry)) before j r ⌝ }
+{
+    if wide(before.length) <= j {
+        return false;
+    }
+    semantic::items::is_heap(arguments, wide(before.first) + j)
+}
+
+fn next_heap(heap: bool, h: u32) -> u32
+    requires { ⌜ h < 4294967295 ⌝ }
+    ensures { λ r. ⌜ r ≡ cond heap (suc h) h ⌝ }
+{
+    if heap {
+        return h + 1;
+    }
+    h
+}
+
+// The name at the record enters with this entry and a fact of this kind.
+fn enter_with(
+    all: &[u32],
+    at: usize,
+    kind: IdentifierStatus,
+    e: Entry,
+    p: Pass,
+    facts: &mut [u32],
+    work: &mut [u32],
+) -> Pass
+    requires { ⌜ NameFits (now all) at p (now facts) (now work) × (e .uses ≡ 0) ⌝ }
+    ensures { λ r. ⌜ EntersWith (now (all .entry)) at kind e p (now (facts .entry)) (now (work .entry)) r (now (facts .exit)) (now (work .exit)) ⌝ }
+{
+    let fact = SemanticInformation::new(kind, p.depth(), names::facts::span_at(all, at));
+    let q = enter(all, at, e, p, work);
+    semantic::rows::store_information(facts, at, fact);
+    q
+}
+
+// A name that was not captured and mutated on the run before.
+fn enter_local(
+    all: &[u32],
+    at: usize,
+    kind: IdentifierStatus,
+    slot: u32,
+    p: Pass,
+    facts: &mut [u32],
+    work: &mut [u32],
+) -> Pass
+    requires { ⌜ NameFits (now all) at p (now facts) (now work) ⌝ }
+    ensures { λ r. ⌜ EntersLocal (now (all .entry)) at kind slot p (now (facts .entry)) (now (work .entry)) r (now (facts .exit)) (now (work .exit)) ⌝ }
+{
+    let e = Entry::local(slot, p.depth());
+    enter_with(all, at, kind, e, p, facts, work)
+}
+
+// One that was: refusal 11 with no lambda around.
+fn enter_heap(
+    all: &[u32],
+    at: usize,
+    heaps: Heaps,
+    j: u32,
+    h: u32,
+    p: Pass,
+    facts: &mut [u32],
+    work: &mut [u32],
+) -> Pass
+    requires { ⌜ NameFits (now all) at p (now facts) (now work) × FewHeaps heaps × (h ≤ itemsMost) ⌝ }
+    ensures { λ r. ⌜ EntersHeap (now (all .entry)) at heaps j h p (now (facts .entry)) (now (work .entry)) r (now (facts .exit)) (now (work .exit)) ⌝ }
+{
+    let depth = p.depth();
+    match heaps {
+        Heaps::Around(n) => enter_with(
+            all,
+            at,
+            IdentifierStatus::HeapAllocated,
+            Entry::on_heap(j, h + n, depth),
+            p,
+            facts,
+            work,
+        ),
+        Heaps::Nothing => {
+            let q = note_second(p, 11, at);
+            enter_with(
+                all,
+                at,
+                IdentifierStatus::HeapAllocated,
+                Entry::on_heap(j, h, depth),
+                q,
+                facts,
+                work,
+            )
+        }
+    }
+}
+
+// The name at place j, with h heap entries before it.
+fn enter_name(
+    all: &[u32],
+    at: usize,
+    heap: bool,
+    g: Entering,
+    j: u32,
+    h: u32,
+    p: Pass,
+    facts: &mut [u32],
+    work: &mut [u32],
+) -> Pass
+    requires { ⌜ NameFits (now all) at p (now facts) (now work) × SlotsFit g j h ⌝ }
+    ensures { λ r. ⌜ EntersName heap (g .kind) (g .base) (g .heaps) (now (all .entry)) at j h p (now (facts .entry)) (now (work .entry)) r (now (facts .exit)) (now (work .exit)) ⌝ }
+{
+    let kind = g.kind;
+    let heaps = g.heaps;
+    if heap {
+        return enter_heap(all, at, heaps, j, h, p, facts, work);
+    }
+    enter_local(all, at, kind, g.base + j, p, facts, work)
+}
+
+pub fn enter_names(
+    all: &[u32],
+    names: Names,
+    g: Entering,
+    p: Pass,
+    facts: &mut [u32],
+    arguments: &[u32],
+    work: &mut [u32],
+) -> Pass
+    requires { ⌜ NamesFit (now all) names g p (now facts) (now arguments) (now work) ⌝ }
+    ensures { λ r. ⌜ EntersNames (now (all .entry)) names g p (now (facts .entry)) (now (arguments .entry)) (now (work .entry)) r (now (facts .exit)) (now (work .exit)) ⌝ }
+{
+    let first = names.first;
+    let before = g.before;
+    let mut q = p;
+    let mut h = 0;
+    let mut j = 0;
+    while j < names.count {
+        let heap = is_heap(arguments, before, j);
+        q = enter_name(all, first + j, heap, g, narrow(j), h, q, facts, work);
+        h = next_heap(heap, h);
+        j += 1;
+    }
+    q
+}
+
+// The last use that an entry tells, by its record counted from 1.
+pub fn mark_last(last: u32, facts: &mut [u32])
+    requires { ⌜ (last ≤ rowsMost) × (length (now facts) ≡ factsLength) ⌝ }
+    ensures { λ _. ⌜ MarksLast last (now (facts .entry)) (now (facts .exit)) ⌝ }
+{
+    if last != 0 {
+        semantic::amend::mark_last_usage(facts, wide(last - 1));
+    }
+}
+
+// The last uses of the names in the newest layer.
+pub fn mark_lasts(p: Pass, facts: &mut [u32], work: &[u32])
+    requires { ⌜ Marked p (now facts) (now work) ⌝ }
+    ensures { λ _. ⌜ MarksLasts p (now (facts .entry)) (now (work .entry)) (now (facts .exit)) ⌝ }
+{
+    let scope = p.scope;
+    let end = scope.length;
+    let mut i = newest_layer(p, work);
+    while i < end {
+        let r = live_at(p, work, i);
+        let e = load_entry(work, wide(r.value));
+        mark_last(e.last, facts);
+        i += 1;
+    }
+}
+
+// The binder at b, as an argument list keeps it, in row `to`.
+fn store_argument(all: &[u32], b: usize, to: usize, arguments: &mut [u32], work: &[u32])
+    requires { ⌜ BinderFits (now all) b (now work) × (to < itemsMost) × (length (now arguments) ≡ itemsLength) ⌝ }
+    ensures { λ _. ⌜ StoresArgument (now (all .entry)) b to (now (arguments .entry)) (now (work .entry)) (now (arguments .exit)) ⌝ }
+{
+    let e = load_entry(work, b);
+    semantic::items::store_item(
+        arguments,
+        to,
+        tree::record::name(all, b),
+        info_of(all, b, e),
+    );
+}
+
+// The names of the newest layer as an argument list.
+pub fn store_layer(all: &[u32], p: Pass, arguments: &mut [u32], work: &[u32]) -> Pass
+    requires { ⌜ LayerFits (now all) p (now arguments) (now work) ⌝ }
+    ensures { λ r. ⌜ StoresLayer (now (all .entry)) p (now (arguments .entry)) (now (work .entry)) r (now (arguments .exit)) ⌝ }
+{
+    let scope = p.scope;
+    let end = scope.length;
+    let mut to = p.arguments_top;
+    let mut i = newest_layer(p, work);
+    while i < end {
+        let r = live_at(p, work, i);
+        store_argument(all, wide(r.value), to, arguments, work);
+        to += 1;
+        i += 1;
+    }
+    let mut q = p;
+    q.arguments_top = to;
+    q
+}
+
+// A let's names as an argument list.
+pub fn store_names(all: &[u32], names: Names, p: Pass, arguments: &mut [u32], work: &[u32]) -> Pass
+    requires { ⌜ NamesStore (now all) names p (now arguments) (now work) ⌝ }
+    ensures { λ r. ⌜ StoresNames (now (all .entry)) names p (now (arguments .entry)) (now (work .entry)) r (now (arguments .exit)) ⌝ }
+{
+    let first = names.first;
+    let mut to = p.arguments_top;
+    let mut j = 0;
+    while j < names.count {
+        store_argument(all, first + j, to, arguments, work);
+        to += 1;
+        j += 1;
+    }
+    let mut q = p;
+    q.arguments_top = to;
+    q
+}
+
+// A parameter's fact takes its entry's uses, and the id of what it hides.
+pub fn end_parameters(all: &[u32], names: Names, p: Pass, facts: &mut [u32], work: &[u32])
+    requires { ⌜ NamesEnd (now all) names p (now facts) (now work) ⌝ }
+    ensures { λ _. ⌜ EndsParameters (now (all .entry)) names p (now (facts .entry)) (now (work .entry)) (now (facts .exit)) ⌝ }
+{
+    let first = names.first;
+    let mut j = 0;
+    while j < names.count {
+        let at = first + j;
+        let e = load_entry(work, at);
+        let hidden = newest_id(all, p, work, tree::record::name(all, at));
+        semantic::amend::end_parameter(facts, at, e.uses, hidden);
+        j += 1;
+    }
+}
+
+// A let's names leave one by one, with their last uses marked.
+pub fn leave_names(all: &[u32], names: Names, p: Pass, facts: &mut [u32], work: &mut [u32]) -> Pass
+    requires { ⌜ NamesEnd (now all) names p (now facts) (now work) ⌝ }
+    ensures { λ r. ⌜ LeavesNames (now (all .entry)) names p (now (facts .entry)) (now (work .entry)) r (now (facts .exit)) (now (work .exit)) ⌝ }
+{
+    let first = names.first;
+    let mut q = p;
+    let mut j = 0;
+    while j < names.count {
+        let at = first + j;
+        let e = load_entry(work, at);
+        q = remove_name(q, work, tree::record::name(all, at));
+        mark_last(e.last, facts);
+        j += 1;
+    }
+    q
+}

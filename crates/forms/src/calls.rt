@@ -1,0 +1,174 @@
+// What a visit leaves of a call, and of the defines of a begin.
+use semantic::CallKind;
+use semantic::CallSiteInformation;
+use semantic::NONE;
+use semantic::Span;
+use table::wide;
+use walk::extent::extent_at;
+use work::Pass;
+use work::entries::load_entry;
+use work::scope::Binder;
+use work::scope::newest;
+ghost use mathlib.Core.Path.{_≡_};
+ghost use mathlib.Core.Bool.{_&&_};
+ghost use lib.Dec.{ltb};
+ghost use Prim.Native.Nat.{_+_, _*_, _≤_, _<_};
+ghost use lib.ListN.{length};
+ghost use Rattle.pass.specs.Run.{rowsMost, factsLength};
+ghost use Rattle.semantic.specs.Rows.{rowWidth, putRow, CallSite};
+ghost use Rattle.semantic.specs.Leaves.{Stores};
+ghost use Rattle.pass.specs.Visit.{callKind};
+ghost use Rattle.forms.specs.Contract.{CallFits, EndsCall, ClearsContext};
+ghost use Rattle.forms.specs.Calls.{Mentioned, IsLast, ArgumentFits, MarksArgument, ArgumentsFit, MarksArguments, MarksIfTail, TellsSelf, Called, MakesCall};
+
+// Whether the identifier's last use so far is the one at the record.
+fn is_last_use(all: &[u32], at: usize, p: Pass, work: &[u32]) -> bool
+    requires { ⌜ Mentioned (now all) at p (now work) ⌝ }
+    ensures { λ r. ⌜ IsLast (now (all .entry)) at p (now (work .entry)) r ⌝ }
+{
+    let found = newest(p, work, tree::record::name(all, at));
+    let Binder::At(b) = found else {
+        return false;
+    };
+    let e = load_entry(work, b);
+    if e.last == 0 {
+        return false;
+    }
+    tree::record::id(all, wide(e.last - 1)) == tree::record::id(all, at)
+}
+
+// An argument that is an identifier is marked where it is its name's last use so far.
+fn mark_argument(all: &[u32], at: usize, p: Pass, facts: &mut [u32], work: &[u32])
+    requires { ⌜ ArgumentFits (now all) at p (now facts) (now work) ⌝ }
+    ensures { λ _. ⌜ MarksArgument (now (all .entry)) at p (now (facts .entry)) (now (work .entry)) (now (facts .exit)) ⌝ }
+{
+    if tree::record::form(all, at) == 1 {
+        if is_last_use(all, at, p, work) {
+            semantic::amend::mark_last_usage(facts, at);
+        }
+    }
+}
+
+// k arguments, the first at the record `first`.
+fn mark_arguments(all: &[u32], first: usize, k: usize, p: Pass, facts: &mut [u32], work: &[u32])
+    requires { ⌜ ArgumentsFit (now all) first k p (now facts) (now work) ⌝ }
+    ensures { λ _. ⌜ MarksArguments (now (all .entry)) first k p (now (facts .entry)) (now (work .entry)) (now (facts .exit)) ⌝ }
+{
+    let mut at = first;
+    let mut i = 0;
+    while i < k {
+        mark_argument(all, at, p, facts, work);
+        at += extent_at(all, at);
+        i += 1;
+    }
+}
+
+// Whether the fact at the record refers to the define that the walk is in.
+pub fn is_self(at: usize, p: Pass, facts: &[u32]) -> bool
+    requires { ⌜ (at < rowsMost) × (length (now facts) ≡ factsLength) ⌝ }
+    ensures { λ r. ⌜ TellsSelf at p (now (facts .entry)) r ⌝ }
+{
+    p.context != NONE && semantic::kinds::refers_at(facts, at) == p.context
+}
+
+fn call_kind(tail: bool, own: bool, k: u32) -> CallKind
+    ensures { λ r. ⌜ r ≡ callKind tail own k ⌝ }
+{
+    if !tail {
+        return CallKind::Normal;
+    }
+    if own {
+        CallKind::SelfTailCall(k)
+    } else {
+        CallKind::TailCall
+    }
+}
+
+fn call_site(at: usize, kind: CallKind, span: Span, facts: &mut [u32])
+    requires { ⌜ rowWidth * at + rowWidth ≤ length (now facts) ⌝ }
+    ensures { λ _. ⌜ Stores putRow (now (facts .entry)) at (CallSite (record { kind = kind; span = span })) (now (facts .exit)) ⌝ }
+{
+    semantic::rows::store_call_site(facts, at, CallSiteInformation::new(kind, span));
+}
+
+// A constant head leaves no fact.
+fn call_fact(all: &[u32], at: usize, tail: bool, k: u32, p: Pass, facts: &mut [u32])
+    requires { ⌜ Called (now all) at p (now facts) ⌝ }
+    ensures { λ _. ⌜ MakesCall (now (all .entry)) at tail k p (now (facts .entry)) (now (facts .exit)) ⌝ }
+{
+    let head = at + 1;
+    let form = tree::record::form(all, head);
+    match form {
+        1 => {
+            let own = is_self(head, p, facts);
+            call_site(
+                at,
+                call_kind(tail, own, k),
+                names::facts::span_at(all, head),
+                facts,
+            );
+        }
+        2 => (),
+        _ => call_site(
+            at,
+            call_kind(tail, false, k),
+            names::facts::span_at(all, at),
+            facts,
+        ),
+    }
+}
+
+// A call in tail position is a tail call above the bottom layer.
+fn is_tail(tail: bool, p: Pass) -> bool
+    ensures { λ r. ⌜ r ≡ (tail && ltb 1 (p .scope .depth)) ⌝ }
+{
+    tail && 1 < p.depth()
+}
+
+fn mark_if_tail(
+    all: &[u32],
+    first: usize,
+    k: usize,
+    eligible: bool,
+    p: Pass,
+    facts: &mut [u32],
+    work: &[u32],
+)
+    requires { ⌜ ArgumentsFit (now all) first k p (now facts) (now work) ⌝ }
+    ensures { λ _. ⌜ MarksIfTail (now (all .entry)) first k eligible p (now (facts .entry)) (now (work .entry)) (now (facts .exit)) ⌝ }
+{
+    if eligible {
+        mark_arguments(all, first, k, p, facts, work);
+    }
+}
+
+// The call at the record, with k arguments, the first at the record `first`.
+pub fn end_call(
+    all: &[u32],
+    at: usize,
+    first: usize,
+    k: usize,
+    tail: bool,
+    counter: u32,
+    p: Pass,
+    facts: &mut [u32],
+    work: &[u32],
+)
+    requires { ⌜ CallFits (now all) at first k p (now facts) (now work) ⌝ }
+    ensures { λ _. ⌜ EndsCall (now (all .entry)) at first k tail counter p (now (facts .entry)) (now (work .entry)) (now (facts .exit)) ⌝ }
+{
+    let eligible = is_tail(tail, p);
+    mark_if_tail(all, first, k, eligible, p, facts, work);
+    call_fact(all, at, eligible, counter, p, facts);
+}
+
+// set!: on a second run the context ends where the target referred to it.
+pub fn clear_context(at: usize, p: Pass, facts: &[u32]) -> Pass
+    requires { ⌜ (at < rowsMost) × (length (now facts) ≡ factsLength) ⌝ }
+    ensures { λ r. ⌜ ClearsContext at p (now (facts .entry)) r ⌝ }
+{
+    if is_self(at, p, facts) {
+        return p.with_context(NONE);
+    }
+    p
+}

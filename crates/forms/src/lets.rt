@@ -1,0 +1,162 @@
+// Lets: names that enter with them and leave.
+use crate::bound::Entering;
+use crate::bound::Heaps;
+use crate::bound::enter_names;
+use crate::bound::leave_names;
+use crate::bound::no_entries;
+use crate::bound::store_names;
+use crate::flags::Around;
+use lists::number::heap_count;
+use semantic::Entries;
+use semantic::FoundFunction;
+use semantic::FoundLet;
+use semantic::IdentifierStatus;
+use semantic::LetInformation;
+use semantic::NONE;
+use walk::uses::Names;
+use work::Pass;
+use work::narrow;
+use work::scope::close_scope;
+use work::scope::open_scope;
+ghost use mathlib.Core.Path.{_≡_};
+ghost use mathlib.Core.List.{List};
+ghost use Prim.Native.Nat.{ℕ, _<_};
+ghost use Rattle.pass.specs.Lambda.{atBottom, openLet, closeLet};
+ghost use Rattle.work.specs.Works.{Spacious};
+ghost use Rattle.work.specs.Leaves.{Becomes};
+ghost use Rattle.forms.specs.Contract.{LetFits, EntersLet, LetEnds, LeavesLet};
+ghost use Rattle.forms.specs.Lets.{AroundFits, TellsHeaps, TellsFunction, LetAt, TellsLet, MakeFits, MakesLet};
+
+// How many heap entries the lambda around has.
+fn heaps_around(f: Around, facts: &[u32], captured: &[u32]) -> Heaps
+    requires { ⌜ AroundFits f (now facts) (now captured) ⌝ }
+    ensures { λ r. ⌜ TellsHeaps f (now (facts .entry)) (now (captured .entry)) r ⌝ }
+{
+    let Around::Lambda(at, _) = f else {
+        return Heaps::Nothing;
+    };
+    let found = semantic::kinds::function_at(facts, at);
+    let FoundFunction::Found(v) = found else {
+        return Heaps::Nothing;
+    };
+    let list = v.captured_vars;
+    Heaps::Around(heap_count(list, captured))
+}
+
+fn function_id(f: Around) -> u32
+    ensures { λ r. ⌜ TellsFunction f r ⌝ }
+{
+    match f {
+        Around::Lambda(_, id) => id,
+        Around::Nothing => NONE,
+    }
+}
+
+fn let_arguments(facts: &[u32], at: usize) -> Entries
+    requires { ⌜ LetAt at (now facts) ⌝ }
+    ensures { λ r. ⌜ TellsLet at (now (facts .entry)) r ⌝ }
+{
+    let found = semantic::kinds::let_at(facts, at);
+    let FoundLet::Found(v) = found else {
+        return no_entries();
+    };
+    v.arguments
+}
+
+// A let opens a layer only at depth 1.
+fn open_let(p: Pass) -> Pass
+    requires { ⌜ p .scope .depth < 4294967295 ⌝ }
+    ensures { λ r. ⌜ ((w : List ℕ) → Becomes p w (λ s. openLet (atBottom s) s) r w) ⌝ }
+{
+    if p.depth() == 1 {
+        return open_scope(p);
+    }
+    p
+}
+
+pub fn enter_let(
+    all: &[u32],
+    at: usize,
+    names: Names,
+    height: u32,
+    f: Around,
+    p: Pass,
+    facts: &mut [u32],
+    captured: &[u32],
+    arguments: &[u32],
+    work: &mut [u32],
+) -> Pass
+    requires { ⌜ LetFits (now all) at names height f p (now facts) (now captured) (now arguments) (now work) ⌝ }
+    ensures { λ r. ⌜ EntersLet (now (all .entry)) at names height f p (now (facts .entry)) (now (captured .entry)) (now (arguments .entry)) (now (work .entry)) r (now (facts .exit)) (now (work .exit)) ⌝ }
+{
+    let heaps = heaps_around(f, facts, captured);
+    let before = let_arguments(facts, at);
+    let g = Entering {
+        kind: IdentifierStatus::LetVar,
+        base: height,
+        heaps,
+        before,
+    };
+    let q = open_let(p);
+    enter_names(all, names, g, q, facts, arguments, work)
+}
+
+// The let's fact, if it has none yet.
+fn make_let(
+    all: &[u32],
+    blank: bool,
+    at: usize,
+    names: Names,
+    height: u32,
+    f: Around,
+    p: Pass,
+    facts: &mut [u32],
+    arguments: &mut [u32],
+    work: &[u32],
+) -> Pass
+    requires { ⌜ MakeFits (now all) blank at names f p (now facts) (now arguments) (now work) ⌝ }
+    ensures { λ r. ⌜ MakesLet (now (all .entry)) blank at names height f p (now (facts .entry)) (now (arguments .entry)) (now (work .entry)) r (now (facts .exit)) (now (arguments .exit)) ⌝ }
+{
+    if !blank {
+        return p;
+    }
+    let q = store_names(all, names, p, arguments, work);
+    let list = Entries {
+        first: narrow(p.arguments_top),
+        length: narrow(names.count),
+    };
+    let fact = LetInformation::new(height, function_id(f), list);
+    semantic::rows::store_let(facts, at, fact);
+    q
+}
+
+fn close_let(opened: bool, p: Pass, work: &[u32]) -> Pass
+    requires { ⌜ Spacious p (now work) ⌝ }
+    ensures { λ r. ⌜ Becomes p (now (work .entry)) (closeLet opened) r (now (work .entry)) ⌝ }
+{
+    if opened {
+        return close_scope(p, work);
+    }
+    p
+}
+
+pub fn leave_let(
+    all: &[u32],
+    opened: bool,
+    at: usize,
+    names: Names,
+    height: u32,
+    f: Around,
+    p: Pass,
+    facts: &mut [u32],
+    arguments: &mut [u32],
+    work: &mut [u32],
+) -> Pass
+    requires { ⌜ LetEnds (now all) at names f p (now facts) (now arguments) (now work) ⌝ }
+    ensures { λ r. ⌜ LeavesLet (now (all .entry)) opened at names height f p (now (facts .entry)) (now (arguments .entry)) (now (work .entry)) r (now (facts .exit)) (now (arguments .exit)) (now (work .exit)) ⌝ }
+{
+    let blank = semantic::kinds::is_blank(facts, at);
+    let q = leave_names(all, names, p, facts, work);
+    let r = make_let(all, blank, at, names, height, f, q, facts, arguments, work);
+    close_let(opened, r, work)
+}

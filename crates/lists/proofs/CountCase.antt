@@ -1,0 +1,134 @@
+-- Turns of the loops over rows of the captured entries: one that counts, one that looks for a place. No place of the code stands here.
+use Prim.Native.Nat.{ℕ, suc, _+_, _-_, _≤_, _<_}
+use mathlib.Core.List.{List}
+use mathlib.Core.Bool.{Bool, true, false, cond, _&&_}
+use mathlib.Core.Logic.{_⊎_, ⊎-elim}
+use mathlib.Core.Path.{_≡_, ap, sym, _∙_}
+use native.Mathlib.Omega.{arith}
+use borrow.Author.Tests.{le-leb, lt-leb}
+use lib.ListN.{length, getD, take, drop}
+use lib.Dec.{leb}
+use Rattle.table.specs.Layout.{layout}
+use Rattle.semantic.specs.Rows.{Item, noItem, putItem}
+use Rattle.semantic.specs.Leaves.{Tells}
+use Rattle.semantic.specs.declared.ScopeInfo.{ScopeInfo}
+use Rattle.semantic.specs.declared.Entries.{Entries}
+use Rattle.pass.specs.Lists.{heapCount}
+use Rattle.pass.specs.Run.{itemsMost}
+use Rattle.lists.specs.Contract.{CountsHeap}
+use Rattle.lists.specs.Given.{placeById, rowsUpTo, PlacesById}
+use Rattle.lists.proofs.Sets.{rows-next, rows-none}
+
+-- What a function of a list does at its first entry, at the row i
+
+module _ (l : List Item) (i j : ℕ) (h : i < j) (g : j ≤ length l) where
+  abbrev x : Item
+  x = getD l i noItem
+
+  pub heap-turn : (b : Bool) → b ≡ (x .info .captured && x .info .mutated)
+      → heapCount (rowsUpTo i j l) ≡ cond b (suc (heapCount (rowsUpTo (i + 1) j l))) (heapCount (rowsUpTo (i + 1) j l))
+  unfolding heapCount
+  heap-turn b e =
+      ap heapCount (rows-next l i j noItem h g)
+      ∙ ap (λ (q : Bool). cond q (suc (heapCount (rowsUpTo (i + 1) j l))) (heapCount (rowsUpTo (i + 1) j l))) (sym e)
+
+  pub place-turn : (id : ℕ) (b : Bool) → leb id (x .info .id) ≡ b
+      → placeById id (rowsUpTo i j l) ≡ cond b 0 (suc (placeById id (rowsUpTo (i + 1) j l)))
+  unfolding placeById
+  place-turn id b e =
+      ap (placeById id) (rows-next l i j noItem h g) ∙ ap (λ (q : Bool). cond q 0 (suc (placeById id (rowsUpTo (i + 1) j l)))) e
+
+pub heap-end : (l : List Item) (i : ℕ) → heapCount (rowsUpTo i i l) ≡ 0
+unfolding heapCount
+heap-end l i = ap heapCount (rows-none l i)
+
+pub place-end : (id : ℕ) (l : List Item) (i : ℕ) → placeById id (rowsUpTo i i l) ≡ 0
+unfolding placeById
+place-end id l i = ap (placeById id) (rows-none l i)
+
+-- The loop that looks for a place
+
+-- counted from i on it is the one counted from `first`
+pub record Found (C : List ℕ) (first end id i : ℕ) : Type 0 where
+  pub is : (l : List Item) → C ≡ layout putItem l → length l ≡ itemsMost → first + placeById id (rowsUpTo first end l) ≡ i + placeById id (rowsUpTo i end l)
+
+module _ {C : List ℕ} {first end id i : ℕ} (f : Found C first end id i) where
+  module _ {v : ScopeInfo} (t : Tells putItem noItem (λ x. x .info) C i v) (h : i < end) where
+    pub place-here : id ≤ v .id → first ≤ i → end ≤ itemsMost → PlacesById C first end id i
+    place-here q a g = record {
+      is = λ l e m.
+          let b : leb id (getD l i noItem .info .id) ≡ true = ap (λ (w : ScopeInfo). leb id (w .id)) (sym (t .is l e (omega arith))) ∙ le-leb id (v .id) q in
+          omega (arith, f .is l e m, place-turn l i end h (omega arith) id true b);
+      least = a;
+      most = omega arith;
+    }
+
+    pub place-later : v .id < id → end ≤ itemsMost → Found C first end id (i + 1)
+    place-later q g = record {
+      is = λ l e m.
+          let b : leb id (getD l i noItem .info .id) ≡ false = ap (λ (w : ScopeInfo). leb id (w .id)) (sym (t .is l e (omega arith))) ∙ lt-leb id (v .id) q in
+          omega (arith, f .is l e m, place-turn l i end h (omega arith) id false b);
+    }
+
+  pub place-last : first ≤ i → i ≤ end → end ≤ i → PlacesById C first end id end
+  place-last a b q = record {
+    is = λ l e m.
+        let z : i ≡ end = omega arith in
+        let y : placeById id (rowsUpTo i end l) ≡ 0 = ap (λ (j : ℕ). placeById id (rowsUpTo j end l)) z ∙ place-end id l end in
+        omega (arith, f .is l e m);
+    least = omega arith;
+    most = omega arith;
+  }
+
+-- The loop that counts
+
+pub record Counted (C : List ℕ) (first n h k : ℕ) : Type 0 where
+  pub is : (l : List Item) → C ≡ layout putItem l → length l ≡ itemsMost
+      → h + heapCount (rowsUpTo (first + k) (first + n) l) ≡ heapCount (take n (drop first l))
+
+-- a count after a branch that adds one where b holds
+pub counts : {T E : Type 0} (b : Bool) {n m : ℕ} → (T → b ≡ true) → (E → b ≡ false) → (T × (n ≡ m + 1)) ⊎ (E × (n ≡ m)) → n ≡ m + cond b 1 0
+counts b t e = ⊎-elim (λ w. let q = t (w .0) in rw q (w .1)) (λ w. let q = e (w .0) in rw q (omega arith))
+
+pub few : (b : Bool) {n m k : ℕ} → n ≡ m + cond b 1 0 → m ≤ k → n ≤ k + 1
+few true e h = omega arith
+few false e h = omega arith
+
+pub heap-start : {C : List ℕ} {first n : ℕ} → Counted C first n 0 0
+heap-start {C} {first} {n} = record {
+  is = λ l e m.
+      let z : first + 0 ≡ first = omega arith in
+      let y : first + n - first ≡ n = omega arith in
+      ap (λ (i : ℕ). 0 + heapCount (take (first + n - i) (drop i l))) z ∙ ap (λ (i : ℕ). 0 + heapCount (take i (drop first l))) y ∙ omega arith;
+}
+
+module _ {C : List ℕ} {first n h k : ℕ} (inv : (k ≤ n) × (h ≤ k) × Counted C first n h k) where
+  pub heap-next : {b : Bool} → Tells putItem noItem (λ x. x .info .captured && x .info .mutated) C (first + k) b → k < n → first + n ≤ itemsMost
+      → {m : ℕ} → m ≡ h + cond b 1 0 → (k + 1 ≤ n) × (m ≤ k + 1) × Counted C first n m (k + 1)
+  heap-next {b} t g a {m} e = (omega arith, few b e (inv .1), record { is = turn })
+    where
+      added : (b : Bool) (x : ℕ) → h + cond b (suc x) x ≡ h + cond b 1 0 + x
+      added true x = omega arith
+      added false x = omega arith
+
+      turn : (l : List Item) → C ≡ layout putItem l → length l ≡ itemsMost
+          → m + heapCount (rowsUpTo (first + (k + 1)) (first + n) l) ≡ heapCount (take n (drop first l))
+      turn l p q =
+          let z : first + (k + 1) ≡ first + k + 1 = omega arith in
+          let r = heapCount (rowsUpTo (first + k + 1) (first + n) l) in
+          ap (λ (i : ℕ). m + heapCount (rowsUpTo i (first + n) l)) z
+          ∙ ap (λ (i : ℕ). i + r) e
+          ∙ sym (added b r)
+          ∙ sym (ap (λ (i : ℕ). h + i) (heap-turn l (first + k) (first + n) (omega arith) (omega arith) b (t .is l p (omega arith))))
+          ∙ inv .2 .is l p q
+
+  pub heap-last : (e : Entries) → n ≤ k → first ≡ e .first → n ≡ e .length → e .first + e .length ≤ itemsMost → CountsHeap C e h × (h ≤ itemsMost)
+  heap-last e q a b g = (record { is = ended }, omega arith)
+    where
+      ended : (l : List Item) → C ≡ layout putItem l → length l ≡ itemsMost → h ≡ heapCount (take (e .length) (drop (e .first) l))
+      ended l p m =
+          let z : k ≡ n = omega arith in
+          let y : heapCount (rowsUpTo (first + k) (first + n) l) ≡ 0 =
+          ap (λ (i : ℕ). heapCount (rowsUpTo (first + i) (first + n) l)) z ∙ heap-end l (first + n) in
+          let x : heapCount (take n (drop first l)) ≡ heapCount (take (e .length) (drop (e .first) l)) = rw (a, b) in
+          omega (arith, inv .2 .is l p m)

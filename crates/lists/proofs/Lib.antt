@@ -1,0 +1,17 @@
+pub mod Sets
+pub mod RowsCase
+pub mod Sorted
+pub mod EntryCase
+pub mod CountCase
+pub mod GivenCase
+pub mod NearCase
+pub mod TakeCase
+pub mod NumberCase
+pub mod ClearCase
+pub mod InsertCase
+pub mod FillCase
+pub mod StoreCase
+pub mod NowCase
+pub mod KeptCase
+pub mod Amended
+pub mod AmendCase

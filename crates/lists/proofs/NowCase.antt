@@ -1,0 +1,219 @@
+-- How often a name stands in the list made anew, and the entry that it has there. No place of the code stands here.
+use Prim.Native.Nat.{ℕ, suc, _+_, _≤_, _<_}
+use mathlib.Core.List.{List, [], _∷_, map}
+use mathlib.Core.Bool.{Bool, true, false, cond, _&&_}
+use mathlib.Core.Option.{Option, none, some}
+use mathlib.Core.Path.{_≡_, refl, ap, sym, subst, _∙_}
+use native.Mathlib.Omega.{arith}
+use borrow.Author.Tests.{eqb-true, eq-eqb, ne-eqb}
+use lib.ListN.{length}
+use lib.Dec.{eqb}
+use Rattle.tree.specs.Tree.{Ident, Tree}
+use Rattle.tree.specs.Check.{member}
+use Rattle.tree.specs.Accepted.{All}
+use Rattle.scope_map.specs.ScopeMap.{Live, getIn}
+use Rattle.scope_map.specs.declared.Row.{Row}
+use Rattle.semantic.specs.Rows.{Item}
+use Rattle.pass.specs.State.{State, Scope, binderIn}
+use Rattle.pass.specs.Lists.{capturedIn, capturedVars, nameOf, countOf, find, keep}
+use Rattle.pass.specs.Lambda.{nameIn, namesUsed, holdsLambda, nowUsed}
+use Rattle.pass.specs.Laws.Sound.Lists.{all-either}
+use Rattle.pass.specs.Laws.Sound.Items.{kept-items}
+use Rattle.work.specs.Coded.{recordIn, recordOf}
+use Rattle.work.specs.Works.{Works}
+use Rattle.work.specs.WorksLaws.{names-many}
+use Rattle.work.specs.Scope.{before, TellsLive}
+use Rattle.work.specs.declared.Pass.{Pass}
+use Rattle.work.specs.declared.scope.Binder.{Binder}
+use Rattle.walk.specs.Contract.{UsesName}
+use Rattle.walk.specs.declared.uses.Names.{Names}
+use Rattle.lists.specs.declared.amend.Ending.{Ending}
+use Rattle.lists.specs.Contract.{Named, Told, Body}
+use Rattle.lists.specs.Given.{given, withGiven, captured-step, isSome, Gives}
+use Rattle.lists.specs.Kept.{GivesName, CountsNow, nowOf, CountsUsed, itemIn, newestItem}
+use Rattle.lists.proofs.GivenCase.{next-live, before-none, before-all, live-is, given-newest, next-given}
+
+-- The newest binder of a name has the name
+
+named-in : (l : List (Live Ident)) → All (λ e. e .value .name ≡ e .name) l → (x : ℕ) (b : Ident) → binderIn (getIn l x) ≡ some b → b .name ≡ x
+unfolding getIn
+named-in [] a x b q = absurd (let z : _≡_ {A = ℕ} 0 1 = cc in omega arith)
+named-in (e ∷ l) a x b q = pick (eqb (e .name) x) refl q (named-in l (a .1) x b)
+  where
+    pick : (t : Bool) → eqb (e .name) x ≡ t → binderIn (cond t (some e) (getIn l x)) ≡ some b → (binderIn (getIn l x) ≡ some b → b .name ≡ x) → b .name ≡ x
+    pick true k q r = let same : e .value ≡ b = cc in ap (λ (y : Ident). y .name) (sym same) ∙ a .0 ∙ eqb-true (e .name) x k
+    pick false k q r = r q
+
+given-named : (ps : List ℕ) (s : State) → Named s → (e : Live Ident) (b : Ident) → given ps (s .scope) e ≡ some b → b .name ≡ e .name
+given-named ps s n e b q = named-in (s .scope .names .live) n (e .name) b (given-newest ps (s .scope) e b q)
+
+-- A name more
+
+neither : (q : Bool) → _≡_ {A = ℕ} (cond (q && false) 1 0) 0
+neither true = refl
+neither false = refl
+
+count-with : (c : Scope) (o : Option Ident) (l : List Item) (x y : ℕ) → ((b : Ident) → o ≡ some b → b .name ≡ y)
+    → countOf x (withGiven c o l) ≡ countOf x l + cond (eqb y x && isSome (recordIn o)) 1 0
+unfolding countOf
+count-with c none l x y h = omega (arith, neither (eqb y x))
+count-with c (some b) l x y h =
+    ap (λ (n : ℕ). cond (eqb n x) (suc (countOf x l)) (countOf x l)) (h b refl) ∙ go (eqb y x)
+  where
+    go : (q : Bool) → cond q (suc (countOf x l)) (countOf x l) ≡ countOf x l + cond (q && true) 1 0
+    go true = omega arith
+    go false = omega arith
+
+module _ {rs : List ℕ} {n : Names} {p : Pass} {w : List ℕ} {i : ℕ} {r : Row} {name : ℕ} (t : TellsLive p w i r) where
+  pub gives-no : (r .name ≡ name → ⊥) → GivesName rs n p w i name false
+  gives-no h = record {
+    is = λ xs s e k works up.
+        let q : eqb (e .name) name ≡ false = ne-eqb (e .name) name (λ z. h (live-is t works up .0 ∙ z)) in
+        sym (ap (λ (b : Bool). b && isSome (recordIn (given (map nameIn xs) (s .scope) e))) q);
+  }
+
+  pub gives-yes : r .name ≡ name → {a : Binder} {b : Bool} → Gives rs n p w i a → b ≡ isSome (recordOf a) → GivesName rs n p w i name b
+  gives-yes h g q = record {
+    is = λ xs s e k works up.
+        let z : eqb (e .name) name ≡ true = eq-eqb (e .name) name (sym (live-is t works up .0) ∙ h) in
+        q ∙ ap isSome (g .is xs s e k works up) ∙ sym (ap (λ (b : Bool). b && isSome (recordIn (given (map nameIn xs) (s .scope) e))) z);
+  }
+
+-- The loop over the live names
+
+pub record NowTo (rs : List ℕ) (names : Names) (p : Pass) (w : List ℕ) (name n i : ℕ) : Type 0 where
+  pub is : (xs : List Ident) (s : State) → Told rs names xs → Named s → Works p w s
+      → n ≡ countOf name (capturedIn (map nameIn xs) s (before i (s .scope .names .live)))
+
+module _ {rs : List ℕ} {names : Names} {p : Pass} {w : List ℕ} {name : ℕ} where
+  pub now-start : NowTo rs names p w name 0 0
+  unfolding capturedIn countOf
+  now-start = record {
+    is = λ xs s k h works. sym (ap (λ (l : List (Live Ident)). countOf name (capturedIn (map nameIn xs) s l)) (before-none (s .scope .names .live)));
+  }
+
+  module _ {n i : ℕ} (u : NowTo rs names p w name n i) where
+    pub now-next : {b : Bool} → GivesName rs names p w i name b → i < p .scope .length → {m : ℕ} → m ≡ n + cond b 1 0 → NowTo rs names p w name m (i + 1)
+    now-next {b} g h {m} q = record {
+      is = λ xs s k y works.
+          let ps = map nameIn xs in
+          let v = next-live (s .scope .names .live) i (omega (arith, names-many works)) in
+          let o = given ps (s .scope) (v .live) in
+          let l = capturedIn ps s (before i (s .scope .names .live)) in
+          let same = count-with (s .scope) o l name (v .live .name) (λ b e. given-named ps s y (v .live) b e) in
+          let told = ap {B = ℕ} (λ (c : Bool). cond c 1 0) (g .is xs s (v .live) k works (v .up)) in
+          omega (arith, q, u .is xs s k y works, same, told, ap (countOf name) (next-given ps s i v));
+    }
+
+    pub now-last : p .scope .length ≤ i → CountsNow rs names p w name n
+    unfolding capturedVars
+    now-last h = record {
+      is = λ xs s k y works.
+          u .is xs s k y works
+          ∙ ap (λ (m : List (Live Ident)). countOf name (capturedIn (map nameIn xs) s m))
+          (before-all (s .scope .names .live) i (omega (arith, names-many works)));
+    }
+
+-- Those that the body uses
+
+count-keep : (f : ℕ → Bool) (x : ℕ) (l : List Item) → countOf x (keep f l) ≡ cond (f x) (countOf x l) 0
+unfolding countOf keep
+count-keep f x [] = go (f x)
+  where
+    go : (b : Bool) → _≡_ {A = ℕ} 0 (cond b 0 0)
+    go true = refl
+    go false = refl
+count-keep f x (i ∷ l) = go (f (nameOf i)) refl (eqb (nameOf i) x) refl (count-keep f x l)
+  where
+    K : List Item
+    K = keep f l
+
+    go : (a : Bool) → f (nameOf i) ≡ a → (q : Bool) → eqb (nameOf i) x ≡ q → countOf x K ≡ cond (f x) (countOf x l) 0
+        → countOf x (cond a (i ∷ K) K) ≡ cond (f x) (cond q (suc (countOf x l)) (countOf x l)) 0
+    go true e false k r = rw k r
+    go false e false k r = r
+    go true e true k r = let z : f x
+        ≡ true = ap f (sym (eqb-true (nameOf i) x k)) ∙ e in rw (k, z) (let y : countOf x K ≡ countOf x l = rw z at r in ap suc y)
+    go false e true k r = let z : f x ≡ false = ap f (sym (eqb-true (nameOf i) x k)) ∙ e in rw z (rw z at r)
+
+used : {rs : List ℕ} {d : Ending} {name : ℕ} {u : Bool} {b : Tree} (l : List Item) → d .holds ≡ false → UsesName rs (d .first) (d .end) name u → Body rs d b
+    → countOf name (nowUsed b l) ≡ cond u (countOf name l) 0
+used {name = name} {b = b} l h t y =
+    let z : holdsLambda b ≡ false = sym (y .holds) ∙ h in
+    ap (λ (q : Bool). countOf name (cond q l (keep (λ x. member x (namesUsed b)) l))) z
+    ∙ count-keep (λ x. member x (namesUsed b)) name l
+    ∙ ap (λ (q : Bool). cond q (countOf name l) 0) (sym (t .is (y .many) b (y .stands) (y .ends)))
+
+module _ {rs : List ℕ} {d : Ending} {p : Pass} {w : List ℕ} {name : ℕ} where
+  pub used-holds : {n : ℕ} → d .holds ≡ true → CountsNow rs (d .names) p w name n → CountsUsed rs d p w name n
+  used-holds {n} h c = record {
+    is = λ xs b s k y m works.
+        let z : holdsLambda b ≡ true = sym (y .holds) ∙ h in
+        let l = capturedVars (map nameIn xs) s in
+        c .is xs s k m works
+        ∙ sym (ap (λ (q : Bool). countOf name (cond q l (keep (λ x. member x (namesUsed b)) l))) z);
+  }
+
+  module _ {u : Bool} (h : d .holds ≡ false) (t : UsesName rs (d .first) (d .end) name u) where
+    pub used-yes : {n : ℕ} → u ≡ true → CountsNow rs (d .names) p w name n → CountsUsed rs d p w name n
+    used-yes {n} e c = record {
+      is = λ xs b s k y m works.
+          let l = capturedVars (map nameIn xs) s in
+          c .is xs s k m works ∙ sym (used l h t y ∙ ap (λ (q : Bool). cond q (countOf name l) 0) e);
+    }
+
+    pub used-no : u ≡ false → CountsUsed rs d p w name 0
+    used-no e = record {
+      is = λ xs b s k y m works.
+          let l = capturedVars (map nameIn xs) s in
+          sym (used l h t y ∙ ap (λ (q : Bool). cond q (countOf name l) 0) e);
+    }
+
+-- Every entry is that of its name's newest binder
+
+abbrev pub Newest : Scope → Item → Type 0
+Newest c v = newestItem c (nameOf v) ≡ some v
+
+now-newest : (ps : List ℕ) (s : State) → Named s → (l : List (Live Ident)) → All (Newest (s .scope)) (capturedIn ps s l)
+unfolding capturedIn
+now-newest ps s n [] = tt
+now-newest ps s n (e ∷ l) = subst (All (Newest (s .scope))) (sym (captured-step ps s e l)) (go (given ps (s .scope) e) refl (now-newest ps s n l))
+  where
+    go : (o : Option Ident) → given ps (s .scope) e ≡ o → All (Newest (s .scope)) (capturedIn ps s l)
+        → All (Newest (s .scope)) (withGiven (s .scope) o (capturedIn ps s l))
+    go none q r = r
+    go (some b) q r = (ap (newestItem (s .scope)) (given-named ps s n e b q) ∙ ap (itemIn (s .scope)) (given-newest ps (s .scope) e b q), r)
+
+pub used-newest : (xs : List Ident) (b : Tree) (s : State) → Named s → All (Newest (s .scope)) (nowOf xs b s)
+unfolding capturedVars
+used-newest xs b s n =
+    let l = capturedIn (map nameIn xs) s (s .scope .names .live) in
+    let h = now-newest (map nameIn xs) s n (s .scope .names .live) in
+    all-either (Newest (s .scope)) (holdsLambda b) l _ h (kept-items (Newest (s .scope)) (λ x. member x (namesUsed b)) l h)
+
+-- The first entry of a name
+
+pub record FoundItem (P : Item → Type 0) (x : ℕ) (l : List Item) : Type 0 where
+  pub v : Item
+  pub is : find x l ≡ some v
+  pub named : nameOf v ≡ x
+  pub holds : P v
+
+pub find-some : (P : Item → Type 0) (x : ℕ) (l : List Item) → All P l → (countOf x l ≡ 0 → ⊥) → FoundItem P x l
+unfolding find countOf
+find-some P x [] a h = absurd (h refl)
+find-some P x (i ∷ l) a h = go (eqb (nameOf i) x) refl h (find-some P x l (a .1))
+  where
+    go : (q : Bool) → eqb (nameOf i) x ≡ q → (cond q (suc (countOf x l)) (countOf x l) ≡ 0 → ⊥) → ((countOf x l ≡ 0 → ⊥) → FoundItem P x l)
+        → FoundItem P x (i ∷ l)
+    go true k g r = record { v = i; is = rw k; named = eqb-true (nameOf i) x k; holds = a .0 }
+    go false k g r = let f = r g in record { v = f .v; is = rw k (f .is); named = f .named; holds = f .holds }
+
+pub find-none : (x : ℕ) (l : List Item) → countOf x l ≡ 0 → find x l ≡ none
+unfolding find countOf
+find-none x [] h = refl
+find-none x (i ∷ l) h = go (eqb (nameOf i) x) h (find-none x l)
+  where
+    go : (q : Bool) → cond q (suc (countOf x l)) (countOf x l) ≡ 0 → (countOf x l ≡ 0 → find x l ≡ none) → cond q (some i) (find x l) ≡ none
+    go true e r = absurd (omega arith)
+    go false e r = r e

@@ -1,0 +1,41 @@
+-- `enclosing_of`.
+use Rattle.work.specs.WorksLaws.{spacious}
+use Rattle.lists.proofs.KeptCase.{enclosing-none, enclosing-inside, enclosing-some}
+use borrow.Author.Needs.{needs}
+use Rattle.lists.proofs.amend.enclosing_of.Statement.{statement}
+use Rattle.lists.proofs.amend.enclosing_of.Tie as tie
+
+newest-capture-requires : tie.Need-newest-capture-requires
+newest-capture-requires c κs = spacious (c .before .pre .here .works)
+
+enum-known-found : tie.Need-enum-known-found
+enum-known-found c = search needs
+
+enum-told : tie.Need-enum-told
+enum-told c = search needs
+
+returns : tie.Need-returns
+returns c = enclosing-none (c .before .before .newest-capture .ensures) (c .enum-told .given .1)
+
+load-taken-requires : tie.Need-load-taken-requires
+load-taken-requires c κs =
+    let at-newest-capture = c .before .before .before in
+    let start = at-newest-capture .before .before in
+    (start .pre .here .works .long, enclosing-inside (at-newest-capture .newest-capture .ensures) (c .before .found .given .1) (start .pre .here))
+
+returns-2 : tie.Need-returns-2
+returns-2 c =
+    let at-found = c .before .before in
+    let at-newest-capture = at-found .before .before in
+    enclosing-some (at-newest-capture .newest-capture .ensures) (at-found .found .given .1) (c .load-taken .ensures)
+
+pub enclosing-of-spec : {M : Type 1} → statement M
+enclosing-of-spec =
+    tie.close
+    (tie.spec
+    newest-capture-requires
+    enum-known-found
+    enum-told
+    returns
+    load-taken-requires
+    returns-2)

@@ -1,0 +1,28 @@
+-- `gives`.
+use Rattle.work.specs.WorksLaws.{spacious}
+use Rattle.lists.proofs.NowCase.{gives-no, gives-yes}
+use borrow.Author.Needs.{needs}
+use Rattle.lists.proofs.amend.gives.Statement.{statement}
+use Rattle.lists.proofs.amend.gives.Tie as tie
+
+live-at-requires : tie.Need-live-at-requires
+live-at-requires c κs = (spacious (c .before .before .pre .1 .works), c .before .before .pre .2)
+
+returns : tie.Need-returns
+returns c = gives-no (c .before .before .live-at .ensures) (c .if1 .taken)
+
+captured-at-requires : tie.Need-captured-at-requires
+captured-at-requires c κs = search needs
+
+is-at-requires : tie.Need-is-at-requires
+is-at-requires c κs = search needs
+
+returns-2 : tie.Need-returns-2
+returns-2 c =
+    let at-if1 = c .before .before in
+    let at-live-at = at-if1 .before .before in
+    gives-yes (at-live-at .live-at .ensures) (at-if1 .if1 .left) (c .before .captured-at .ensures) (c .is-at .ensures)
+
+pub gives-spec : {M : Type 1} → statement M
+gives-spec =
+    tie.close (tie.spec live-at-requires returns captured-at-requires is-at-requires returns-2)

@@ -1,0 +1,34 @@
+-- `number_list`.
+use Rattle.lists.proofs.NumberCase.{first-held, second-held, both}
+use borrow.Author.Needs.{needs}
+use Rattle.lists.proofs.number.number_list.Statement.{statement}
+use Rattle.lists.proofs.number.number_list.Tie as tie
+
+number-rows-requires : tie.Need-number-rows-requires
+number-rows-requires c κs =
+    let start = c .before .before .before .before in
+    (start .pre .0, first-held (start .args .e) (start .pre .0) (start .pre .1) (start .pre .2))
+
+number-rows-requires-2 : tie.Need-number-rows-requires-2
+number-rows-requires-2 c κs =
+    let at-number-rows = c .before .before .before .before .before .before in
+    let start = at-number-rows .before .before .before .before .before in
+    (start .pre .0, second-held (start .args .e) (start .pre .0) (at-number-rows .number-rows .ensures) (start .pre .1) (start .pre .2))
+
+same-length : tie.Need-same-length
+same-length c = search needs
+
+same-length-2 : tie.Need-same-length-2
+same-length-2 c = search needs
+
+returns : tie.Need-returns
+returns c =
+    let at-number-rows2 = c .before .before .before .before in
+    let at-number-rows = at-number-rows2 .before .before .before .before .before .before .before in
+    let start = at-number-rows .before .before .before .before .before in
+    both (start .args .e) (start .pre .0) (at-number-rows .number-rows .ensures) (at-number-rows2 .number-rows2 .ensures)
+
+pub number-list-spec : {M : Type 1} → statement M
+number-list-spec =
+    tie.close
+    (tie.spec number-rows-requires number-rows-requires-2 same-length same-length-2 returns)

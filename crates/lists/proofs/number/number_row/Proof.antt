@@ -1,0 +1,70 @@
+-- `number_row`.
+use native.Mathlib.Omega.{arith}
+use borrow.Author.Tests.{not-true, not-false}
+use Rattle.lists.proofs.RowsCase.{captured-long}
+use Rattle.lists.proofs.NumberCase.{row-taken, row-left, row-numbered}
+use borrow.Author.Needs.{needs}
+use Rattle.lists.proofs.number.number_row.Statement.{statement}
+use Rattle.lists.proofs.number.number_row.Tie as tie
+
+load-item-requires : tie.Need-load-item-requires
+load-item-requires c κs =
+    let start = c .before .before .before .before in
+    (captured-long (start .pre .0 .held .tied), start .pre .0 .held .tied .works .long, start .pre .0 .inside)
+
+is-due-requires : tie.Need-is-due-requires
+is-due-requires c κs = search needs
+
+same-length : tie.Need-same-length
+same-length c = search needs
+
+same-length-2 : tie.Need-same-length-2
+same-length-2 c = search needs
+
+returns : tie.Need-returns
+returns c =
+    let at-load-item = c .before .before .before in
+    (row-left _ (at-load-item .load-item .ensures) (c .before .is-due .ensures) (not-true _ (c .if1 .taken)), omega arith)
+
+take-row-requires : tie.Need-take-row-requires
+take-row-requires c κs =
+    let at-if1 = c .before .before in
+    let at-is-due = at-if1 .before in
+    let at-load-item = at-is-due .before .before in
+    let start = at-load-item .before .before .before .before .before in
+    row-taken _ (at-load-item .load-item .ensures) (at-is-due .is-due .ensures) (start .pre .0) (not-false _ (at-if1 .if1 .left))
+
+add-t20 : tie.Need-add-t20
+add-t20 c = search needs
+
+same-length-3 : tie.Need-same-length-3
+same-length-3 c = search needs
+
+same-length-4 : tie.Need-same-length-4
+same-length-4 c = search needs
+
+returns-2 : tie.Need-returns-2
+returns-2 c =
+    let at-take-row = c .before .before .before .before in
+    let at-if1 = at-take-row .before .before .before in
+    let at-is-due = at-if1 .before in
+    let at-load-item = at-is-due .before .before in (
+      row-numbered _ (at-load-item .load-item .ensures) (at-is-due .is-due .ensures) (not-false _ (at-if1 .if1 .left))
+          (at-take-row .take-row .ensures),
+      omega arith,
+    )
+
+pub number-row-spec : {M : Type 1} → statement M
+number-row-spec =
+    tie.close
+    (tie.spec
+    load-item-requires
+    is-due-requires
+    same-length
+    same-length-2
+    returns
+    take-row-requires
+    add-t20
+    same-length-3
+    same-length-4
+    returns-2)

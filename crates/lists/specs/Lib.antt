@@ -1,0 +1,5 @@
+pub mod Contract
+pub mod Rewrites
+pub mod Given
+pub mod Numbered
+pub mod Kept

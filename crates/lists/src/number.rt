@@ -1,0 +1,234 @@
+// The offsets that a second run gives on entering a lambda.
+use crate::rows::Item;
+use crate::rows::load_item;
+use scope_map::Found;
+use semantic::Entries;
+use semantic::ScopeInfo;
+use table::wide;
+use work::Pass;
+use work::captures::Taken;
+use work::captures::define_capture;
+use work::captures::newest_capture;
+use work::narrow;
+ghost use mathlib.Core.Path.{_≡_};
+ghost use mathlib.Core.Bool.{cond, not};
+ghost use Prim.Native.Nat.{_+_, _-_, _≤_, _<_};
+ghost use lib.ListN.{length};
+ghost use lib.Dec.{leb};
+ghost use Rattle.pass.specs.Lists.{isNear, captureFrom, heapFrom, parentFrom};
+ghost use Rattle.pass.specs.Run.{itemsMost, itemsLength};
+ghost use Rattle.lists.specs.Contract.{Inside, CapturesRoom, SomeHeld, Numbers, CountsHeap};
+ghost use Rattle.lists.specs.Numbered.{nearOf, takenBy, TellsNear, PutsOffsets, TakeHeld, TakesRow, RowHeld, NumbersRow, RowsHeld, NumbersRows};
+
+// What the newest capture of a name stands for.
+pub enum Nearby {
+    Info(ScopeInfo),
+    Nothing,
+}
+
+// The newest capture of the name, if it lies in the newest layer or the next one down.
+pub fn near(p: Pass, captured: &[u32], work: &[u32], name: u32) -> Nearby
+    requires { ⌜ SomeHeld p (now captured) (now work) ⌝ }
+    ensures { λ r. ⌜ TellsNear p (now (captured .entry)) (now (work .entry)) name r ⌝ }
+{
+    let found = newest_capture(p, work, name);
+    let Found::At {
+        row: _,
+        layer,
+        value,
+    } = found
+    else {
+        return Nearby::Nothing;
+    };
+    let captures = p.captures;
+    if is_far(captures.depth, layer) {
+        return Nearby::Nothing;
+    }
+    Nearby::Info(semantic::items::load_info(captured, wide(value)))
+}
+
+// Whether the layer lies below the one next to the newest.
+fn is_far(depth: u32, layer: u32) -> bool
+    ensures { λ r. ⌜ r ≡ not (leb (depth - layer) 1) ⌝ }
+{
+    if depth <= layer {
+        return false;
+    }
+    1 < depth - layer
+}
+
+fn is_near(o: Nearby) -> bool
+    ensures { λ r. ⌜ r ≡ isNear (nearOf o) ⌝ }
+{
+    match o {
+        Nearby::Info(_) => true,
+        Nearby::Nothing => false,
+    }
+}
+
+fn capture_from(o: Nearby, i: u32) -> u32
+    ensures { λ r. ⌜ r ≡ captureFrom (nearOf o) i ⌝ }
+{
+    match o {
+        Nearby::Info(w) => w.read_capture_offset,
+        Nearby::Nothing => i,
+    }
+}
+
+fn heap_from(o: Nearby, slot: u32) -> u32
+    ensures { λ r. ⌜ r ≡ heapFrom (nearOf o) slot ⌝ }
+{
+    match o {
+        Nearby::Info(w) => w.read_heap_offset,
+        Nearby::Nothing => slot,
+    }
+}
+
+fn parent_from(o: Nearby, slot: u32) -> u32
+    ensures { λ r. ⌜ r ≡ parentFrom (nearOf o) slot ⌝ }
+{
+    match o {
+        Nearby::Info(w) => w.local_heap_offset,
+        Nearby::Nothing => slot,
+    }
+}
+
+// The entry in row r takes its offsets.
+fn put_offsets(captured: &mut [u32], heap: bool, r: usize, i: u32, o: Nearby, slot: u32)
+    requires { ⌜ (length (now captured) ≡ itemsLength) × (r < itemsMost) ⌝ }
+    ensures { λ _. ⌜ PutsOffsets (now (captured .entry)) heap r i (nearOf o) slot (now (captured .exit)) ⌝ }
+{
+    if heap {
+        semantic::items::with_heap_offsets(
+            captured,
+            r,
+            heap_from(o, slot),
+            i,
+            parent_from(o, slot),
+            i,
+        );
+    } else {
+        semantic::items::with_capture_offsets(captured, r, capture_from(o, i), i);
+    }
+}
+
+fn taken_of(x: Item, enclosing: bool) -> Taken
+    requires { ⌜ x .binder < 4294967296 ⌝ }
+    ensures { λ r. ⌜ r ≡ takenBy x enclosing ⌝ }
+{
+    let info = x.info;
+    Taken {
+        binder: narrow(x.binder),
+        id: info.id,
+        uses: info.usage_count,
+        enclosing,
+    }
+}
+
+// The entry x in row r gets the number i, and is its name's newest capture.
+fn take_row(
+    heap: bool,
+    r: usize,
+    i: u32,
+    x: Item,
+    p: Pass,
+    captured: &mut [u32],
+    work: &mut [u32],
+) -> Pass
+    requires { ⌜ TakeHeld r x p (now captured) (now work) ⌝ }
+    ensures { λ q. ⌜ TakesRow heap r i x p (now (captured .entry)) (now (work .entry)) q (now (captured .exit)) (now (work .exit)) ⌝ }
+{
+    let o = near(p, captured, work, x.name);
+    let info = x.info;
+    put_offsets(captured, heap, r, i, o, info.stack_offset);
+    let t = taken_of(x, is_near(o));
+    define_capture(p, work, x.name, r, t)
+}
+
+// What is threaded after a row, and the next number.
+pub struct Numbered {
+    pub pass: Pass,
+    pub next: u32,
+}
+
+// Whether an entry is of those that are numbered.
+fn is_due(heap: bool, mutated: bool) -> bool
+    ensures { λ r. ⌜ r ≡ cond heap mutated (not mutated) ⌝ }
+{
+    if heap {
+        return mutated;
+    }
+    !mutated
+}
+
+// The entry in row r gets the number i, if it is mutated or not, as asked.
+fn number_row(
+    heap: bool,
+    r: usize,
+    i: u32,
+    p: Pass,
+    captured: &mut [u32],
+    work: &mut [u32],
+) -> Numbered
+    requires { ⌜ RowHeld heap r p (now captured) (now work) × (i < 4294967295) ⌝ }
+    ensures { λ q. ⌜ NumbersRow heap r i p (now (captured .entry)) (now (work .entry)) q (now (captured .exit)) (now (work .exit)) ⌝ }
+    ensures few { λ q. ⌜ q .next ≤ i + 1 ⌝ }
+{
+    let x = load_item(captured, work, r);
+    let info = x.info;
+    if !is_due(heap, info.mutated) {
+        return Numbered { pass: p, next: i };
+    }
+    let q = take_row(heap, r, i, x, p, captured, work);
+    Numbered {
+        pass: q,
+        next: i + 1,
+    }
+}
+
+// The entries that are mutated, or those that are not, are numbered.
+fn number_rows(heap: bool, e: Entries, p: Pass, captured: &mut [u32], work: &mut [u32]) -> Pass
+    requires { ⌜ Inside e × RowsHeld heap (e .length) (e .first) p (now captured) (now work) ⌝ }
+    ensures { λ q. ⌜ NumbersRows heap e p (now (captured .entry)) (now (work .entry)) q (now (captured .exit)) (now (work .exit)) ⌝ }
+{
+    let first = wide(e.first);
+    let n = wide(e.length);
+    let mut q = p;
+    let mut i = 0;
+    let mut k = 0;
+    while k < n {
+        let o = number_row(heap, first + k, i, q, captured, work);
+        let after = o.pass;
+        q = after;
+        i = o.next;
+        k += 1;
+    }
+    q
+}
+
+pub fn number_list(e: Entries, p: Pass, captured: &mut [u32], work: &mut [u32]) -> Pass
+    requires { ⌜ Inside e × CapturesRoom p e × SomeHeld p (now captured) (now work) ⌝ }
+    ensures { λ r. ⌜ Numbers e p (now (captured .entry)) (now (work .entry)) r (now (captured .exit)) (now (work .exit)) ⌝ }
+{
+    let q = number_rows(false, e, p, captured, work);
+    number_rows(true, e, q, captured, work)
+}
+
+// How many entries of a list are captured and mutated.
+pub fn heap_count(e: Entries, t: &[u32]) -> u32
+    requires { ⌜ Inside e × (length (now t) ≡ itemsLength) ⌝ }
+    ensures { λ r. ⌜ CountsHeap (now (t .entry)) e r ⌝ }
+    ensures few { λ r. ⌜ r ≤ itemsMost ⌝ }
+{
+    let first = wide(e.first);
+    let n = wide(e.length);
+    let mut h = 0;
+    let mut k = 0;
+    while k < n {
+        if semantic::items::is_heap(t, first + k) {
+            h += 1;
+        }
+        k += 1;
+    }
+    h
+}
