@@ -1,0 +1,61 @@
+-- `clear_after`: facts stay where nothing is refused.
+use Rattle.analysis.proofs.Tables.{left-facts, left-zeros}
+use borrow.Author.Needs.{needs}
+use Rattle.analysis.proofs.clear_after.Statement.{statement}
+use Rattle.analysis.proofs.clear_after.Tie as tie
+
+enum-told : tie.Need-enum-told
+enum-told c = search needs
+
+clear-requires : tie.Need-clear-requires
+clear-requires c κs = search needs
+
+enum-told-2 : tie.Need-enum-told-2
+enum-told-2 c = search needs
+
+clear-all-requires : tie.Need-clear-all-requires
+clear-all-requires c κs = search needs
+
+same-length : tie.Need-same-length
+same-length c = search needs
+
+returns : tie.Need-returns
+returns c =
+    let k = c .before .before in
+    let e = k .before .before in
+    let o = e .before .before .before .before .before .before in
+    let a = o .args in
+    left-facts (a .facts .now) (a .captured .now) (a .arguments .now) (a .work .now) (o .pre) (e .enum-told .given .1) (k .clear .ensures)
+
+same-length-2 : tie.Need-same-length-2
+same-length-2 c = search needs
+
+same-length-3 : tie.Need-same-length-3
+same-length-3 c = search needs
+
+same-length-4 : tie.Need-same-length-4
+same-length-4 c = search needs
+
+same-length-5 : tie.Need-same-length-5
+same-length-5 c = search needs
+
+returns-2 : tie.Need-returns-2
+returns-2 c =
+    let k = c .before .before .before .before .before .before .before .before in
+    left-zeros _ (k .before .before .before .before .before .enum-told2 .given .1) (k .clear-all .ensures)
+
+pub clear-after-spec : {M : Type 1} → statement M
+clear-after-spec =
+    tie.close
+    (tie.spec
+    enum-told
+    clear-requires
+    enum-told-2
+    clear-all-requires
+    same-length
+    returns
+    same-length-2
+    same-length-3
+    same-length-4
+    same-length-5
+    returns-2)

@@ -1,0 +1,54 @@
+-- `clear_all`: tables of their set lengths become zeros.
+use Rattle.analysis.proofs.Tables.{all-zero}
+use borrow.Author.Needs.{needs}
+use Rattle.analysis.proofs.clear_all.Statement.{statement}
+use Rattle.analysis.proofs.clear_all.Tie as tie
+
+clear-requires : tie.Need-clear-requires
+clear-requires c κs = search needs
+
+clear-requires-2 : tie.Need-clear-requires-2
+clear-requires-2 c κs = search needs
+
+clear-requires-3 : tie.Need-clear-requires-3
+clear-requires-3 c κs = search needs
+
+clear-requires-4 : tie.Need-clear-requires-4
+clear-requires-4 c κs = search needs
+
+same-length : tie.Need-same-length
+same-length c = search needs
+
+same-length-2 : tie.Need-same-length-2
+same-length-2 c = search needs
+
+same-length-3 : tie.Need-same-length-3
+same-length-3 c = search needs
+
+same-length-4 : tie.Need-same-length-4
+same-length-4 c = search needs
+
+returns : tie.Need-returns
+returns c =
+    let k4 = c .before .before in
+    let k3 = k4 .before .before .before .before in
+    let k2 = k3 .before .before .before .before in
+    let k1 = k2 .before .before .before .before in
+    let o = k1 .before .before .before .before .before .before in
+    let a = o .args in
+    all-zero (a .facts .now) (a .captured .now) (a .arguments .now) (a .work .now) _ _ _ _ (o .pre)
+    (k1 .clear .ensures) (k2 .clear2 .ensures) (k3 .clear3 .ensures) (k4 .clear4 .ensures)
+
+pub clear-all-spec : {M : Type 1} → statement M
+clear-all-spec =
+    tie.close
+    (tie.spec
+    clear-requires
+    clear-requires-2
+    clear-requires-3
+    clear-requires-4
+    same-length
+    same-length-2
+    same-length-3
+    same-length-4
+    returns)

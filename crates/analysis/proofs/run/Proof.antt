@@ -1,0 +1,85 @@
+-- `run`: check 1, blank tables, the runs, and what is left.
+use mathlib.Core.Path.{sym, _∙_}
+use borrow.Author.Tests.{not-true, not-false}
+use Rattle.analysis.proofs.Tables.{still-fits}
+use Rattle.analysis.proofs.Answers.{fit-lengths, unfit-answers, fit-answers}
+use borrow.Author.Needs.{needs}
+use Rattle.analysis.proofs.run.Statement.{statement}
+use Rattle.analysis.proofs.run.Tie as tie
+
+fit-requires : tie.Need-fit-requires
+fit-requires c κs = search needs
+
+same-length : tie.Need-same-length
+same-length c = search needs
+
+same-length-2 : tie.Need-same-length-2
+same-length-2 c = search needs
+
+same-length-3 : tie.Need-same-length-3
+same-length-3 c = search needs
+
+same-length-4 : tie.Need-same-length-4
+same-length-4 c = search needs
+
+returns : tie.Need-returns
+returns c = unfit-answers (sym (c .before .fit .ensures) ∙ not-true _ (c .if1 .taken))
+
+clear-all-requires : tie.Need-clear-all-requires
+clear-all-requires c κs =
+    let i = c .before .before .before .before in
+    fit-lengths _ _ (sym (i .before .fit .ensures) ∙ not-false _ (i .if1 .left))
+
+run-checked-requires : tie.Need-run-checked-requires
+run-checked-requires c κs = search needs
+
+clear-after-requires : tie.Need-clear-after-requires
+clear-after-requires c κs =
+    let r = c .before .before .before .before .before .before .before .before .before .before .before .before in
+    let k = r .before .before .before .before .before .before .before .before .before .before .before .before .before in
+    let i = k .before .before .before .before .before in
+    let a = i .before .before .before .before .before .before .before .before .before .before .before .before .args in
+    still-fits (a .facts .now) (a .captured .now) (a .arguments .now) (a .work .now) _ _ _ _
+    (fit-lengths _ _ (sym (i .before .fit .ensures) ∙ not-false _ (i .if1 .left)))
+    (r .run-checked .kept .1 .1 .1 .0 ∙ k .clear-all .kept .0)
+    (r .run-checked .kept .1 .1 .1 .1 .0 ∙ k .clear-all .kept .1 .0)
+    (r .run-checked .kept .1 .1 .1 .1 .1 .0 ∙ k .clear-all .kept .1 .1 .0)
+    (r .run-checked .kept .1 .1 .1 .1 .1 .1 .0 ∙ k .clear-all .kept .1 .1 .1 .0)
+
+same-length-5 : tie.Need-same-length-5
+same-length-5 c = search needs
+
+same-length-6 : tie.Need-same-length-6
+same-length-6 c = search needs
+
+same-length-7 : tie.Need-same-length-7
+same-length-7 c = search needs
+
+same-length-8 : tie.Need-same-length-8
+same-length-8 c = search needs
+
+returns-2 : tie.Need-returns-2
+returns-2 c =
+    let l = c .before .before .before .before .before .before .before .before in
+    let r = l .before .before .before .before .before .before .before .before .before .before .before .before .before in
+    let i = r .before .before .before .before .before .before .before .before .before .before .before .before .before .before .before .before .before .before in
+    fit-answers (sym (i .before .fit .ensures) ∙ not-false _ (i .if1 .left)) (r .run-checked .ensures) (l .clear-after .ensures)
+
+pub run-spec : {M : Type 1} → statement M
+run-spec =
+    tie.close
+    (tie.spec
+    fit-requires
+    same-length
+    same-length-2
+    same-length-3
+    same-length-4
+    returns
+    clear-all-requires
+    run-checked-requires
+    clear-after-requires
+    same-length-5
+    same-length-6
+    same-length-7
+    same-length-8
+    returns-2)

@@ -1,0 +1,48 @@
+-- `run_once`: from blank tables to the fresh outcome.
+use Rattle.analysis.proofs.Runs.{first-ready, fresh-ends}
+use borrow.Author.Needs.{needs}
+use Rattle.analysis.proofs.run_once.Statement.{statement}
+use Rattle.analysis.proofs.run_once.Tie as tie
+
+new-requires : tie.Need-new-requires
+new-requires c κs = search needs
+
+run-with-scope-requires : tie.Need-run-with-scope-requires
+run-with-scope-requires c κs =
+    let n = c .before .before .before .before in
+    first-ready (n .before .before .before .before .before .before .before .pre) (n .new .ensures)
+
+refused-first-requires : tie.Need-refused-first-requires
+refused-first-requires c κs = search needs
+
+same-length : tie.Need-same-length
+same-length c = search needs
+
+same-length-2 : tie.Need-same-length-2
+same-length-2 c = search needs
+
+same-length-3 : tie.Need-same-length-3
+same-length-3 c = search needs
+
+same-length-4 : tie.Need-same-length-4
+same-length-4 c = search needs
+
+returns : tie.Need-returns
+returns c =
+    let r = c .before .before .before .before .before .before .before .before .before in
+    let n = r .before .before .before .before .before in
+    fresh-ends (n .before .before .before .before .before .before .before .pre) (n .new .ensures)
+    (r .run-with-scope .ensures) (c .refused-first .result) (c .refused-first .ensures)
+
+pub run-once-spec : {M : Type 1} → statement M
+run-once-spec =
+    tie.close
+    (tie.spec
+    new-requires
+    run-with-scope-requires
+    refused-first-requires
+    same-length
+    same-length-2
+    same-length-3
+    same-length-4
+    returns)

@@ -1,0 +1,44 @@
+-- What the steps of an operation promise: each of every tree that the records are.
+use Prim.Native.Nat.{ℕ}
+use mathlib.Core.Bool.{Bool, true, false}
+use mathlib.Core.List.{List}
+use mathlib.Core.Option.{Option, none, some}
+use mathlib.Core.Path.{_≡_}
+use lib.ListN.{length, replicate}
+use Rattle.tree.specs.Tree.{Trees}
+use Rattle.tree.specs.Check.{Refusal, refusal}
+use Rattle.tree.specs.Accepted.{Accepted}
+use Rattle.pass.specs.Run.{Tables, Outcome, workLength, zeros, freshOutcome, settledOutcome, nineIn, tenIn}
+use Rattle.work.specs.Coded.{notedOf}
+use Rattle.work.specs.declared.Pass.{Pass}
+
+-- the refusal of a fresh run, by what was noted
+abbrev pub firstIn : Pass → Option Refusal
+firstIn p = nineIn (notedOf (p .nine)) (tenIn (notedOf (p .ten)))
+
+abbrev pub outcomeBy : Bool → List ℕ → Trees → Outcome
+outcomeBy true = settledOutcome
+outcomeBy false = freshOutcome
+
+-- what stays in the tables: the facts, or nothing where there is a refusal
+abbrev pub left : Option Refusal → Tables → Tables
+left none t = record { facts = t .facts; captured = t .captured; arguments = t .arguments; work = replicate workLength 0 }
+left (some r) t = zeros
+
+abbrev pub cleared : Outcome → Outcome
+cleared o = record { refused = o .refused; tables = left (o .refused) (o .tables) }
+
+-- the records are trees, and nothing is known of them yet
+pub record Begins (classes rs : List ℕ) (t : Tables) : Type 0 where
+  pub ts : Trees
+  pub accepted : Accepted (length classes) rs ts
+  pub blank : t ≡ zeros
+
+-- what is left of o is the outcome for the trees that the records are
+pub record Ends (outcomeOf : List ℕ → Trees → Outcome) (classes rs : List ℕ) (o : Outcome) : Type 0 where
+  pub sound : (ts : Trees) → Accepted (length classes) rs ts → cleared o ≡ outcomeOf classes ts
+
+-- the same of any records: the checks say whether they are trees
+pub record Checks (outcomeOf : List ℕ → Trees → Outcome) (classes rs : List ℕ) (o : Outcome) : Type 0 where
+  pub unsound : (r : Refusal) → refusal (length classes) rs ≡ some r → cleared o ≡ record { refused = some r; tables = zeros }
+  pub sound : (ts : Trees) → Accepted (length classes) rs ts → cleared o ≡ outcomeOf classes ts

@@ -1,0 +1,254 @@
+// The pass over lent tables: the fresh run and the settled run.
+use tree::Checked;
+use visits::run::run_with_scope;
+use work::BINDERS;
+use work::Noted;
+use work::Pass;
+use work::Second;
+use work::WORK;
+ghost use mathlib.Core.Path.{_≡_};
+ghost use mathlib.Core.Bool.{true};
+ghost use Prim.Native.Nat.{_≤_};
+ghost use lib.ListN.{length, replicate};
+ghost use Rattle.table.specs.Region.{replaced};
+ghost use Rattle.tree.specs.Answer.{refusalOf};
+ghost use Rattle.pass.specs.Run.{Fresh, Settled, Answers, zeros, lengthsFit, fitting, freshOutcome, settledOutcome};
+ghost use Rattle.work.specs.Coded.{secondOf};
+ghost use Rattle.work.specs.Works.{bindersFirst};
+ghost use Rattle.analysis.specs.Answer.{tables, refusalIn, outcomeOf};
+ghost use Rattle.analysis.specs.Steps.{firstIn, outcomeBy, left, Begins, Ends, Checks};
+
+pub const FACTS: usize = 81920;
+
+pub const ITEMS: usize = 53248;
+
+// What an operation answers: that the tables hold the facts, or a refusal's number and record.
+pub enum Answer {
+    Accepted,
+    Refused(u32, usize),
+}
+
+// Check 1: whole records, and every lent table of its set length.
+fn fit(records: &[u32], facts: &[u32], captured: &[u32], arguments: &[u32], work: &[u32]) -> bool
+    ensures { λ r. ⌜ r ≡ fitting (now (records .entry)) (tables (now (facts .entry)) (now (captured .entry)) (now (arguments .entry)) (now (work .entry))) ⌝ }
+{
+    if records.len() % 6 != 0 {
+        return false;
+    }
+    if facts.len() != FACTS {
+        return false;
+    }
+    if captured.len() != ITEMS {
+        return false;
+    }
+    if arguments.len() != ITEMS {
+        return false;
+    }
+    work.len() == WORK
+}
+
+fn answer_of(c: Checked) -> Answer
+    ensures { λ r. ⌜ refusalIn r ≡ refusalOf c ⌝ }
+{
+    match c {
+        Checked::Fit => Answer::Accepted,
+        Checked::Ragged => Answer::Refused(1, 0),
+        Checked::TooMany => Answer::Refused(2, 0),
+        Checked::Field(i) => Answer::Refused(3, i),
+        Checked::Missing(i) => Answer::Refused(4, i),
+        Checked::Deep(i) => Answer::Refused(5, i),
+        Checked::NotAName(i) => Answer::Refused(6, i),
+        Checked::EmptyCall(i) => Answer::Refused(7, i),
+        Checked::Repeated(i) => Answer::Refused(8, i),
+    }
+}
+
+// 9 covers the whole input before 10.
+fn refused_first(p: Pass) -> Answer
+    ensures { λ r. ⌜ refusalIn r ≡ firstIn p ⌝ }
+{
+    let nine = p.nine;
+    if let Noted::At(i) = nine {
+        return Answer::Refused(9, i);
+    }
+    let ten = p.ten;
+    match ten {
+        Noted::At(i) => Answer::Refused(10, i),
+        Noted::Nothing => Answer::Accepted,
+    }
+}
+
+fn refused_second(p: Pass) -> Answer
+    ensures { λ r. ⌜ refusalIn r ≡ secondOf (p .second) ⌝ }
+{
+    let second = p.second;
+    match second {
+        Second::At(n, i) => Answer::Refused(n, i),
+        Second::Nothing => Answer::Accepted,
+    }
+}
+
+fn clear_all(facts: &mut [u32], captured: &mut [u32], arguments: &mut [u32], work: &mut [u32])
+    requires { ⌜ lengthsFit (tables (now facts) (now captured) (now arguments) (now work)) ≡ true ⌝ }
+    ensures { λ _. ⌜ tables (now (facts .exit)) (now (captured .exit)) (now (arguments .exit)) (now (work .exit)) ≡ zeros ⌝ }
+{
+    table::clear(facts);
+    table::clear(captured);
+    table::clear(arguments);
+    table::clear(work);
+}
+
+// The work table holds no answer, and a refusal leaves none.
+fn clear_after(
+    a: Answer,
+    facts: &mut [u32],
+    captured: &mut [u32],
+    arguments: &mut [u32],
+    work: &mut [u32],
+)
+    requires { ⌜ lengthsFit (tables (now facts) (now captured) (now arguments) (now work)) ≡ true ⌝ }
+    ensures { λ _. ⌜ tables (now (facts .exit)) (now (captured .exit)) (now (arguments .exit)) (now (work .exit)) ≡ left (refusalIn a) (tables (now (facts .entry)) (now (captured .entry)) (now (arguments .entry)) (now (work .entry))) ⌝ }
+{
+    if let Answer::Accepted = a {
+        table::clear(work);
+    } else {
+        clear_all(facts, captured, arguments, work);
+    }
+}
+
+// The names and captures of the run before go; the binders of the captured entries stay.
+fn clear_names(work: &mut [u32])
+    requires { ⌜ bindersFirst ≤ length (now work) ⌝ }
+    ensures { λ _. ⌜ now (work .exit) ≡ replaced (now (work .entry)) 0 bindersFirst (replicate bindersFirst 0) ⌝ }
+{
+    let end = BINDERS;
+    table::clear(&mut work[..end]);
+}
+
+fn run_once(
+    classes: &[u8],
+    records: &[u32],
+    facts: &mut [u32],
+    captured: &mut [u32],
+    arguments: &mut [u32],
+    work: &mut [u32],
+) -> Answer
+    requires { ⌜ Begins (now classes) (now records) (tables (now facts) (now captured) (now arguments) (now work)) ⌝ }
+    ensures { λ r. ⌜ Ends freshOutcome (now (classes .entry)) (now (records .entry)) (outcomeOf r (now (facts .exit)) (now (captured .exit)) (now (arguments .exit)) (now (work .exit))) ⌝ }
+{
+    let p = run_with_scope(
+        classes,
+        records,
+        Pass::new(0, 0),
+        facts,
+        captured,
+        arguments,
+        work,
+    );
+    refused_first(p)
+}
+
+fn run_twice(
+    classes: &[u8],
+    records: &[u32],
+    facts: &mut [u32],
+    captured: &mut [u32],
+    arguments: &mut [u32],
+    work: &mut [u32],
+) -> Answer
+    requires { ⌜ Begins (now classes) (now records) (tables (now facts) (now captured) (now arguments) (now work)) ⌝ }
+    ensures { λ r. ⌜ Ends settledOutcome (now (classes .entry)) (now (records .entry)) (outcomeOf r (now (facts .exit)) (now (captured .exit)) (now (arguments .exit)) (now (work .exit))) ⌝ }
+{
+    let p = run_with_scope(
+        classes,
+        records,
+        Pass::new(0, 0),
+        facts,
+        captured,
+        arguments,
+        work,
+    );
+    let a = refused_first(p);
+    let Answer::Accepted = a else {
+        return a;
+    };
+    clear_names(work);
+    let q = run_with_scope(
+        classes,
+        records,
+        Pass::new(p.captured_top, p.arguments_top),
+        facts,
+        captured,
+        arguments,
+        work,
+    );
+    refused_second(q)
+}
+
+fn run_checked(
+    records: &[u32],
+    classes: &[u8],
+    twice: bool,
+    facts: &mut [u32],
+    captured: &mut [u32],
+    arguments: &mut [u32],
+    work: &mut [u32],
+) -> Answer
+    requires { ⌜ tables (now facts) (now captured) (now arguments) (now work) ≡ zeros ⌝ }
+    ensures { λ r. ⌜ Checks (outcomeBy twice) (now (classes .entry)) (now (records .entry)) (outcomeOf r (now (facts .exit)) (now (captured .exit)) (now (arguments .exit)) (now (work .exit))) ⌝ }
+{
+    let a = answer_of(tree::check(records, classes.len()));
+    let Answer::Accepted = a else {
+        return a;
+    };
+    if twice {
+        return run_twice(classes, records, facts, captured, arguments, work);
+    }
+    run_once(classes, records, facts, captured, arguments, work)
+}
+
+fn run(
+    records: &[u32],
+    classes: &[u8],
+    twice: bool,
+    facts: &mut [u32],
+    captured: &mut [u32],
+    arguments: &mut [u32],
+    work: &mut [u32],
+) -> Answer
+    ensures { λ r. ⌜ Answers (outcomeBy twice) (now (classes .entry)) (now (records .entry)) (tables (now (facts .entry)) (now (captured .entry)) (now (arguments .entry)) (now (work .entry))) (outcomeOf r (now (facts .exit)) (now (captured .exit)) (now (arguments .exit)) (now (work .exit))) ⌝ }
+{
+    if !fit(records, facts, captured, arguments, work) {
+        return Answer::Refused(1, 0);
+    }
+    clear_all(facts, captured, arguments, work);
+    let a = run_checked(records, classes, twice, facts, captured, arguments, work);
+    clear_after(a, facts, captured, arguments, work);
+    a
+}
+
+pub fn fresh(
+    records: &[u32],
+    classes: &[u8],
+    facts: &mut [u32],
+    captured: &mut [u32],
+    arguments: &mut [u32],
+    work: &mut [u32],
+) -> Answer
+    ensures { λ r. ⌜ Fresh (now (classes .entry)) (now (records .entry)) (tables (now (facts .entry)) (now (captured .entry)) (now (arguments .entry)) (now (work .entry))) (outcomeOf r (now (facts .exit)) (now (captured .exit)) (now (arguments .exit)) (now (work .exit))) ⌝ }
+{
+    run(records, classes, false, facts, captured, arguments, work)
+}
+
+pub fn settled(
+    records: &[u32],
+    classes: &[u8],
+    facts: &mut [u32],
+    captured: &mut [u32],
+    arguments: &mut [u32],
+    work: &mut [u32],
+) -> Answer
+    ensures { λ r. ⌜ Settled (now (classes .entry)) (now (records .entry)) (tables (now (facts .entry)) (now (captured .entry)) (now (arguments .entry)) (now (work .entry))) (outcomeOf r (now (facts .exit)) (now (captured .exit)) (now (arguments .exit)) (now (work .exit))) ⌝ }
+{
+    run(records, classes, true, facts, captured, arguments, work)
+}

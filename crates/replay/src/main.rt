@@ -1,0 +1,202 @@
+// Holds the port to the Rust's answers. The input and how it was made: tools/replay/make.py.
+mod compare;
+mod input;
+
+use compare::same_answer;
+use input::least;
+use input::next_number;
+use table::wide;
+ghost use mathlib.Core.Path.{_≡_};
+ghost use Prim.Native.Nat.{_≤_};
+ghost use lib.ListN.{length};
+ghost use Rattle.replay.specs.Reads.{Reads};
+
+// How many trees there were, how many answers, and how many of those agreed.
+struct Tally {
+    trees: u64,
+    answers: u64,
+    agree: u64,
+}
+
+// One more where it is so; a count too large stays as it is.
+fn count(n: u64, so: bool) -> u64 {
+    if !so {
+        return n;
+    }
+    if 1000000000 < n {
+        return n;
+    }
+    n + 1
+}
+
+fn tallied(t: Tally, first: bool, second: bool) -> Tally {
+    Tally {
+        trees: count(t.trees, true),
+        answers: count(count(t.answers, true), true),
+        agree: count(count(t.agree, first), second),
+    }
+}
+
+fn report(t: Tally) {
+    io::write_all(1, b"trees=");
+    io::print_decimal(1, t.trees);
+    io::write_all(1, b" answers=");
+    io::print_decimal(1, t.answers);
+    io::write_all(1, b" agree=");
+    io::print_decimal(1, t.agree);
+    io::write_all(1, b"\n");
+}
+
+// n classes; answers the place after them.
+fn read_classes(classes: &mut [u8], n: usize, input: &[u8], at: usize) -> usize
+    requires { ⌜ n ≤ length (now classes) ⌝ }
+    ensures { λ r. ⌜ at ≤ r ⌝ }
+{
+    let mut next = at;
+    let mut i = 0;
+    while i < n {
+        let number = next_number(input, next);
+        classes[i] = (number.value % 256) as u8;
+        next = number.next;
+        i += 1;
+    }
+    next
+}
+
+fn read_records(records: &mut [u32], n: usize, input: &[u8], at: usize) -> usize
+    requires { ⌜ n ≤ length (now records) ⌝ }
+    ensures { λ r. ⌜ at ≤ r ⌝ }
+{
+    let mut next = at;
+    let mut i = 0;
+    while i < n {
+        let number = next_number(input, next);
+        records[i] = number.value;
+        next = number.next;
+        i += 1;
+    }
+    next
+}
+
+// A case, if there is one: how many classes and numbers of records it has, and the place after them.
+struct Case {
+    found: bool,
+    names: usize,
+    numbers: usize,
+    next: usize,
+}
+
+// What does not fit the tables is cut.
+fn read_case(classes: &mut [u8], records: &mut [u32], input: &[u8], at: usize) -> Case
+    ensures { λ r. ⌜ Reads (now (input .entry)) at (r .found) (r .next) ⌝ }
+    ensures { λ r. ⌜ r .names ≤ length (now (classes .exit)) ⌝ }
+    ensures { λ r. ⌜ r .numbers ≤ length (now (records .exit)) ⌝ }
+{
+    let first = next_number(input, at);
+    let names = least(wide(first.value), classes.len());
+    let after = read_classes(classes, names, input, first.next);
+    let count_of = next_number(input, after);
+    let numbers = least(6 * wide(count_of.value), records.len());
+    let next = read_records(records, numbers, input, count_of.next);
+    Case {
+        found: first.found,
+        names,
+        numbers,
+        next,
+    }
+}
+
+// Whether both answers are the Rust's, and the place after them.
+struct Both {
+    first: bool,
+    second: bool,
+    next: usize,
+}
+
+fn compare_both(
+    records: &[u32],
+    classes: &[u8],
+    facts: &mut [u32],
+    captured: &mut [u32],
+    arguments: &mut [u32],
+    work: &mut [u32],
+    input: &[u8],
+    at: usize,
+) -> Both
+    ensures { λ r. ⌜ at ≤ r .next ⌝ }
+{
+    let one = analysis::fresh(records, classes, facts, captured, arguments, work);
+    let first = same_answer(one, facts, captured, arguments, work, input, at);
+    let two = analysis::settled(records, classes, facts, captured, arguments, work);
+    let second = same_answer(two, facts, captured, arguments, work, input, first.next);
+    Both {
+        first: first.same,
+        second: second.same,
+        next: second.next,
+    }
+}
+
+fn replay(
+    classes: &mut [u8],
+    records: &mut [u32],
+    facts: &mut [u32],
+    captured: &mut [u32],
+    arguments: &mut [u32],
+    work: &mut [u32],
+    input: &[u8],
+) -> Tally {
+    let mut tally = Tally {
+        trees: 0,
+        answers: 0,
+        agree: 0,
+    };
+    let mut at = 0;
+    loop {
+        let case = read_case(classes, records, input, at);
+        if !case.found {
+            return tally;
+        }
+        let names = case.names;
+        let numbers = case.numbers;
+        let b = compare_both(
+            &records[..numbers],
+            &classes[..names],
+            facts,
+            captured,
+            arguments,
+            work,
+            input,
+            case.next,
+        );
+        tally = tallied(tally, b.first, b.second);
+        at = b.next;
+    }
+}
+
+// Room for the input. As with the kit's buffers, the length alone is told.
+fn space() -> [u8; 1048576]
+    ensures { λ r. ⌜ 1048576 ≡ length r ⌝ }
+{
+    [0; 1048576]
+}
+
+fn main() {
+    let mut input = space();
+    let end = io::read_full(0, &mut input);
+    let mut classes = [0u8; 64];
+    let mut records = [0u32; 360];
+    let mut facts = [0u32; 81920];
+    let mut captured = [0u32; 53248];
+    let mut arguments = [0u32; 53248];
+    let mut work = [0u32; 61440];
+    let t = replay(
+        &mut classes,
+        &mut records,
+        &mut facts,
+        &mut captured,
+        &mut arguments,
+        &mut work,
+        &input[..end],
+    );
+    report(t);
+}

@@ -1,0 +1,17 @@
+mod Views
+mod Bounds
+mod LeafCase
+mod IfCase
+mod SetCase
+mod ArgumentsCase
+mod CallCase
+mod BeginCase
+mod BeginLoop
+mod LambdaCase
+mod DefineCase
+mod LetCase
+mod LetCalls
+mod TopsEnterCase
+mod TopDefineCase
+mod TopsCase
+mod RunCase

@@ -1,0 +1,208 @@
+-- The lambda defines at top level enter: those of one tree, and those of all trees, one after another.
+use Prim.Native.Nat.{ℕ, _+_, _≤_, _<_}
+use mathlib.Core.List.{List}
+use mathlib.Core.Path.{_≡_, refl, ap, sym, subst, _∙_}
+use native.Mathlib.Omega.{arith}
+use lib.ListN.{length}
+use Rattle.tree.specs.Record.{records}
+use Rattle.tree.specs.RecordLaws.{nth}
+use Rattle.tree.specs.Tree.{Tree, Trees, ident, const, if, letin, define, lambda, begin, call, set!, nil, cons, many, size, sizes}
+use Rattle.tree.specs.TreeLaws.{length-flats, size-pos}
+use Rattle.tree.specs.Define.{topOf, topLevel}
+use Rattle.tree.specs.Parts.{own}
+use Rattle.tree.specs.Accepted.{Accepted}
+use Rattle.tree.specs.Acceptance.{holds}
+use Rattle.tree.specs.Stands.{Stands, StandAll}
+use Rattle.tree.specs.StandsLaws.{root, root-form, first-tree, later-trees, accepted-stand}
+use Rattle.tree.specs.StandsForms.{begin-of}
+use Rattle.semantic.specs.declared.IdentifierStatus.the-variants.{Global}
+use Rattle.pass.specs.State.{State}
+use Rattle.pass.specs.Visit.{enterTops}
+use Rattle.pass.specs.Visitable.{EnterableTops}
+use Rattle.pass.specs.Laws.Visitable.Runs.{enter-⊕, first-enter, next-enter}
+use Rattle.work.specs.Known.{Known}
+use Rattle.work.specs.Tied.{raw, Tied}
+use Rattle.work.specs.declared.Pass.{Pass}
+use Rattle.walk.specs.Contract.{SomeTree, Extends}
+use Rattle.forms.specs.Contract.{Fits, NamesRoom, ChildFits, EntersChild, ChildrenFit, EntersChildren}
+use Rattle.forms.specs.Defines.{enterEach, tops-entered}
+use Rattle.visits.specs.Tops.{TopEnters, EntersTop, TopsEnter, EntersTops}
+use Rattle.visits.proofs.Views.{small, good, stand-all-at, names-room}
+
+-- all records are the trees'
+pub whole : {N : ℕ} {rs : List ℕ} {ts : Trees} → Accepted N rs ts → sizes ts ≡ length (records rs)
+whole {ts = ts} a = sym (ap length (holds a) ∙ length-flats ts)
+
+-- a tree that is no begin stands at top level itself
+
+lone : (t : Tree) → (own t .form ≡ 7 → ⊥) → topOf t ≡ cons t nil
+unfolding topOf own
+lone (ident x) h = refl
+lone (const n q) h = refl
+lone (if n a b c) h = refl
+lone (letin n xs es b) h = refl
+lone (define n x b) h = refl
+lone (lambda n xs b) h = refl
+lone (begin n es) h = absurd (h refl)
+lone (call n f es) h = refl
+lone (set! n x e) h = refl
+
+pub lone-top : {N : ℕ} {rs : List ℕ} {at : ℕ} {t : Tree} → Stands N rs at t → (nth rs at .form ≡ 7 → ⊥) → topOf t ≡ cons t nil
+lone-top {t = t} s h = lone t (λ e. h (root-form s ∙ e))
+
+-- Of one tree
+
+module _ {N : ℕ} {rs : List ℕ} {at : ℕ} {p : Pass} {F w : List ℕ} (x : TopEnters N rs at p F w) where
+  pub inside : at < length (records rs)
+  inside = root (x .stands) .inside
+
+  -- a begin: its children
+  pub children-fit : {k : ℕ} → nth rs at .form ≡ 7 → k ≡ nth rs at .count → ChildrenFit N rs (at + 1) k p F w
+  unfolding topOf
+  children-fit {k} e c =
+      let v = begin-of (x .stands) e in
+      let m : k ≡ many (v .es) = c ∙ v .parts .count in
+      record {
+        captured = x .captured;
+        arguments = x .arguments;
+        s = x .s;
+        es = v .es;
+        stand = v .parts .children;
+        count = m;
+        fits = x .fits;
+        room = subst (λ (j : ℕ). NamesRoom p j) (ap (λ (t : Tree). many (topOf t)) (v .is) ∙ sym m) (x .room);
+      }
+
+  -- any other tree
+  pub child-fits : (nth rs at .form ≡ 7 → ⊥) → ChildFits N rs at p F w
+  child-fits h = record {
+    captured = x .captured;
+    arguments = x .arguments;
+    s = x .s;
+    t = x .t;
+    stands = x .stands;
+    fits = x .fits;
+    room = subst (λ (j : ℕ). NamesRoom p j) (ap many (lone-top (x .stands) h)) (x .room);
+  }
+
+module _ {classes rs : List ℕ} {at : ℕ} {p p′ : Pass} {F w F′ w′ : List ℕ} where
+  pub children-enter : {k : ℕ} → nth rs at .form ≡ 7 → k ≡ nth rs at .count → EntersChildren classes rs (at + 1) k Global p F w p′ F′ w′
+      → EntersTop classes rs at p F w p′ F′ w′
+  unfolding topOf
+  children-enter e c o = record {
+    is = λ C A s t u f.
+        let v = begin-of u e in
+        let i = o .is C A s (v .es) (v .parts .children) (c ∙ v .parts .count) f in
+        subst (λ (b : Tree). Tied (raw p′ F′ C A w′) (enterTops classes (topOf b) s)) (sym (v .is))
+        (subst (Tied (raw p′ F′ C A w′)) (tops-entered classes (v .es) s) i);
+  }
+
+  pub child-enters : (nth rs at .form ≡ 7 → ⊥) → EntersChild classes rs at Global p F w p′ F′ w′ → EntersTop classes rs at p F w p′ F′ w′
+  unfolding enterEach
+  child-enters h o = record {
+    is = λ C A s t u f.
+        subst (λ (us : Trees). Tied (raw p′ F′ C A w′) (enterTops classes us s)) (sym (lone-top u h))
+        (subst (Tied (raw p′ F′ C A w′)) (tops-entered classes (cons t nil) s) (o .is C A s t u f));
+  }
+
+-- Of all trees
+
+module _ {classes rs : List ℕ} {p : Pass} {F w : List ℕ} where
+  -- the trees from the record at on are left, and the state is held
+  pub record Left (x : TopsEnter classes rs p F w) (at : ℕ) (p′ : Pass) (F′ w′ : List ℕ) : Type 0 where
+    pub us : Trees
+    pub s : State
+    pub span : at + sizes us ≡ length (records rs)
+    pub stand : StandAll (length classes) rs at us
+    pub tied : Tied (raw p′ F′ (x .captured) (x .arguments) w′) s
+    pub fits : EnterableTops (Known rs) (topLevel us) s
+    pub state : enterTops classes (topLevel us) s ≡ enterTops classes (topLevel (x .ts)) (x .s)
+
+  pub all-left : (x : TopsEnter classes rs p F w) → Left x 0 p F w
+  all-left x = record {
+    us = x .ts;
+    s = x .s;
+    span = omega (arith, whole (x .accepted));
+    stand = accepted-stand (x .accepted);
+    tied = x .tied;
+    fits = x .fits;
+    state = refl;
+  }
+
+  pub few : TopsEnter classes rs p F w → length (records rs) ≤ 4096
+  few x = omega (arith, x .accepted .few, whole (x .accepted))
+
+  -- the next one
+  pub record Next (x : TopsEnter classes rs p F w) (at : ℕ) (p′ : Pass) (F′ w′ : List ℕ) : Type 0 where
+    pub t : Tree
+    pub rest : Trees
+    pub s : State
+    pub span : at + sizes (cons t rest) ≡ length (records rs)
+    pub stand : StandAll (length classes) rs at (cons t rest)
+    pub tied : Tied (raw p′ F′ (x .captured) (x .arguments) w′) s
+    pub fits : EnterableTops (Known rs) (topLevel (cons t rest)) s
+    pub state : enterTops classes (topLevel (cons t rest)) s ≡ enterTops classes (topLevel (x .ts)) (x .s)
+
+  pub next : {x : TopsEnter classes rs p F w} {at : ℕ} {p′ : Pass} {F′ w′ : List ℕ} → Left x at p′ F′ w′ → at < length (records rs) → Next x at p′ F′ w′
+  unfolding size
+  next {x} {at} {p′} {F′} {w′} l h = go (l .us) (l .span) (l .stand) (l .fits) (l .state)
+    where
+      go : (us : Trees) → at + sizes us ≡ length (records rs) → StandAll (length classes) rs at us → EnterableTops (Known rs) (topLevel us) (l .s)
+          → enterTops classes (topLevel us) (l .s) ≡ enterTops classes (topLevel (x .ts)) (x .s) → Next x at p′ F′ w′
+      go nil e u f q = absurd (omega arith)
+      go (cons t us) e u f q = record { t = t; rest = us; s = l .s; span = e; stand = u; tied = l .tied; fits = f; state = q }
+
+  module _ {x : TopsEnter classes rs p F w} {at : ℕ} {p′ : Pass} {F′ w′ : List ℕ} (n : Next x at p′ F′ w′) where
+    pub tree-at : SomeTree rs at
+    tree-at = record { names = length classes; tree = record { t = n .t; stands = first-tree (n .stand) } }
+
+    held : Fits rs (raw p′ F′ (x .captured) (x .arguments) w′) (n .s)
+    held = record { good = good (n .fits .enters .reliable); tied = n .tied }
+
+    pub next-fits : TopEnters (length classes) rs at p′ F′ w′
+    unfolding topLevel
+    next-fits = record {
+      captured = x .captured;
+      arguments = x .arguments;
+      t = n .t;
+      s = n .s;
+      stands = first-tree (n .stand);
+      fits = held;
+      room = names-room (n .tied) refl (first-enter small classes (topOf (n .t)) (topLevel (n .rest)) (n .fits) .room .live);
+    }
+
+    module _ {k : ℕ} (d : Extends rs at k) where
+      pub ahead : (0 < k) × (at + k ≤ length (records rs))
+      unfolding size
+      ahead =
+          let e : k ≡ size (n .t) = d .is (length classes) (n .t) (first-tree (n .stand)) in
+          (omega (arith, size-pos (n .t)), omega (arith, n .span))
+
+      pub one-less : {p″ : Pass} {F″ w″ : List ℕ} → EntersTop classes rs at p′ F′ w′ p″ F″ w″ → Left x (at + k) p″ F″ w″
+      unfolding size topLevel
+      one-less o =
+          let e : k ≡ size (n .t) = d .is (length classes) (n .t) (first-tree (n .stand)) in
+          record {
+            us = n .rest;
+            s = enterTops classes (topOf (n .t)) (n .s);
+            span = omega (arith, n .span);
+            stand = stand-all-at (ap (λ (j : ℕ). at + j) (sym e)) (later-trees (n .stand));
+            tied = o .is (x .captured) (x .arguments) (n .s) (n .t) (first-tree (n .stand)) held;
+            fits = next-enter small classes (topOf (n .t)) (topLevel (n .rest)) (n .fits);
+            state = sym (enter-⊕ classes (topOf (n .t)) (topLevel (n .rest)) (n .s)) ∙ n .state;
+          }
+
+  -- none is left
+  finished : {x : TopsEnter classes rs p F w} {at : ℕ} {p′ : Pass} {F′ w′ : List ℕ} → Left x at p′ F′ w′ → length (records rs) ≤ at
+      → Tied (raw p′ F′ (x .captured) (x .arguments) w′) (enterTops classes (topLevel (x .ts)) (x .s))
+  unfolding size topLevel enterTops
+  finished {x} {at} {p′} {F′} {w′} l h = go (l .us) (l .span) (l .state)
+    where
+      go : (us : Trees) → at + sizes us ≡ length (records rs) → enterTops classes (topLevel us) (l .s) ≡ enterTops classes (topLevel (x .ts)) (x .s)
+          → Tied (raw p′ F′ (x .captured) (x .arguments) w′) (enterTops classes (topLevel (x .ts)) (x .s))
+      go nil e q = subst (Tied (raw p′ F′ (x .captured) (x .arguments) w′)) q (l .tied)
+      go (cons t us) e q = absurd (omega (arith, size-pos t))
+
+  pub all-entered : {at : ℕ} {p′ : Pass} {F′ w′ : List ℕ} → ((x : TopsEnter classes rs p F w) → Left x at p′ F′ w′) → length (records rs) ≤ at
+      → EntersTops classes rs p F w p′ F′ w′
+  all-entered f h = record { is = λ x. finished (f x) h }

@@ -1,0 +1,137 @@
+-- What is known where a visit begins: the part of a child, the state, and the identifiers of the tree.
+use Prim.Native.Nat.{ℕ, _+_, _-_, _*_, _≤_, _<_}
+use mathlib.Core.List.{List}
+use mathlib.Core.Bool.{Bool, true, false}
+use mathlib.Core.Option.{Option, some}
+use mathlib.Core.Path.{_≡_, refl, ap, subst, _∙_}
+use native.Mathlib.Omega.{arith}
+use lib.ListN.{length, take, drop}
+use Rattle.table.specs.Part.{part-is}
+use Rattle.tree.specs.Record.{width}
+use Rattle.tree.specs.Tree.{Ident, Node, Tree, Trees, ident, const, if, letin, define, lambda, begin, call, set!, nil, cons}
+use Rattle.tree.specs.WithinLaws.{drop-records}
+use Rattle.tree.specs.Stands.{Stands, StandAll}
+use Rattle.tree.specs.StandsLaws.{IdentAt}
+use Rattle.scope_map.specs.MapLaws.{map-length}
+use Rattle.semantic.specs.declared.IdentifierStatus.the-variants.{LocallyDefinedFunction}
+use Rattle.semantic.specs.Rows.{Blank}
+use Rattle.semantic.specs.Kinds.{functionIn, letIn}
+use Rattle.semantic.specs.declared.FunctionInformation.{FunctionInformation}
+use Rattle.semantic.specs.declared.LetInformation.{LetInformation}
+use Rattle.pass.specs.State.{State, withContext, rowAt}
+use Rattle.pass.specs.Visit.{Flags, isLambda, enterIfLambda, enterChild, enterChildren}
+use Rattle.pass.specs.Run.{rowsMost, itemsMost}
+use Rattle.pass.specs.Stage.{endOf}
+use Rattle.pass.specs.Visitable.{Reliable, Room, Visitable, VisitableArguments, VisitableChildren}
+use Rattle.pass.specs.Visitable as pass
+use Rattle.work.specs.Known.{Known}
+use Rattle.work.specs.Works.{Beside, recordAt, rowOf}
+use Rattle.work.specs.Tied.{Raw, raw, Tied, Good}
+use Rattle.work.specs.Passes.{inContext}
+use Rattle.work.specs.WorksKept.{context-kept}
+use Rattle.work.specs.declared.Pass.{Pass}
+use Rattle.lists.specs.Contract.{Inside}
+use Rattle.forms.specs.Defines.{enterIf, enterOne, enterEach}
+use Rattle.forms.specs.Contract.{NamesRoom, Shallow, ListsFit, EndFits}
+
+-- the part of a child that stands k records on
+pub part-on : (rs : List ℕ) (at k : ℕ) {part p : List ℕ} → part ≡ drop (width * at) rs → p ≡ drop (width * k) part → p ≡ drop (width * (at + k)) rs
+part-on rs at k e d = d ∙ ap (drop (width * k)) e ∙ drop-records rs at k
+
+-- the part after a record and k more, as a call is lent it
+pub part-after : (l : List ℕ) (k : ℕ) → take (length l - (6 + 6 * k)) (drop (6 + 6 * k) l) ≡ drop (width * (1 + k)) l
+part-after l k =
+    let e : 6 + 6 * k ≡ width * (1 + k) = omega arith in
+    part-is l e
+
+pub small : {rs : List ℕ} (x : Ident) → Known rs x → x .at < rowsMost
+small x k = k .few
+
+pub good : {rs : List ℕ} {s : State} → Reliable (Known rs) s → Good rs s
+good r = record { rows = r .rows; arguments = r .arguments; sound = r .sound; counted = r .counted }
+
+pub known : {N : ℕ} {rs : List ℕ} {x : Ident} → IdentAt N rs x → Known rs x
+known i = record { inside = i .inside; few = i .few; is = i .is }
+
+-- at the same record, told in another way
+
+pub stands-at : {N : ℕ} {rs : List ℕ} {i j : ℕ} {t : Tree} → i ≡ j → Stands N rs i t → Stands N rs j t
+stands-at {N} {rs} {t = t} e x = subst (λ (k : ℕ). Stands N rs k t) e x
+
+pub stand-all-at : {N : ℕ} {rs : List ℕ} {i j : ℕ} {ts : Trees} → i ≡ j → StandAll N rs i ts → StandAll N rs j ts
+stand-all-at {N} {rs} {ts = ts} e x = subst (λ (k : ℕ). StandAll N rs k ts) e x
+
+pub visitable-at : {P : Ident → Type 0} {i j : ℕ} {t : Tree} {f : Flags} {s : State} → i ≡ j → Visitable P i t f s → Visitable P j t f s
+visitable-at {P} {t = t} {f} {s} e x = subst (λ (k : ℕ). Visitable P k t f s) e x
+
+pub arguments-at : {P : Ident → Type 0} {i j : ℕ} {ts : Trees} {f : Flags} {s : State} → i ≡ j → VisitableArguments P i ts f s → VisitableArguments P j ts f s
+arguments-at {P} {ts = ts} {f} {s} e x = subst (λ (k : ℕ). VisitableArguments P k ts f s) e x
+
+pub children-at : {P : Ident → Type 0} {i j : ℕ} {ts : Trees} {f : Flags} {s : State} → i ≡ j → VisitableChildren P i ts f s → VisitableChildren P j ts f s
+children-at {P} {ts = ts} {f} {s} e x = subst (λ (k : ℕ). VisitableChildren P k ts f s) e x
+
+-- k names have room among the code's rows
+pub names-room : {z : Raw} {s : State} {k m : ℕ} → Tied z s → k ≡ m → length (s .scope .names .live) + m ≤ rowsMost → NamesRoom (z .pass) k
+names-room {z} {s} {k} {m} t e h =
+    let l : z .pass .scope .length ≡ length (s .scope .names .live) = t .works .names .many ∙ map-length recordAt (s .scope .names .live) in
+    omega arith
+
+-- the lambda defines of an inner begin
+
+enters-if : (classes : List ℕ) (l : Bool) (x : Ident) (b : Tree) (s : State) → enterIf classes LocallyDefinedFunction l x b s ≡ enterIfLambda classes l x b s
+enters-if classes true x b s = refl
+enters-if classes false x b s = refl
+
+enters-one : (classes : List ℕ) (t : Tree) (s : State) → enterOne classes LocallyDefinedFunction t s ≡ enterChild classes t s
+enters-one classes (ident x) s = refl
+enters-one classes (const n q) s = refl
+enters-one classes (if n a b c) s = refl
+enters-one classes (letin n xs es b) s = refl
+enters-one classes (define n x b) s = enters-if classes (isLambda b) x b s
+enters-one classes (lambda n xs b) s = refl
+enters-one classes (begin n es) s = refl
+enters-one classes (call n h es) s = refl
+enters-one classes (set! n x e) s = refl
+
+enters-same : (classes : List ℕ) (ts : Trees) (s : State) → enterEach classes LocallyDefinedFunction ts s ≡ enterChildren classes ts s
+unfolding enterEach enterChildren
+enters-same classes nil s = refl
+enters-same classes (cons t ts) s = ap (enterEach classes LocallyDefinedFunction ts) (enters-one classes t s) ∙ enters-same classes ts (enterChild classes t s)
+
+pub entered-children : (classes : List ℕ) (es : Trees) (s : State) {z : Raw} → Tied z (enterEach classes LocallyDefinedFunction es s) → Tied z (enterChildren classes es s)
+entered-children classes es s {z} t = subst (Tied z) (enters-same classes es s) t
+
+-- both maps can open a layer
+pub shallow : {z : Raw} {s : State} {k : ℕ} → Tied z s → Room k s → Shallow (z .pass)
+shallow t r = record { scope = omega (arith, t .works .names .depth, r .layers); captures = omega (arith, t .works .captures .depth, r .captureLayers) }
+
+-- the lists of a lambda that begins, and of one that ends
+
+pub lists-fit : {z : Raw} {s : State} {i j : ℕ} → Tied z s → i ≡ j → pass.ListsFit s i → ListsFit (z .pass) s j
+lists-fit {z} {s} {i} {j} t e h v f =
+    let b = h v (ap (λ (k : ℕ). functionIn (rowAt s k)) e ∙ f) in
+    let l : z .pass .captures .length ≡ length (s .captures .live) = t .works .captures .many ∙ map-length rowOf (s .captures .live) in
+    (b .0, b .1, omega (arith, b .2))
+
+pub end-fits : {P : Ident → Type 0} {z : Raw} {s : State} {i j : ℕ} → Tied z s → i ≡ j → pass.LambdaEnds P i s → EndFits (z .pass) s j
+end-fits {s = s} t e b =
+    let f = ap (λ (k : ℕ). functionIn (rowAt s k)) e in
+    record { made = λ h. b .made (f ∙ h); amended = λ v h. b .amended v (f ∙ h); captured = omega (arith, ap (λ (o : Beside). o .capturedTop) (t .works .beside), b .captured); named = b .reliable .sound .named }
+
+-- a let that begins, and one that ends
+
+pub let-list : (s : State) {i j : ℕ} → i ≡ j → ((v : LetInformation) → letIn (rowAt s i) ≡ some v → endOf (v .arguments) ≤ itemsMost)
+    → (v : LetInformation) → letIn (rowAt s j) ≡ some v → Inside (v .arguments)
+let-list s e h v f = h v (ap (λ (k : ℕ). letIn (rowAt s k)) e ∙ f)
+
+pub let-outer : (s : State) {o : Option Node} → ((m : Node) → o ≡ some m → (m .at < rowsMost) × pass.CapturedFits s (m .at))
+    → (m : Node) → o ≡ some m → (m .at < rowsMost) × ((v : FunctionInformation) → functionIn (rowAt s (m .at)) ≡ some v → Inside (v .«captured_vars»))
+let-outer s h m e = (h m e .0, λ v f. h m e .1 v f)
+
+pub let-blank : (s : State) {i j k m : ℕ} → i ≡ j → k ≡ m → (rowAt s i ≡ Blank → s .facts .argumentsTop + m ≤ itemsMost)
+    → rowAt s j ≡ Blank → s .facts .argumentsTop + k ≤ itemsMost
+let-blank s {k = k} {m = m} e u h f = let b = h (ap (rowAt s) e ∙ f) in omega arith
+
+-- another context
+pub tied-context : {p : Pass} {F C A w : List ℕ} {s : State} (c : ℕ) → Tied (raw p F C A w) s → Tied (raw (inContext c p) F C A w) (withContext c s)
+tied-context c t = record { facts = t .facts; captured = t .captured; arguments = t .arguments; works = context-kept (t .works) c }

@@ -1,0 +1,204 @@
+-- Measures, and what each member is given and asks.
+use Prim.Native.Nat.{ℕ, _+_, _*_, _<_}
+use lib.ListN.{length}
+use borrow.Fn.Kinds.{In}
+use borrow.Fn.PlainCycle.{Measures, is, falls, and}
+use Rattle.visits.proofs.visit.visit.Reads as visit
+use Rattle.visits.proofs.visit.visit.Kinds as visit-kinds
+use Rattle.visits.proofs.visit.+visit+visit_arguments+visit_begin+visit_define+visit_if+visit_lambda_function+visit_let+visit_list+visit_set.Lts-visit as visit-lts
+use Rattle.visits.proofs.visit.visit_arguments.Reads as visit-arguments
+use Rattle.visits.proofs.visit.visit_arguments.Kinds as visit-arguments-kinds
+use Rattle.visits.proofs.visit.+visit+visit_arguments+visit_begin+visit_define+visit_if+visit_lambda_function+visit_let+visit_list+visit_set.Lts-visit_arguments as visit-arguments-lts
+use Rattle.visits.proofs.visit.visit_begin.Reads as visit-begin
+use Rattle.visits.proofs.visit.visit_begin.Kinds as visit-begin-kinds
+use Rattle.visits.proofs.visit.+visit+visit_arguments+visit_begin+visit_define+visit_if+visit_lambda_function+visit_let+visit_list+visit_set.Lts-visit_begin as visit-begin-lts
+use Rattle.visits.proofs.visit.visit_define.Reads as visit-define
+use Rattle.visits.proofs.visit.visit_define.Kinds as visit-define-kinds
+use Rattle.visits.proofs.visit.+visit+visit_arguments+visit_begin+visit_define+visit_if+visit_lambda_function+visit_let+visit_list+visit_set.Lts-visit_define as visit-define-lts
+use Rattle.visits.proofs.visit.visit_if.Reads as visit-if
+use Rattle.visits.proofs.visit.visit_if.Kinds as visit-if-kinds
+use Rattle.visits.proofs.visit.+visit+visit_arguments+visit_begin+visit_define+visit_if+visit_lambda_function+visit_let+visit_list+visit_set.Lts-visit_if as visit-if-lts
+use Rattle.visits.proofs.visit.visit_lambda_function.Reads as visit-lambda-function
+use Rattle.visits.proofs.visit.visit_lambda_function.Kinds as visit-lambda-function-kinds
+use Rattle.visits.proofs.visit.+visit+visit_arguments+visit_begin+visit_define+visit_if+visit_lambda_function+visit_let+visit_list+visit_set.Lts-visit_lambda_function as visit-lambda-function-lts
+use Rattle.visits.proofs.visit.visit_let.Reads as visit-let
+use Rattle.visits.proofs.visit.visit_let.Kinds as visit-let-kinds
+use Rattle.visits.proofs.visit.+visit+visit_arguments+visit_begin+visit_define+visit_if+visit_lambda_function+visit_let+visit_list+visit_set.Lts-visit_let as visit-let-lts
+use Rattle.visits.proofs.visit.visit_list.Reads as visit-list
+use Rattle.visits.proofs.visit.visit_list.Kinds as visit-list-kinds
+use Rattle.visits.proofs.visit.+visit+visit_arguments+visit_begin+visit_define+visit_if+visit_lambda_function+visit_let+visit_list+visit_set.Lts-visit_list as visit-list-lts
+use Rattle.visits.proofs.visit.visit_set.Reads as visit-set
+use Rattle.visits.proofs.visit.visit_set.Kinds as visit-set-kinds
+use Rattle.visits.proofs.visit.+visit+visit_arguments+visit_begin+visit_define+visit_if+visit_lambda_function+visit_let+visit_list+visit_set.Lts-visit_set as visit-set-lts
+use Rattle.forms.proofs.flags.Flags.argument.Reads as argument-reads
+use Rattle.forms.proofs.flags.Flags.body.Reads as body-reads
+use Rattle.forms.proofs.flags.Flags.child.Reads as child-reads
+use Rattle.forms.proofs.flags.Flags.define_body.Reads as define-body-reads
+use Rattle.forms.proofs.flags.Flags.head.Reads as head-reads
+use Rattle.forms.proofs.flags.Flags.let_body.Reads as let-body-reads
+use Rattle.forms.proofs.flags.Flags.not_tail.Reads as not-tail-reads
+use Rattle.forms.proofs.flags.Flags.pushed.Reads as pushed-reads
+use Rattle.forms.proofs.flags.Flags.same_tail.Reads as same-tail-reads
+use Rattle.table.proofs.wide.Reads as wide-reads
+use Rattle.tree.proofs.record.count.Reads as count-reads
+use Rattle.tree.proofs.record.form.Reads as form-reads
+use Rattle.tree.proofs.record.id.Reads as id-reads
+use Rattle.tree.proofs.record.name.Reads as name-reads
+use Rattle.forms.proofs.defines.after_define.Reads as after-define-reads
+use Rattle.forms.proofs.defines.before_define.Reads as before-define-reads
+use Rattle.forms.proofs.calls.clear_context.Reads as clear-context-reads
+use Rattle.forms.proofs.calls.end_call.Reads as end-call-reads
+use Rattle.forms.proofs.defines.enter_children.Reads as enter-children-reads
+use Rattle.forms.proofs.lambda.enter_lambda.Reads as enter-lambda-reads
+use Rattle.forms.proofs.lets.enter_let.Reads as enter-let-reads
+use Rattle.forms.proofs.lambda.leave_lambda.Reads as leave-lambda-reads
+use Rattle.forms.proofs.lets.leave_let.Reads as leave-let-reads
+use Rattle.names.proofs.read.mutate.Reads as mutate-reads
+use Rattle.names.proofs.read.read.Reads as read-reads
+use Rattle.walk.proofs.body.body_at.Reads as body-at-reads
+use Rattle.walk.proofs.extent.extent_at.Reads as extent-at-reads
+use Rattle.walk.proofs.uses.holds_lambda.Reads as holds-lambda-reads
+use Rattle.work.proofs.Pass.depth.Reads as depth-reads
+use Rattle.work.proofs.Pass.with_context.Reads as with-context-reads
+use Rattle.work.proofs.narrow.Reads as narrow-reads
+
+abbrev pub μ-visit : Measures 7 visit-kinds.ps ℕ
+μ-visit κs a = 3 * length (a .1 .1 .0 .now) + 1
+
+abbrev pub μ-visit-arguments : Measures 7 visit-arguments-kinds.ps ℕ
+μ-visit-arguments κs a = 3 * length (a .1 .1 .0 .now) + 2
+
+abbrev pub μ-visit-begin : Measures 7 visit-begin-kinds.ps ℕ
+μ-visit-begin κs a = 3 * length (a .1 .1 .0 .now)
+
+abbrev pub μ-visit-define : Measures 7 visit-define-kinds.ps ℕ
+μ-visit-define κs a = 3 * length (a .1 .1 .0 .now)
+
+abbrev pub μ-visit-if : Measures 7 visit-if-kinds.ps ℕ
+μ-visit-if κs a = 3 * length (a .1 .1 .0 .now)
+
+abbrev pub μ-visit-lambda-function : Measures 7 visit-lambda-function-kinds.ps ℕ
+μ-visit-lambda-function κs a = 3 * length (a .1 .1 .0 .now)
+
+abbrev pub μ-visit-let : Measures 7 visit-let-kinds.ps ℕ
+μ-visit-let κs a = 3 * length (a .1 .1 .0 .now)
+
+abbrev pub μ-visit-list : Measures 7 visit-list-kinds.ps ℕ
+μ-visit-list κs a = 3 * length (a .1 .1 .0 .now)
+
+abbrev pub μ-visit-set : Measures 7 visit-set-kinds.ps ℕ
+μ-visit-set κs a = 3 * length (a .1 .1 .0 .now)
+
+abbrev pub visit-at : ℕ → In 7 visit-kinds.ps
+visit-at t = and 7 visit-kinds.ps (is 7 visit-kinds.ps μ-visit t) visit.Pre
+
+abbrev pub visit-below : ℕ → In 7 visit-kinds.ps
+visit-below t = and 7 visit-kinds.ps (falls 7 visit-kinds.ps _<_ μ-visit t) visit.Pre
+
+abbrev pub visit-arguments-at : ℕ → In 7 visit-arguments-kinds.ps
+visit-arguments-at t =
+    and
+    7
+    visit-arguments-kinds.ps
+    (is 7 visit-arguments-kinds.ps μ-visit-arguments t)
+    visit-arguments.Pre
+
+abbrev pub visit-arguments-below : ℕ → In 7 visit-arguments-kinds.ps
+visit-arguments-below t =
+    and
+    7
+    visit-arguments-kinds.ps
+    (falls 7 visit-arguments-kinds.ps _<_ μ-visit-arguments t)
+    visit-arguments.Pre
+
+abbrev pub visit-begin-at : ℕ → In 7 visit-begin-kinds.ps
+visit-begin-at t =
+    and 7 visit-begin-kinds.ps (is 7 visit-begin-kinds.ps μ-visit-begin t) visit-begin.Pre
+
+abbrev pub visit-begin-below : ℕ → In 7 visit-begin-kinds.ps
+visit-begin-below t =
+    and 7 visit-begin-kinds.ps (falls 7 visit-begin-kinds.ps _<_ μ-visit-begin t) visit-begin.Pre
+
+abbrev pub visit-define-at : ℕ → In 7 visit-define-kinds.ps
+visit-define-at t =
+    and 7 visit-define-kinds.ps (is 7 visit-define-kinds.ps μ-visit-define t) visit-define.Pre
+
+abbrev pub visit-define-below : ℕ → In 7 visit-define-kinds.ps
+visit-define-below t =
+    and
+    7
+    visit-define-kinds.ps
+    (falls 7 visit-define-kinds.ps _<_ μ-visit-define t)
+    visit-define.Pre
+
+abbrev pub visit-if-at : ℕ → In 7 visit-if-kinds.ps
+visit-if-at t = and 7 visit-if-kinds.ps (is 7 visit-if-kinds.ps μ-visit-if t) visit-if.Pre
+
+abbrev pub visit-if-below : ℕ → In 7 visit-if-kinds.ps
+visit-if-below t =
+    and 7 visit-if-kinds.ps (falls 7 visit-if-kinds.ps _<_ μ-visit-if t) visit-if.Pre
+
+abbrev pub visit-lambda-function-at : ℕ → In 7 visit-lambda-function-kinds.ps
+visit-lambda-function-at t =
+    and
+    7
+    visit-lambda-function-kinds.ps
+    (is 7 visit-lambda-function-kinds.ps μ-visit-lambda-function t)
+    visit-lambda-function.Pre
+
+abbrev pub visit-lambda-function-below : ℕ → In 7 visit-lambda-function-kinds.ps
+visit-lambda-function-below t =
+    and
+    7
+    visit-lambda-function-kinds.ps
+    (falls 7 visit-lambda-function-kinds.ps _<_ μ-visit-lambda-function t)
+    visit-lambda-function.Pre
+
+abbrev pub visit-let-at : ℕ → In 7 visit-let-kinds.ps
+visit-let-at t = and 7 visit-let-kinds.ps (is 7 visit-let-kinds.ps μ-visit-let t) visit-let.Pre
+
+abbrev pub visit-let-below : ℕ → In 7 visit-let-kinds.ps
+visit-let-below t =
+    and 7 visit-let-kinds.ps (falls 7 visit-let-kinds.ps _<_ μ-visit-let t) visit-let.Pre
+
+abbrev pub visit-list-at : ℕ → In 7 visit-list-kinds.ps
+visit-list-at t =
+    and 7 visit-list-kinds.ps (is 7 visit-list-kinds.ps μ-visit-list t) visit-list.Pre
+
+abbrev pub visit-list-below : ℕ → In 7 visit-list-kinds.ps
+visit-list-below t =
+    and 7 visit-list-kinds.ps (falls 7 visit-list-kinds.ps _<_ μ-visit-list t) visit-list.Pre
+
+abbrev pub visit-set-at : ℕ → In 7 visit-set-kinds.ps
+visit-set-at t = and 7 visit-set-kinds.ps (is 7 visit-set-kinds.ps μ-visit-set t) visit-set.Pre
+
+abbrev pub visit-set-below : ℕ → In 7 visit-set-kinds.ps
+visit-set-below t =
+    and 7 visit-set-kinds.ps (falls 7 visit-set-kinds.ps _<_ μ-visit-set t) visit-set.Pre
+
+abbrev pub visit-calls : ℕ → visit-lts.Claims
+visit-calls t = (form-reads.Asked, form-reads.Learnt, read-reads.Asked, read-reads.Learnt, visit-if-below t, visit-if.Post, visit-let-below t, visit-let.Post, visit-define-below t, visit-define.Post, visit-lambda-function-below t, visit-lambda-function.Post, visit-begin-below t, visit-begin.Post, visit-list-below t, visit-list.Post, visit-set-below t, visit-set.Post)
+
+abbrev pub visit-arguments-calls : ℕ → visit-arguments-lts.Claims
+visit-arguments-calls t = (visit-below t, visit.Post, pushed-reads.Asked, pushed-reads.Learnt)
+
+abbrev pub visit-begin-calls : ℕ → visit-begin-lts.Claims
+visit-begin-calls t = (count-reads.Asked, count-reads.Learnt, wide-reads.Asked, wide-reads.Learnt, enter-children-reads.Asked, enter-children-reads.Learnt, child-reads.Asked, child-reads.Learnt, visit-below t, visit.Post)
+
+abbrev pub visit-define-calls : ℕ → visit-define-lts.Claims
+visit-define-calls t = (body-at-reads.Asked, body-at-reads.Learnt, before-define-reads.Asked, before-define-reads.Learnt, define-body-reads.Asked, define-body-reads.Learnt, visit-below t, visit.Post, after-define-reads.Asked, after-define-reads.Learnt)
+
+abbrev pub visit-if-calls : ℕ → visit-if-lts.Claims
+visit-if-calls t = (not-tail-reads.Asked, not-tail-reads.Learnt, visit-below t, visit.Post, same-tail-reads.Asked, same-tail-reads.Learnt)
+
+abbrev pub visit-lambda-function-calls : ℕ → visit-lambda-function-lts.Claims
+visit-lambda-function-calls t = (count-reads.Asked, count-reads.Learnt, wide-reads.Asked, wide-reads.Learnt, enter-lambda-reads.Asked, enter-lambda-reads.Learnt, id-reads.Asked, id-reads.Learnt, body-reads.Asked, body-reads.Learnt, visit-below t, visit.Post, holds-lambda-reads.Asked, holds-lambda-reads.Learnt, leave-lambda-reads.Asked, leave-lambda-reads.Learnt)
+
+abbrev pub visit-let-calls : ℕ → visit-let-lts.Claims
+visit-let-calls t = (count-reads.Asked, count-reads.Learnt, wide-reads.Asked, wide-reads.Learnt, depth-reads.Asked, depth-reads.Learnt, not-tail-reads.Asked, not-tail-reads.Learnt, with-context-reads.Asked, with-context-reads.Learnt, visit-arguments-below t, visit-arguments.Post, enter-let-reads.Asked, enter-let-reads.Learnt, let-body-reads.Asked, let-body-reads.Learnt, visit-below t, visit.Post, leave-let-reads.Asked, leave-let-reads.Learnt)
+
+abbrev pub visit-list-calls : ℕ → visit-list-lts.Claims
+visit-list-calls t = (count-reads.Asked, count-reads.Learnt, wide-reads.Asked, wide-reads.Learnt, extent-at-reads.Asked, extent-at-reads.Learnt, argument-reads.Asked, argument-reads.Learnt, visit-arguments-below t, visit-arguments.Post, form-reads.Asked, form-reads.Learnt, narrow-reads.Asked, narrow-reads.Learnt, head-reads.Asked, head-reads.Learnt, visit-below t, visit.Post, end-call-reads.Asked, end-call-reads.Learnt)
+
+abbrev pub visit-set-calls : ℕ → visit-set-lts.Claims
+visit-set-calls t = (clear-context-reads.Asked, clear-context-reads.Learnt, not-tail-reads.Asked, not-tail-reads.Learnt, visit-below t, visit.Post, name-reads.Asked, name-reads.Learnt, mutate-reads.Asked, mutate-reads.Learnt, read-reads.Asked, read-reads.Learnt)
