@@ -1,0 +1,6 @@
+pub mod Numeral
+pub mod Text
+pub mod Puts
+pub mod Numbers
+pub mod Counts
+pub mod Sample

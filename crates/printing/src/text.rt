@@ -1,0 +1,71 @@
+// Text written into a buffer, one piece after another. Each function takes the place where its piece starts and answers where it ends.
+ghost use mathlib.Core.Path.{_≡_};
+ghost use mathlib.Core.List.{_++_};
+ghost use Prim.Native.Nat.{_+_, _%_, _≤_};
+ghost use lib.ListN.{length};
+ghost use Rattle.printing.specs.Numeral.{numeral as Numeral·numeral};
+ghost use Rattle.printing.specs.Text.{orNone};
+ghost use Rattle.printing.specs.Puts.{Puts};
+
+// The bytes of w.
+pub fn word(out: &mut [u8], at: usize, w: &[u8]) -> usize
+    requires { ⌜ at + length (now w) ≤ length (now out) ⌝ }
+    ensures { λ r. ⌜ Puts (now (w .entry)) (length (now (w .entry))) (now (out .entry)) at (now (out .exit)) r ⌝ }
+{
+    let mut i = 0;
+    while i < w.len() {
+        out[at + i] = w[i];
+        i += 1;
+    }
+    at + i
+}
+
+fn digit(n: u64) -> u8
+    ensures { λ r. ⌜ r ≡ 48 + n % 10 ⌝ }
+{
+    (48 + n % 10) as u8
+}
+
+// n in decimal.
+pub fn numeral(out: &mut [u8], at: usize, n: u64) -> usize
+    requires { ⌜ at + length (Numeral·numeral n) ≤ length (now out) ⌝ }
+    ensures { λ r. ⌜ Puts (Numeral·numeral n) (length (Numeral·numeral n)) (now (out .entry)) at (now (out .exit)) r ⌝ }
+{
+    if n < 10 {
+        out[at] = digit(n);
+        return at + 1;
+    }
+    let last = numeral(out, at, n / 10);
+    out[last] = digit(n);
+    last + 1
+}
+
+// A mark and a number after it.
+pub fn number(out: &mut [u8], at: usize, mark: &[u8], n: u32) -> usize
+    requires { ⌜ at + length (now mark) + 10 ≤ length (now out) ⌝ }
+    ensures { λ r. ⌜ Puts (now (mark .entry) ++ Numeral·numeral n) (length (now (mark .entry)) + 10) (now (out .entry)) at (now (out .exit)) r ⌝ }
+{
+    let start = word(out, at, mark);
+    numeral(out, start, n as u64)
+}
+
+// The same of a number that may be larger.
+pub fn long_number(out: &mut [u8], at: usize, mark: &[u8], n: u64) -> usize
+    requires { ⌜ at + length (now mark) + 20 ≤ length (now out) ⌝ }
+    ensures { λ r. ⌜ Puts (now (mark .entry) ++ Numeral·numeral n) (length (now (mark .entry)) + 20) (now (out .entry)) at (now (out .exit)) r ⌝ }
+{
+    let start = word(out, at, mark);
+    numeral(out, start, n)
+}
+
+// A mark and a number after it, or `-` for none.
+pub fn option(out: &mut [u8], at: usize, mark: &[u8], n: u32) -> usize
+    requires { ⌜ at + length (now mark) + 10 ≤ length (now out) ⌝ }
+    ensures { λ r. ⌜ Puts (now (mark .entry) ++ orNone n) (length (now (mark .entry)) + 10) (now (out .entry)) at (now (out .exit)) r ⌝ }
+{
+    if n == semantic::NONE {
+        let start = word(out, at, mark);
+        return word(out, start, b"-");
+    }
+    number(out, at, mark, n)
+}

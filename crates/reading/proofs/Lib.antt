@@ -1,0 +1,4 @@
+pub mod Places
+pub mod Turn
+pub mod Bytes
+pub mod Ends

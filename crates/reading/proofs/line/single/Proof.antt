@@ -1,0 +1,42 @@
+-- `single`: its one field.
+use mathlib.Core.List.{_∷_, []}
+use Rattle.reading.proofs.Places.{stage-first, stage-next, stage-none, stage-more, stage-end}
+use borrow.Author.Needs.{needs}
+use Rattle.reading.proofs.line.single.Statement.{statement}
+use Rattle.reading.proofs.line.single.Tie as tie
+
+field-at-requires : tie.Need-field-at-requires
+field-at-requires c κs = search needs
+
+enum-known-n : tie.Need-enum-known-n
+enum-known-n c = search needs
+
+enum-told : tie.Need-enum-told
+enum-told c = search needs
+
+returns : tie.Need-returns
+returns c =
+    let c₁ = c .before .before in
+    let c₂ = c₁ .before .before .before in
+    let o = c₂ .args in
+    stage-none (stage-first (o .mark .now ∷ []) (o .l .now)) (c₁ .field-at .result) (c .enum-told .given .1) (c₁ .field-at .ensures)
+
+returns-2 : tie.Need-returns-2
+returns-2 c =
+    let c₁ = c .before .before in
+    let c₂ = c₁ .before .before in
+    let c₃ = c₂ .before .before .before in
+    let o = c₃ .args in
+    stage-more (stage-next (stage-first (o .mark .now ∷ []) (o .l .now)) (c₂ .field-at .result) (c₁ .n .given .1) (c₂ .field-at .ensures)) (c .if1 .taken)
+
+returns-3 : tie.Need-returns-3
+returns-3 c =
+    let c₁ = c .before .before in
+    let c₂ = c₁ .before .before in
+    let c₃ = c₂ .before .before .before in
+    let o = c₃ .args in
+    stage-end (stage-next (stage-first (o .mark .now ∷ []) (o .l .now)) (c₂ .field-at .result) (c₁ .n .given .1) (c₂ .field-at .ensures)) (c .if1 .left)
+
+pub single-spec : {M : Type 1} → statement M
+single-spec =
+    tie.close (tie.spec field-at-requires enum-known-n enum-told returns returns-2 returns-3)

@@ -1,0 +1,58 @@
+-- `record_line`: by its numbers.
+use mathlib.Core.Bool.{Bool}
+use mathlib.Core.Path.{ap, _∙_}
+use borrow.Author.Tests.{not-true, not-false}
+use Rattle.reading.specs.Found.{sixIf}
+use Rattle.reading.proofs.Turn.{record-none, record-some}
+use borrow.Author.Needs.{needs}
+use Rattle.reading.proofs.reader.record_line.Statement.{statement}
+use Rattle.reading.proofs.reader.record_line.Tie as tie
+
+record-requires : tie.Need-record-requires
+record-requires c κs = search needs
+
+spoil-requires : tie.Need-spoil-requires
+spoil-requires c κs = search needs
+
+returns : tie.Need-returns
+returns c =
+    let c₁ = c .before in
+    let c₂ = c₁ .before .before in
+    let w = c₂ .«record» in
+    let e = w .ensures ∙ ap (λ (b : Bool). sixIf b (w .result .numbers)) (not-true (w .result .ok) (c₁ .if1 .taken)) in
+    record { is = λ T n cs rs v h. record-none v (c .spoil .ensures) h e }
+
+store-record-requires : tie.Need-store-record-requires
+store-record-requires c κs = search needs
+
+next-requires : tie.Need-next-requires
+next-requires c κs = search needs
+
+next-requires-2 : tie.Need-next-requires-2
+next-requires-2 c κs = search needs
+
+same-length : tie.Need-same-length
+same-length c = search needs
+
+returns-2 : tie.Need-returns-2
+returns-2 c =
+    let c₁ = c .before in
+    let c₂ = c₁ .before .before .before in
+    let c₃ = c₂ .before .before .before in
+    let c₄ = c₃ .before .before in
+    let w = c₄ .«record» in
+    let e = w .ensures ∙ ap (λ (b : Bool). sixIf b (w .result .numbers)) (not-false (w .result .ok) (c₃ .if1 .left)) in
+    record { is = λ T n cs rs v h. record-some v h e (c₁ .next .ensures) (c .next2 .ensures) (c₂ .store-record .ensures) }
+
+pub record-line-spec : {M : Type 1} → statement M
+record-line-spec =
+    tie.close
+    (tie.spec
+    record-requires
+    spoil-requires
+    returns
+    store-record-requires
+    next-requires
+    next-requires-2
+    same-length
+    returns-2)

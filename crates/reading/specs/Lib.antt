@@ -1,0 +1,10 @@
+pub mod Reading
+pub mod NumberLaws
+pub mod LineLaws
+pub mod Found
+pub mod Held
+pub mod Lost
+pub mod Input
+pub mod ReadLaws
+pub mod RoundTrip
+pub mod Samples

@@ -1,0 +1,3 @@
+// The input, read through a buffer of one line.
+pub mod line;
+pub mod reader;
