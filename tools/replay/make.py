@@ -32,6 +32,7 @@ def options():
     p.add_argument("--oracle", required=True, metavar="FOLDER", help="the folder of the oracle's program `oracle` (its bin/)")
     p.add_argument("--into", default=os.path.join(HERE, "..", "..", "crates", "replay"), metavar="FOLDER", help="where the files stdin and stdout go (crates/replay)")
     p.add_argument("--random", type=int, default=360, metavar="N", help="how many random trees (360)")
+    p.add_argument("--seed", type=int, default=0, metavar="N", help="the seed of the first of them (0)")
     p.add_argument("--records", type=int, default=18, metavar="N", help="their most records (18)")
     p.add_argument("--damaged", type=int, default=60, metavar="N", help="how many damaged trees (60)")
     return p.parse_args()
@@ -65,7 +66,7 @@ def expected_of(case, one, two):
 
 def cases(o):
     out = trees.scripts(os.path.join(TRIAL, "scripts.txt"))
-    return out + [random_trees.at_random(seed, o.records) for seed in range(o.random)]
+    return out + [random_trees.at_random(seed, o.records) for seed in range(o.seed, o.seed + o.random)]
 
 
 def main():
