@@ -29,7 +29,13 @@ pub enum Answer {
 }
 
 // Check 1: whole records, and every lent table of its set length.
-fn fit(records: &[u32], facts: &[u32], captured: &[u32], arguments: &[u32], work: &[u32]) -> bool
+pub fn fit(
+    records: &[u32],
+    facts: &[u32],
+    captured: &[u32],
+    arguments: &[u32],
+    work: &[u32],
+) -> bool
     ensures { λ r. ⌜ r ≡ fitting (now (records .entry)) (tables (now (facts .entry)) (now (captured .entry)) (now (arguments .entry)) (now (work .entry))) ⌝ }
 {
     if records.len() % 6 != 0 {

@@ -6,28 +6,27 @@ use mathlib.Core.Option.{none}
 use mathlib.Core.Path.{_≡_, ap, sym, subst, _∙_}
 use native.Mathlib.Omega.{arith}
 use native.Mathlib.Nat.{add-zero}
-use lib.ListN.{length, take, drop, getD, length-take, List·getD-eq-default}
+use lib.ListN.{length, drop, getD, length-take, List·getD-eq-default}
 use lib.Seq.{getD-take, getD-drop}
 use Rattle.table.specs.Layout.{layout}
 use Rattle.tree.specs.Record.{records}
 use Rattle.tree.specs.RecordLaws.{nth}
 use Rattle.tree.specs.Tree.{Ident}
 use Rattle.semantic.specs.Information.{new}
-use Rattle.semantic.specs.Rows.{Variable, Item, noItem, rowWidth, putRow, putItem}
+use Rattle.semantic.specs.Rows.{Variable, noItem, rowWidth, putRow, putItem}
 use Rattle.semantic.specs.Leaves.{Stores, Tells}
 use Rattle.semantic.specs.declared.Entries.{Entries}
 use Rattle.semantic.specs.declared.IdentifierStatus.{IdentifierStatus}
 use Rattle.semantic.specs.declared.IdentifierStatus.the-variants.{HeapAllocated}
 use Rattle.semantic.specs.declared.SemanticInformation.{SemanticInformation}
 use Rattle.semantic.specs.declared.Span.{Span}
-use Rattle.pass.specs.State.{State, Facts, Entry, insert, localEntry, heapEntry, depth, noteSecond}
+use Rattle.pass.specs.State.{State, Facts, insert, localEntry, heapEntry, depth, noteSecond}
 use Rattle.pass.specs.Read.{span, enter}
 use Rattle.pass.specs.Lists.{listIn}
 use Rattle.pass.specs.Lambda.{enterName}
 use Rattle.pass.specs.Run.{rowsMost, itemsMost}
 use Rattle.work.specs.Coded.{coded}
-use Rattle.work.specs.Works.{Spacious}
-use Rattle.work.specs.WorksLaws.{spacious, depth-is, names-many}
+use Rattle.work.specs.WorksLaws.{depth-is, names-many}
 use Rattle.work.specs.Leaves.{Becomes}
 use Rattle.work.specs.Tied.{raw, Tied, Here}
 use Rattle.work.specs.declared.Pass.{Pass}
@@ -35,7 +34,7 @@ use Rattle.work.specs.declared.entries.Entry.{Entry as Coded}
 use Rattle.names.specs.Contract.{SomeState, Room, Enters}
 use Rattle.names.specs.Facts.{spanOf}
 use Rattle.lists.specs.Contract.{Inside}
-use Rattle.forms.specs.Contract.{Fits, FewHeaps}
+use Rattle.forms.specs.Contract.{FewHeaps}
 use Rattle.forms.specs.declared.bound.Heaps.{Heaps}
 use Rattle.forms.specs.FitsLaws.{fact-inside, tied-insert}
 use Rattle.forms.specs.GoodLaws.{enter-facts, good-second}
@@ -74,9 +73,6 @@ few-around e h = rw e at h
 -- A name with an entry and a fact
 
 module _ (rs : List ℕ) (at : ℕ) (p : Pass) (F w : List ℕ) where
-  pub with-inside : NameFits rs at p F w → at < length (records rs)
-  with-inside a = known-inside (a .here .known) (a .here .place)
-
   pub with-room : NameFits rs at p F w → (e : Coded) → e .uses ≡ 0
       → SomeState p w × Room p × (at < length (records rs)) × (at < rowsMost) × (e .uses < 536870912)
   with-room a e u = (

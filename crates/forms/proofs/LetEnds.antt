@@ -26,9 +26,9 @@ use Rattle.work.specs.declared.Pass.{Pass}
 use Rattle.walk.specs.declared.uses.Names.{Names}
 use Rattle.lists.specs.Contract.{Told}
 use Rattle.forms.specs.Contract.{Fits, LetEnds, LeavesLet}
-use Rattle.forms.specs.declared.flags.Around.{Around}
+use Rattle.flags.specs.declared.Around.{Around}
 use Rattle.forms.specs.FitsLaws.{Sized, sized-same, sized-then, sized-last, fact-inside, tied-insert, told, good-each}
-use Rattle.forms.specs.Bound.{NamesStore, StoresNames, NamesEnd, LeavesNames}
+use Rattle.forms.specs.Bound.{NamesStore, StoresNames, LeavesNames}
 use Rattle.forms.specs.Lets.{makeIf, MakeFits, MakesLet, TellsFunction}
 use Rattle.forms.proofs.ArgumentsCase.{entered-length}
 
@@ -131,9 +131,6 @@ left-fits {C = C} {A} {s = s} {xs} leaves u f = record { good = good-leave xs (f
 module _ {rs : List ℕ} {at : ℕ} {n : Names} {p : Pass} {F A w : List ℕ} where
   pub ends-fact : {a : Around} → LetEnds rs at n a p F A w → rowWidth * at + rowWidth ≤ length F
   ends-fact b = fact-inside (b .fits .tied) (b .fits .good .rows) at (b .few)
-
-  pub ends-names : {a : Around} → LetEnds rs at n a p F A w → NamesEnd rs n p F w
-  ends-names b = record { captured = b .captured; arguments = A; s = b .s; xs = b .xs; told = b .told; fits = b .fits }
 
   module _ {blank : Bool} (t : Tells putRow Blank isBlank F at blank) {q : Pass} {F₁ w₁ : List ℕ} (leaves : LeavesNames rs n p F w q F₁ w₁) where
     pub ends-make : {a : Around} → LetEnds rs at n a p F A w → MakeFits rs blank at n a q F₁ A w₁

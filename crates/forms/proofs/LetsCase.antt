@@ -30,10 +30,10 @@ use Rattle.work.specs.Tied.{raw}
 use Rattle.work.specs.declared.Pass.{Pass}
 use Rattle.walk.specs.declared.uses.Names.{Names}
 use Rattle.lists.specs.Contract.{Told, Inside, CountsHeap}
-use Rattle.forms.specs.Flags.{AroundIs}
+use Rattle.flags.specs.Flags.{AroundIs}
 use Rattle.forms.specs.Contract.{Fits, NamesFit, EntersNames, LetFits, EntersLet, heapsIn}
-use Rattle.forms.specs.declared.flags.Around.{Around}
-use Rattle.forms.specs.declared.flags.Around.the-variants.{Lambda, Nothing}
+use Rattle.flags.specs.declared.Around.{Around}
+use Rattle.flags.specs.declared.Around.the-variants.{Lambda, Nothing}
 use Rattle.forms.specs.declared.bound.Heaps.{Heaps}
 use Rattle.forms.specs.FitsLaws.{fact-inside, told, good-each}
 use Rattle.forms.specs.Lets.{AroundFits, TellsHeaps, TellsFunction, LetAt, TellsLet}

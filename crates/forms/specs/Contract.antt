@@ -8,6 +8,7 @@ use lib.ListN.{length}
 use Rattle.tree.specs.Tree.{Ident, Node, Tree, Trees, define, call, many, size}
 use Rattle.tree.specs.Stands.{Stands, StandAll}
 use Rattle.scope_map.specs.ScopeMap.{newestLayer}
+use Rattle.scope_map.specs.Hints.{rowsLength}
 use Rattle.semantic.specs.Rows.{Blank}
 use Rattle.semantic.specs.Kinds.{functionIn, letIn}
 use Rattle.semantic.specs.declared.IdentifierStatus.{IdentifierStatus}
@@ -19,7 +20,6 @@ use Rattle.pass.specs.Lists.{listIn}
 use Rattle.pass.specs.Lambda.{enterNames, enterLambda, leaveLambda, enterLet, leaveLet}
 use Rattle.pass.specs.Visit.{Flags, isLambda, endCall, clearContext, beforeDefine, afterDefine}
 use Rattle.pass.specs.Run.{rowsMost, itemsMost}
-use Rattle.work.specs.Works.{scopeLength}
 use Rattle.work.specs.Tied.{Raw, raw, Tied, Good}
 use Rattle.work.specs.declared.Pass.{Pass}
 use Rattle.walk.specs.Contract.{bodyOf}
@@ -27,9 +27,9 @@ use Rattle.walk.specs.declared.uses.Names.{Names}
 use Rattle.walk.specs.declared.body.Body.{Body as Says}
 use Rattle.lists.specs.Contract.{Told, Inside, CapturesRoom, Body, Named}
 use Rattle.lists.specs.declared.amend.Ending.{Ending}
-use Rattle.forms.specs.Flags.{AroundIs}
+use Rattle.flags.specs.Flags.{AroundIs}
 use Rattle.forms.specs.Defines.{enterValue, enterOne, enterEach}
-use Rattle.forms.specs.declared.flags.Around.{Around}
+use Rattle.flags.specs.declared.Around.{Around}
 use Rattle.forms.specs.declared.bound.Entering.{Entering}
 use Rattle.forms.specs.declared.bound.Heaps.{Heaps}
 use Rattle.forms.specs.declared.bound.Heaps.the-variants as heaps
@@ -41,7 +41,7 @@ pub record Fits (rs : List ℕ) (z : Raw) (s : State) : Type 0 where
 
 -- k names more have room
 abbrev pub NamesRoom : Pass → ℕ → Type 0
-NamesRoom p k = 3 * (p .scope .length + k) ≤ scopeLength
+NamesRoom p k = 3 * (p .scope .length + k) ≤ rowsLength
 
 -- the depth of both maps can grow by one
 pub record Shallow (p : Pass) : Type 0 where

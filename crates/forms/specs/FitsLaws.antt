@@ -5,7 +5,7 @@ use mathlib.Core.Option.{Option, none, some}
 use mathlib.Core.Path.{_≡_, refl, ap, _∙_}
 use native.Mathlib.Omega.{arith}
 use lib.ListN.{length, length-set}
-use Rattle.table.specs.Layout.{layout, length-layout}
+use Rattle.table.specs.Layout.{length-layout}
 use Rattle.tree.specs.Tree.{Ident}
 use Rattle.semantic.specs.Information.{markLastUsage}
 use Rattle.semantic.specs.Rows.{Row, Blank, rowWidth, putRow, row-long, itemWidth, putItem, item-long}
@@ -19,8 +19,9 @@ use Rattle.pass.specs.Laws.Sound.Known.{knowing}
 use Rattle.pass.specs.Laws.Sound.Counted.{asking-nothing}
 use Rattle.pass.specs.Run.{rowsMost, itemsMost, factsLength, itemsLength}
 use Rattle.work.specs.Passes.{inContext}
-use Rattle.work.specs.WorksKept.{insert-kept, amend-kept, context-kept}
+use Rattle.work.specs.WorksKept.{context-kept}
 use Rattle.work.specs.Tied.{Raw, raw, Tied, Good}
+use Rattle.work.specs.TiedLaws as laws
 
 -- the same but for the facts, or for the context
 abbrev pub onFacts : List ℕ → Raw → Raw
@@ -42,23 +43,11 @@ module _ {z : Raw} {s : State} (t : Tied z s) (many : length (s .facts .rows) �
   fact-inside = row-inside (s .facts .rows) (t .facts) (omega arith)
 
   pub tied-insert : (r : Row) {F : List ℕ} → Stores putRow (z .facts) i r F → Tied (onFacts F z) (insert i r s)
-  unfolding insert
-  tied-insert r k = record {
-    facts = k .is (s .facts .rows) (t .facts) (omega arith);
-    captured = t .captured;
-    arguments = t .arguments;
-    works = insert-kept (t .works) i r;
-  }
+  tied-insert r k = laws.tied-insert t (omega arith) k
 
   pub tied-amend : (f : SemanticInformation → SemanticInformation) {F : List ℕ} → Amends putRow Blank (amended f) (z .facts) i F
       → Tied (onFacts F z) (amend f i s)
-  unfolding insert amend
-  tied-amend f k = record {
-    facts = k .is (s .facts .rows) (t .facts) (omega arith);
-    captured = t .captured;
-    arguments = t .arguments;
-    works = amend-kept (t .works) f i;
-  }
+  tied-amend f k = laws.tied-amend t (omega arith) k
 
   -- what a row says
   pub told : {B : Type 0} (f : Row → B) {r : B} → Tells putRow Blank f (z .facts) i r → r ≡ f (rowAt s i)

@@ -18,9 +18,9 @@ use Rattle.work.specs.Tied.{raw, Tied}
 use Rattle.work.specs.declared.Pass.{Pass}
 use Rattle.walk.specs.declared.uses.Names.{Names}
 use Rattle.lists.specs.Contract.{Told, Inside}
-use Rattle.forms.specs.Flags.{AroundIs}
+use Rattle.flags.specs.Flags.{AroundIs}
 use Rattle.forms.specs.Contract.{Fits, FewHeaps, heapsIn}
-use Rattle.forms.specs.declared.flags.Around.{Around}
+use Rattle.flags.specs.declared.Around.{Around}
 use Rattle.forms.specs.declared.bound.Heaps.{Heaps}
 
 -- the lambda around, and its list

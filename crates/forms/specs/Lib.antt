@@ -1,4 +1,3 @@
-pub mod Flags
 pub mod Defines
 pub mod Contract
 pub mod FitsLaws

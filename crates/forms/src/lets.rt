@@ -5,7 +5,7 @@ use crate::bound::enter_names;
 use crate::bound::leave_names;
 use crate::bound::no_entries;
 use crate::bound::store_names;
-use crate::flags::Around;
+use flags::Around;
 use lists::number::heap_count;
 use semantic::Entries;
 use semantic::FoundFunction;

@@ -2,6 +2,5 @@
 pub mod bound;
 pub mod calls;
 pub mod defines;
-pub mod flags;
 pub mod lambda;
 pub mod lets;

@@ -1,22 +1,19 @@
--- Turns of the loops over rows of the captured entries: one that counts, one that looks for a place. No place of the code stands here.
+-- Turns of the loop that counts rows of the captured entries. No place of the code stands here.
 use Prim.Native.Nat.{ℕ, suc, _+_, _-_, _≤_, _<_}
 use mathlib.Core.List.{List}
 use mathlib.Core.Bool.{Bool, true, false, cond, _&&_}
 use mathlib.Core.Logic.{_⊎_, ⊎-elim}
 use mathlib.Core.Path.{_≡_, ap, sym, _∙_}
 use native.Mathlib.Omega.{arith}
-use borrow.Author.Tests.{le-leb, lt-leb}
 use lib.ListN.{length, getD, take, drop}
-use lib.Dec.{leb}
 use Rattle.table.specs.Layout.{layout}
 use Rattle.semantic.specs.Rows.{Item, noItem, putItem}
 use Rattle.semantic.specs.Leaves.{Tells}
-use Rattle.semantic.specs.declared.ScopeInfo.{ScopeInfo}
 use Rattle.semantic.specs.declared.Entries.{Entries}
 use Rattle.pass.specs.Lists.{heapCount}
 use Rattle.pass.specs.Run.{itemsMost}
 use Rattle.lists.specs.Contract.{CountsHeap}
-use Rattle.lists.specs.Given.{placeById, rowsUpTo, PlacesById}
+use Rattle.lists.specs.Given.{rowsUpTo}
 use Rattle.lists.proofs.Sets.{rows-next, rows-none}
 
 -- What a function of a list does at its first entry, at the row i
@@ -32,53 +29,9 @@ module _ (l : List Item) (i j : ℕ) (h : i < j) (g : j ≤ length l) where
       ap heapCount (rows-next l i j noItem h g)
       ∙ ap (λ (q : Bool). cond q (suc (heapCount (rowsUpTo (i + 1) j l))) (heapCount (rowsUpTo (i + 1) j l))) (sym e)
 
-  pub place-turn : (id : ℕ) (b : Bool) → leb id (x .info .id) ≡ b
-      → placeById id (rowsUpTo i j l) ≡ cond b 0 (suc (placeById id (rowsUpTo (i + 1) j l)))
-  unfolding placeById
-  place-turn id b e =
-      ap (placeById id) (rows-next l i j noItem h g) ∙ ap (λ (q : Bool). cond q 0 (suc (placeById id (rowsUpTo (i + 1) j l)))) e
-
 pub heap-end : (l : List Item) (i : ℕ) → heapCount (rowsUpTo i i l) ≡ 0
 unfolding heapCount
 heap-end l i = ap heapCount (rows-none l i)
-
-pub place-end : (id : ℕ) (l : List Item) (i : ℕ) → placeById id (rowsUpTo i i l) ≡ 0
-unfolding placeById
-place-end id l i = ap (placeById id) (rows-none l i)
-
--- The loop that looks for a place
-
--- counted from i on it is the one counted from `first`
-pub record Found (C : List ℕ) (first end id i : ℕ) : Type 0 where
-  pub is : (l : List Item) → C ≡ layout putItem l → length l ≡ itemsMost → first + placeById id (rowsUpTo first end l) ≡ i + placeById id (rowsUpTo i end l)
-
-module _ {C : List ℕ} {first end id i : ℕ} (f : Found C first end id i) where
-  module _ {v : ScopeInfo} (t : Tells putItem noItem (λ x. x .info) C i v) (h : i < end) where
-    pub place-here : id ≤ v .id → first ≤ i → end ≤ itemsMost → PlacesById C first end id i
-    place-here q a g = record {
-      is = λ l e m.
-          let b : leb id (getD l i noItem .info .id) ≡ true = ap (λ (w : ScopeInfo). leb id (w .id)) (sym (t .is l e (omega arith))) ∙ le-leb id (v .id) q in
-          omega (arith, f .is l e m, place-turn l i end h (omega arith) id true b);
-      least = a;
-      most = omega arith;
-    }
-
-    pub place-later : v .id < id → end ≤ itemsMost → Found C first end id (i + 1)
-    place-later q g = record {
-      is = λ l e m.
-          let b : leb id (getD l i noItem .info .id) ≡ false = ap (λ (w : ScopeInfo). leb id (w .id)) (sym (t .is l e (omega arith))) ∙ lt-leb id (v .id) q in
-          omega (arith, f .is l e m, place-turn l i end h (omega arith) id false b);
-    }
-
-  pub place-last : first ≤ i → i ≤ end → end ≤ i → PlacesById C first end id end
-  place-last a b q = record {
-    is = λ l e m.
-        let z : i ≡ end = omega arith in
-        let y : placeById id (rowsUpTo i end l) ≡ 0 = ap (λ (j : ℕ). placeById id (rowsUpTo j end l)) z ∙ place-end id l end in
-        omega (arith, f .is l e m);
-    least = omega arith;
-    most = omega arith;
-  }
 
 -- The loop that counts
 

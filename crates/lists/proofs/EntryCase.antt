@@ -23,7 +23,8 @@ use Rattle.work.specs.declared.entries.Entry.{Entry as Coded}
 use Rattle.work.specs.declared.scope.Binder.{Binder}
 use Rattle.work.specs.declared.scope.Binder.the-variants as binder
 use Rattle.lists.specs.Contract.{Infos}
-use Rattle.lists.specs.Given.{entryIn, whereCaptured, capturedNewest, SomeLast, TellsLast, SomeEntry, KnownEntry, MakesItem}
+use Rattle.lists.specs.Index.{entryIn, whereCaptured, capturedNewest}
+use Rattle.lists.specs.Given.{SomeLast, TellsLast, SomeEntry, KnownEntry, MakesItem}
 
 -- The id of a last use
 

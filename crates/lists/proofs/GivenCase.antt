@@ -1,7 +1,7 @@
 -- What live names give to the list of a lambda that ends, row by row. No place of the code stands here.
 use Prim.Native.Nat.{ℕ, suc, _+_, _-_, _≤_, _<_}
 use mathlib.Core.List.{List, [], _∷_, map}
-use mathlib.Core.Bool.{Bool, true, false, cond, not, _&&_}
+use mathlib.Core.Bool.{Bool, true, false, cond, not}
 use mathlib.Core.Option.{Option, none, some}
 use mathlib.Core.Path.{_≡_, refl, ap, sym, _∙_}
 use native.Mathlib.Omega.{arith}
@@ -18,7 +18,7 @@ use Rattle.semantic.specs.Rows.{Item, noItem}
 use Rattle.pass.specs.State.{State, Scope, binderIn}
 use Rattle.pass.specs.Lists.{capturedIn, capturedVars}
 use Rattle.pass.specs.Lambda.{nameIn}
-use Rattle.work.specs.Coded.{recordIn, recordOf}
+use Rattle.work.specs.Coded.{lastCode, recordIn, recordOf}
 use Rattle.work.specs.Works.{Works}
 use Rattle.work.specs.WorksLaws.{names-many}
 use Rattle.work.specs.Leaves.{Tells}
@@ -29,7 +29,8 @@ use Rattle.work.specs.declared.scope.Binder.the-variants as binder
 use Rattle.walk.specs.Contract.{HoldsName}
 use Rattle.walk.specs.declared.uses.Names.{Names}
 use Rattle.lists.specs.Contract.{Told}
-use Rattle.lists.specs.Given.{entryIn, whereCaptured, capturedNewest, given, withGiven, captured-step, isSome, Gives, CountsCaptured}
+use Rattle.lists.specs.Index.{entryIn, whereCaptured, capturedNewest, offered, decoded, Indexes, Offers}
+use Rattle.lists.specs.Given.{given, withGiven, captured-step, isSome, Gives, CountsCaptured}
 
 -- The live name in row i
 
@@ -53,68 +54,102 @@ before-none l = let z : length l - 0 ≡ length l = omega arith in ap (λ (k : �
 pub before-all : (l : List (Live Ident)) (i : ℕ) → length l ≤ i → before i l ≡ l
 before-all l i h = let z : length l - i ≡ 0 = omega arith in ap (λ (k : ℕ). drop k l) z
 
--- its row tells its name and layer
+-- its row tells its name, its layer and its binder's record
 pub live-is : {p : Pass} {w : List ℕ} {i : ℕ} {r : Row} {s : State} {e : Live Ident} → TellsLive p w i r → Works p w s
-    → before (suc i) (s .scope .names .live) ≡ e ∷ before i (s .scope .names .live) → (r .name ≡ e .name) × (r .layer ≡ e .layer)
+    → before (suc i) (s .scope .names .live) ≡ e ∷ before i (s .scope .names .live)
+    → (r .name ≡ e .name) × (r .layer ≡ e .layer) × (r .value ≡ e .value .at)
 live-is {s = s} {e} t h up =
     let v = t .is s h in
-    let same : v .live ≡ e = ap (λ (l : List (Live Ident)). getD l 0 e) (sym (v .up) ∙ up) in
-    (v .name ∙ ap (λ (d : Live Ident). d .name) same, v .layer ∙ ap (λ (d : Live Ident). d .layer) same)
+    let same : v .live ≡ e = ap (λ (l : List (Live Ident)). getD l 0 e) (sym (v .up) ∙ up) in (
+      v .name ∙ ap (λ (d : Live Ident). d .name) same,
+      v .layer ∙ ap (λ (d : Live Ident). d .layer) same,
+      v .value ∙ ap (λ (d : Live Ident). d .value .at) same,
+    )
 
--- What it gives, by the tests of its row
+-- What a name gives
 
-abbrev gives : List ℕ → Row → Bool
-gives ps r = ltb 1 (r .layer) && not (member (r .name) ps)
+decoded-is : (o : Option Ident) → decoded (lastCode o) ≡ recordIn o
+decoded-is none = refl
+decoded-is (some x) = refl
 
-module _ {rs : List ℕ} {n : Names} {p : Pass} {w : List ℕ} {i : ℕ} {r : Row} (t : TellsLive p w i r) where
-  row-gives : (q : Bool) (a : Binder) → ((xs : List Ident) → Told rs n xs → gives (map nameIn xs) r ≡ q)
-      → Tells p w (λ s. recordIn (cond q (capturedNewest (s .scope) (r .name)) none)) (recordOf a) → Gives rs n p w i a
-  row-gives q a k u = record {
-    is = λ xs s e told h up.
-        let row = live-is t h up in
-        let named : r .name ≡ e .name = row .0 in
-        let layered : r .layer ≡ e .layer = row .1 in
-        let test : (ltb 1 (e .layer) && not (member (e .name) (map nameIn xs))) ≡ q = rw (named, layered) at (k xs told) in
-        let found : recordOf a ≡ recordIn (cond q (capturedNewest (s .scope) (e .name)) none) =
-        u .is s h ∙ ap (λ (x : ℕ). recordIn (cond q (capturedNewest (s .scope) x) none)) named in
-        found ∙ ap (λ (b : Bool). recordIn (cond b (capturedNewest (s .scope) (e .name)) none)) (sym test);
+module _ {rs : List ℕ} {n : Names} {p : Pass} {w : List ℕ} {x : ℕ} where
+  module _ {b : Bool} (h : HoldsName rs n x b) where
+    searched : (q : Binder) → Tells p w (λ s. recordIn (cond (not b) (capturedNewest (s .scope) x) none)) (recordOf q) → Offers rs n p w [] x q
+    searched q t = record {
+      is = λ xs s k works idx.
+          t .is s works ∙ ap (λ (c : Bool). recordIn (cond (not c) (capturedNewest (s .scope) x) none)) (h .is (k .many) xs (k .stand) (k .count));
+    }
+
+    pub offers-parameter : b ≡ true → Offers rs n p w [] x binder.Nothing
+    offers-parameter e = searched binder.Nothing (record { is = λ s k. sym (ap (λ (c : Bool). recordIn (cond (not c) (capturedNewest (s .scope) x) none)) e) })
+
+    pub offers-other : b ≡ false → {q : Binder} → Tells p w (λ s. recordIn (capturedNewest (s .scope) x)) (recordOf q) → Offers rs n p w [] x q
+    offers-other e {q} t = searched q (record { is = λ s k. t .is s k ∙ sym (ap (λ (c : Bool). recordIn (cond (not c) (capturedNewest (s .scope) x) none)) e) })
+
+  module _ {a : List ℕ} {q : Binder} where
+    -- the index has the name, or has not
+    pub offers-told : {y : ℕ} → y ≡ x → y < length a → recordOf q ≡ decoded (getD a y 0) → Offers rs n p w a x q
+    offers-told {y} e h k = record {
+      is = λ xs s told works idx.
+          let z : getD a y 0 ≡ lastCode (offered (map nameIn xs) (s .scope) x) = ap (λ (j : ℕ). getD a j 0) e ∙ idx x (omega arith) in
+          k ∙ ap decoded z ∙ decoded-is (offered (map nameIn xs) (s .scope) x);
+    }
+
+    pub offers-searched : Offers rs n p w [] x q → Offers rs n p w a x q
+    offers-searched o = record { is = λ xs s told works idx. o .is xs s told works (λ y h. absurd (omega arith)) }
+
+-- What a live name gives, by its layer
+
+module _ {rs : List ℕ} {n : Names} {p : Pass} {w a : List ℕ} {i : ℕ} {r : Row} (t : TellsLive p w i r) where
+  pub gives-low : r .layer ≤ 1 → Gives rs n p w a i binder.Nothing
+  gives-low h = record {
+    is = λ xs s e told works idx up.
+        let z : ltb 1 (e .layer) ≡ false = le-ltb 1 (e .layer) (omega (arith, live-is t works up .1)) in
+        sym (ap (λ (q : Bool). recordIn (cond q (offered (map nameIn xs) (s .scope) (e .name)) none)) z);
   }
 
-  pub gives-low : r .layer ≤ 1 → Gives rs n p w i binder.Nothing
-  gives-low h =
-      row-gives false binder.Nothing (λ xs k. ap (λ (b : Bool). b && not (member (r .name) (map nameIn xs))) (le-ltb 1 (r .layer) h))
-      (record { is = λ s k. refl })
-
-  module _ {b : Bool} (h : HoldsName rs n (r .name) b) (g : 1 < r .layer) where
-    tested : (xs : List Ident) → Told rs n xs → gives (map nameIn xs) r ≡ not b
-    tested xs k =
-        ap (λ (q : Bool). q && not (member (r .name) (map nameIn xs))) (lt-ltb 1 (r .layer) g)
-        ∙ ap not (sym (h .is (k .many) xs (k .stand) (k .count)))
-
-    pub gives-parameter : b ≡ true → Gives rs n p w i binder.Nothing
-    gives-parameter e = row-gives false binder.Nothing (λ xs k. tested xs k ∙ ap not e) (record { is = λ s k. refl })
-
-    pub gives-other : b ≡ false → {a : Binder} → Tells p w (λ s. recordIn (capturedNewest (s .scope) (r .name))) (recordOf a) → Gives rs n p w i a
-    gives-other e {a} u = row-gives true a (λ xs k. tested xs k ∙ ap not e) (record { is = u .is })
+  pub gives-offered : 1 < r .layer → {q : Binder} → Offers rs n p w a (r .name) q → Gives rs n p w a i q
+  gives-offered h o = record {
+    is = λ xs s e told works idx up.
+        let row = live-is t works up in
+        let z : ltb 1 (e .layer) ≡ true = lt-ltb 1 (e .layer) (omega (arith, row .1)) in
+        o .is xs s told works idx
+        ∙ ap (λ (x : ℕ). recordIn (offered (map nameIn xs) (s .scope) x)) (row .0)
+        ∙ sym (ap (λ (q : Bool). recordIn (cond q (offered (map nameIn xs) (s .scope) (e .name)) none)) z);
+  }
 
 -- what is given is a newest binder
 pub given-newest : (ps : List ℕ) (c : Scope) (e : Live Ident) (b : Ident) → given ps c e ≡ some b → binderIn (get (c .names) (e .name)) ≡ some b
-given-newest ps c e b = go (ltb 1 (e .layer) && not (member (e .name) ps)) (binderIn (get (c .names) (e .name)))
+given-newest ps c e b = go (ltb 1 (e .layer)) (not (member (e .name) ps)) (binderIn (get (c .names) (e .name)))
   where
     picked : (y : Ident) (q : Bool) → cond q (some y) none ≡ some b → some y ≡ some b
     picked y true k = k
     picked y false k = absurd (let z : _≡_ {A = ℕ} 0 1 = cc in omega arith)
 
-    go : (q : Bool) (o : Option Ident) → cond q (whereCaptured c o) none ≡ some b → o ≡ some b
-    go false o k = absurd (let z : _≡_ {A = ℕ} 0 1 = cc in omega arith)
-    go true none k = k
-    go true (some y) k = picked y (entryIn c (y .at) .captured) k
+    go : (q r : Bool) (o : Option Ident) → cond q (cond r (whereCaptured c o) none) none ≡ some b → o ≡ some b
+    go false r o k = absurd (let z : _≡_ {A = ℕ} 0 1 = cc in omega arith)
+    go true false o k = absurd (let z : _≡_ {A = ℕ} 0 1 = cc in omega arith)
+    go true true none k = k
+    go true true (some y) k = picked y (entryIn c (y .at) .captured) k
 
 -- One name more
 
 pub with-length : (c : Scope) (o : Option Ident) (l : List Item) → length (withGiven c o l) ≡ length l + cond (isSome (recordIn o)) 1 0
 with-length c none l = omega arith
 with-length c (some b) l = omega arith
+
+-- there are at most as many entries as live names
+pub captured-few : (ps : List ℕ) (s : State) (l : List (Live Ident)) → length (capturedIn ps s l) ≤ length l
+unfolding capturedIn
+captured-few ps s [] = omega arith
+captured-few ps s (e ∷ l) =
+    let o = given ps (s .scope) e in
+    let m = capturedIn ps s l in
+    omega (arith, captured-few ps s l, ap length (captured-step ps s e l), with-length (s .scope) o m, one (isSome (recordIn o)))
+  where
+    one : (q : Bool) → _≤_ (cond q 1 0) 1
+    one true = omega arith
+    one false = omega arith
 
 pub next-given : (ps : List ℕ) (s : State) (i : ℕ) (v : NextLive (s .scope .names .live) i)
     → capturedIn ps s (before (i + 1) (s .scope .names .live))
@@ -123,37 +158,38 @@ next-given ps s i v =
     let l = s .scope .names .live in
     ap (λ (j : ℕ). capturedIn ps s (before j l)) (add-one i) ∙ ap (capturedIn ps s) (v .up) ∙ captured-step ps s (v .live) (before i l)
 
-pub record UpTo (rs : List ℕ) (names : Names) (p : Pass) (w : List ℕ) (n i : ℕ) : Type 0 where
-  pub is : (xs : List Ident) (s : State) → Told rs names xs → Works p w s → n ≡ length (capturedIn (map nameIn xs) s (before i (s .scope .names .live)))
+pub record UpTo (rs : List ℕ) (names : Names) (p : Pass) (w a : List ℕ) (n i : ℕ) : Type 0 where
+  pub is : (xs : List Ident) (s : State) → Told rs names xs → Works p w s → Indexes a (map nameIn xs) (s .scope)
+      → n ≡ length (capturedIn (map nameIn xs) s (before i (s .scope .names .live)))
 
-module _ {rs : List ℕ} {names : Names} {p : Pass} {w : List ℕ} where
-  pub count-start : UpTo rs names p w 0 0
+module _ {rs : List ℕ} {names : Names} {p : Pass} {w a : List ℕ} where
+  pub count-start : UpTo rs names p w a 0 0
   unfolding capturedIn
   count-start = record {
-    is = λ xs s k h. sym (ap (λ (l : List (Live Ident)). length (capturedIn (map nameIn xs) s l)) (before-none (s .scope .names .live)));
+    is = λ xs s k h idx. sym (ap (λ (l : List (Live Ident)). length (capturedIn (map nameIn xs) s l)) (before-none (s .scope .names .live)));
   }
 
-  module _ {n i : ℕ} (u : UpTo rs names p w n i) where
-    pub count-next : {a : Binder} → Gives rs names p w i a → i < p .scope .length → {b : Bool} → b ≡ isSome (recordOf a)
-        → {m : ℕ} → m ≡ n + cond b 1 0 → UpTo rs names p w m (i + 1)
-    count-next {a} g h {b} e {m} q = record {
-      is = λ xs s k works.
+  module _ {n i : ℕ} (u : UpTo rs names p w a n i) where
+    pub count-next : {f : Binder} → Gives rs names p w a i f → i < p .scope .length → {b : Bool} → b ≡ isSome (recordOf f)
+        → {m : ℕ} → m ≡ n + cond b 1 0 → UpTo rs names p w a m (i + 1)
+    count-next g h {b} e {m} q = record {
+      is = λ xs s k works idx.
           let l = s .scope .names .live in
           let ps = map nameIn xs in
           let v = next-live l i (omega (arith, names-many works)) in
           let o = given ps (s .scope) (v .live) in
-          let told : b ≡ isSome (recordIn o) = e ∙ ap isSome (g .is xs s (v .live) k works (v .up)) in
+          let told : b ≡ isSome (recordIn o) = e ∙ ap isSome (g .is xs s (v .live) k works idx (v .up)) in
           q
-          ∙ ap (λ (j : ℕ). j + cond b 1 0) (u .is xs s k works)
+          ∙ ap (λ (j : ℕ). j + cond b 1 0) (u .is xs s k works idx)
           ∙ ap (λ (c : Bool). length (capturedIn ps s (before i l)) + cond c 1 0) told
           ∙ sym (with-length (s .scope) o (capturedIn ps s (before i l)))
           ∙ ap length (sym (next-given ps s i v));
     }
 
-    pub count-last : p .scope .length ≤ i → CountsCaptured rs names p w n
+    pub count-last : p .scope .length ≤ i → CountsCaptured rs names p w a n
     unfolding capturedVars
     count-last h = record {
-      is = λ xs s k works.
+      is = λ xs s k works idx.
           let l = s .scope .names .live in
-          u .is xs s k works ∙ ap (λ (m : List (Live Ident)). length (capturedIn (map nameIn xs) s m)) (before-all l i (omega (arith, names-many works)));
+          u .is xs s k works idx ∙ ap (λ (m : List (Live Ident)). length (capturedIn (map nameIn xs) s m)) (before-all l i (omega (arith, names-many works)));
     }

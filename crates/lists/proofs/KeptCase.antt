@@ -35,7 +35,8 @@ use Rattle.work.specs.declared.scope.Binder.{Binder}
 use Rattle.work.specs.declared.scope.Binder.the-variants as binder
 use Rattle.lists.specs.declared.rows.Item.{Item as Coded·Item}
 use Rattle.lists.specs.Contract.{ItemIs}
-use Rattle.lists.specs.Given.{entryIn, rowsUpTo}
+use Rattle.lists.specs.Index.{entryIn}
+use Rattle.lists.specs.Given.{rowsUpTo}
 use Rattle.lists.specs.Kept.{StandsBefore, itemIn, newestItem, amendedInfo, AmendsInfo, nowOf, keptAfter, KeepsItem}
 use Rattle.lists.proofs.Sets.{rows-next, rows-none}
 use Rattle.lists.proofs.NearCase.{no-capture-at, capture-at}

@@ -3,7 +3,9 @@ pub mod RowsCase
 pub mod Sorted
 pub mod EntryCase
 pub mod CountCase
+pub mod PlaceCase
 pub mod GivenCase
+pub mod IndexCase
 pub mod NearCase
 pub mod TakeCase
 pub mod NumberCase

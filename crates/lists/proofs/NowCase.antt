@@ -72,11 +72,11 @@ module _ {rs : List ℕ} {n : Names} {p : Pass} {w : List ℕ} {i : ℕ} {r : Ro
         sym (ap (λ (b : Bool). b && isSome (recordIn (given (map nameIn xs) (s .scope) e))) q);
   }
 
-  pub gives-yes : r .name ≡ name → {a : Binder} {b : Bool} → Gives rs n p w i a → b ≡ isSome (recordOf a) → GivesName rs n p w i name b
+  pub gives-yes : r .name ≡ name → {a : Binder} {b : Bool} → Gives rs n p w [] i a → b ≡ isSome (recordOf a) → GivesName rs n p w i name b
   gives-yes h g q = record {
     is = λ xs s e k works up.
         let z : eqb (e .name) name ≡ true = eq-eqb (e .name) name (sym (live-is t works up .0) ∙ h) in
-        q ∙ ap isSome (g .is xs s e k works up) ∙ sym (ap (λ (b : Bool). b && isSome (recordIn (given (map nameIn xs) (s .scope) e))) z);
+        q ∙ ap isSome (g .is xs s e k works (λ x l. absurd (omega arith)) up) ∙ sym (ap (λ (b : Bool). b && isSome (recordIn (given (map nameIn xs) (s .scope) e))) z);
   }
 
 -- The loop over the live names

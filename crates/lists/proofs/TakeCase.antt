@@ -11,13 +11,15 @@ use Rattle.semantic.specs.Rows.{noItem, putItem}
 use Rattle.semantic.specs.Items.{onInfo}
 use Rattle.semantic.specs.declared.ScopeInfo.{ScopeInfo}
 use Rattle.scope_map.specs.ScopeMap as map
+use Rattle.scope_map.specs.Hints.{rowsLength}
 use Rattle.pass.specs.State.{State, itemAt, withCaptured, withCaptures}
 use Rattle.pass.specs.Lists.{near, isNear, captureOf, numberRow}
-use Rattle.pass.specs.Run.{itemsMost}
-use Rattle.work.specs.Coded.{putBinder, takenOf}
-use Rattle.work.specs.Works.{Works, capturesLength}
+use Rattle.pass.specs.Run.{rowsMost, itemsMost}
+use Rattle.work.specs.Coded.{putBinder, takenOf, Packable}
+use Rattle.work.specs.Works.{Works}
 use Rattle.work.specs.WorksLaws.{captures-many, captured-many}
 use Rattle.work.specs.Captures.{DefinesCapture}
+use Rattle.pass.specs.Visitable.{usesMost}
 use Rattle.work.specs.Tied.{Good}
 use Rattle.work.specs.declared.Pass.{Pass}
 use Rattle.work.specs.declared.captures.Taken.{Taken}
@@ -57,13 +59,13 @@ taken-is {x = x} s r heap b h e =
     rw (id, uses, at)
 
 module _ {r : ℕ} {x : Coded} {p : Pass} {C w : List ℕ} (h : TakeHeld r x p C w) where
-  pub take-small : x .binder < 4294967296
+  pub take-small : x .binder < rowsMost
   take-small = omega (arith, h .item .binder, h .held .good .sound .items r .1)
 
-  pub take-uses : x .info .«usage_count» < 2147483647
+  take-uses : x .info .«usage_count» ≤ usesMost
   take-uses = omega (arith, ap (λ (v : ScopeInfo). v .«usage_count») (h .item .info), h .held .good .counted .itemUses r)
 
-  pub take-room : 3 * p .captures .length + 3 ≤ capturesLength
+  pub take-room : 3 * p .captures .length + 3 ≤ rowsLength
   take-room = omega (arith, h .room, captures-many (h .held .tied .works))
 
 pub takes : {heap : Bool} {r i : ℕ} {x : Coded} {p : Pass} {C w : List ℕ} {o : Nearby} {C′ : List ℕ} {b : Bool} {t : Taken} {q : Pass} {w′ : List ℕ}
@@ -97,5 +99,8 @@ pub taken-made : (x : Coded) (b : Bool) {n : ℕ} → n ≡ x .binder
     → _≡_ {A = Taken} (record { binder = n; id = x .info .id; uses = x .info .«usage_count»; enclosing = b }) (takenBy x b)
 taken-made x b e = rw e
 
-pub take-given : {r : ℕ} {x : Coded} {p : Pass} {C w : List ℕ} {b : Bool} {t : Taken} → TakeHeld r x p C w → t ≡ takenBy x b → t .uses < 2147483647
-take-given h e = omega (arith, take-uses h, ap (λ (d : Taken). d .uses) e)
+pub take-given : {r : ℕ} {x : Coded} {p : Pass} {C w : List ℕ} {b : Bool} {t : Taken} → TakeHeld r x p C w → t ≡ takenBy x b → Packable t
+take-given h e = record {
+  binder = omega (arith, take-small h, ap (λ (d : Taken). d .binder) e);
+  uses = omega (arith, take-uses h, ap (λ (d : Taken). d .uses) e);
+}

@@ -8,6 +8,7 @@ use Rattle.table.specs.Layout.{layout}
 use Rattle.tree.specs.Tree.{Ident, Tree, size}
 use Rattle.tree.specs.Stands.{Stands, NamesStand}
 use Rattle.tree.specs.Accepted.{All}
+use Rattle.scope_map.specs.Hints.{rowsLength}
 use Rattle.semantic.specs.Rows.{Item, putItem}
 use Rattle.semantic.specs.declared.Entries.{Entries}
 use Rattle.semantic.specs.declared.ScopeInfo.{ScopeInfo}
@@ -17,7 +18,6 @@ use Rattle.pass.specs.Lambda.{nameIn, nowUsed, keptOf, holdsLambda}
 use Rattle.pass.specs.Run.{itemsMost}
 use Rattle.work.specs.Known.{Known}
 use Rattle.work.specs.Coded.{coded}
-use Rattle.work.specs.Works.{capturesLength}
 use Rattle.work.specs.Tied.{raw, Tied, Good}
 use Rattle.work.specs.declared.Pass.{Pass}
 use Rattle.work.specs.declared.entries.Entry.{Entry as Coded}
@@ -80,7 +80,7 @@ pub record Numbers (e : Entries) (p : Pass) (C w : List ℕ) (p′ : Pass) (C′
 
 -- there is room for its entries among the captures
 abbrev pub CapturesRoom : Pass → Entries → Type 0
-CapturesRoom p e = 3 * (p .captures .length + e .length) ≤ capturesLength
+CapturesRoom p e = 3 * (p .captures .length + e .length) ≤ rowsLength
 
 pub record CountsHeap (t : List ℕ) (e : Entries) (r : ℕ) : Type 0 where
   pub is : (l : List Item) → t ≡ layout putItem l → length l ≡ itemsMost → r ≡ heapCount (listIn l e)

@@ -25,7 +25,8 @@ use Rattle.walk.specs.declared.uses.Names.{Names}
 use Rattle.lists.specs.declared.rows.Item.{Item as Coded}
 use Rattle.lists.specs.declared.amend.Ending.{Ending}
 use Rattle.lists.specs.Contract.{Named, Told, Body, Ended, Held, ItemIs}
-use Rattle.lists.specs.Given.{entryIn, given, isSome, rowsUpTo}
+use Rattle.lists.specs.Index.{entryIn}
+use Rattle.lists.specs.Given.{given, isSome, rowsUpTo}
 use Rattle.work.specs.Coded.{recordIn}
 
 -- Counts of a name in the list made anew

@@ -1,5 +1,6 @@
 pub mod Contract
 pub mod Rewrites
+pub mod Index
 pub mod Given
 pub mod Numbered
 pub mod Kept

@@ -30,7 +30,7 @@ ghost use Rattle.work.specs.Leaves.{Tells};
 ghost use Rattle.work.specs.Scope.{KnownHere};
 ghost use Rattle.walk.specs.Contract.{SomeNames};
 ghost use Rattle.lists.specs.Contract.{Inside, Ended, HeldNamed, AmendsList};
-ghost use Rattle.lists.specs.Given.{SomeHere};
+ghost use Rattle.lists.specs.Index.{SomeHere};
 ghost use Rattle.lists.specs.Kept.{GivesName, CountsNow, CountsUsed, StandsBefore, AmendsInfo, KeepsItem, KeepHeld, KeepsRow};
 
 // A lambda that ends: its parameters, the records of its body, and whether a lambda stands among them.
@@ -50,7 +50,8 @@ fn gives(all: &[u32], names: Names, p: Pass, work: &[u32], i: usize, name: u32) 
     if r.name != name {
         return false;
     }
-    is_at(captured_at(all, names, p, work, i))
+    let none = [0; 0];
+    is_at(captured_at(&none, all, names, p, work, i))
 }
 
 // How often the name stands in the list made anew.

@@ -29,7 +29,8 @@ use Rattle.work.specs.WorksLaws.{depth-is, spacious, names-many}
 use Rattle.work.specs.ScopeLaws.{newest-known}
 use Rattle.work.specs.Leaves.{Becomes, Tells, StoresEntry}
 use Rattle.work.specs.Scope.{TellsId, Defines}
-use Rattle.work.specs.Tied.{raw, Tied, Good, Here, usesMost}
+use Rattle.work.specs.Tied.{raw, Tied, Good, Here}
+use Rattle.pass.specs.Visitable.{usesMost}
 use Rattle.work.specs.TiedLaws.{rowCount, count-amend, facts-entry, tied-works, tied-insert, tied-amend}
 use Rattle.work.specs.declared.Pass.{Pass}
 use Rattle.work.specs.declared.entries.Entry.{Entry as Coded}

@@ -25,7 +25,8 @@ use Rattle.work.specs.Entries.{usedMore}
 use Rattle.work.specs.Works.{Works, workLong}
 use Rattle.work.specs.ScopeLaws.{newest-known}
 use Rattle.work.specs.Leaves.{Tells, LoadsEntry}
-use Rattle.work.specs.Tied.{raw, Tied, Good, usesMost}
+use Rattle.work.specs.Tied.{raw, Tied, Good}
+use Rattle.pass.specs.Visitable.{usesMost}
 use Rattle.work.specs.TiedLaws.{rowCount}
 use Rattle.work.specs.declared.Pass.{Pass}
 use Rattle.work.specs.declared.entries.Entry.{Entry as Coded}

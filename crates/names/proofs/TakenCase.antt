@@ -26,7 +26,8 @@ use Rattle.work.specs.WorksLaws.{captured-many, depth-is}
 use Rattle.work.specs.Leaves.{Becomes, LoadsEntry, StoresEntry}
 use Rattle.work.specs.Captures.{LoadsTaken, UsesCapture}
 use Rattle.work.specs.CapturesLaws.{found-below, captures-few, taken-uses}
-use Rattle.work.specs.Tied.{raw, Tied, Good, usesMost}
+use Rattle.work.specs.Tied.{raw, Tied, Good}
+use Rattle.pass.specs.Visitable.{usesMost}
 use Rattle.work.specs.TiedLaws.{rowCount, count-amend, count-entry, facts-entry, tied-works, tied-insert, tied-amend}
 use Rattle.work.specs.declared.Pass.{Pass}
 use Rattle.work.specs.declared.captures.Taken.{Taken}
@@ -57,16 +58,16 @@ module _ {p : Pass} {w rs : List ℕ} {s : State} {name place row : ℕ} {c : Ca
   binder-few = omega (arith, capture-known .1)
 
   -- one use more of it can be counted
-  pub cell-fits : getD w (takenFirst + 3 * place + 2) 0 < 4294967294
+  pub cell-fits : getD w (takenFirst + 2 * place + 1) 0 < 4294959104
   cell-fits =
       let e = taken-uses k name (found-below (s .captures .live) name (t .found)) (t .found) (t .newest) in
-      omega (arith, e, bit-low (t .live .value .fromEnclosing), ap (λ (u : Capture). u .usageCount) (t .is), capture-uses)
+      omega (arith, e, bit-low (t .live .value .fromEnclosing), ap (λ (u : Capture). u .usageCount) (t .is), capture-uses, ap (λ (u : Capture). u .binder .at) (t .is), binder-few)
 
 module _ {place : ℕ} {w : List ℕ} (k : Takeable place w) where
   pub takeable-place : place < itemsMost
   takeable-place = place-few (k .works) (k .good) (k .stands)
 
-  pub takeable-cell : getD w (takenFirst + 3 * place + 2) 0 < 4294967294
+  pub takeable-cell : getD w (takenFirst + 2 * place + 1) 0 < 4294959104
   takeable-cell = cell-fits (k .works) (k .good) (k .stands)
 
   -- of an entry, after the capture is used

@@ -4,12 +4,13 @@ use mathlib.Core.List.{List}
 use mathlib.Core.Path.{_≡_}
 use lib.ListN.{length}
 use Rattle.tree.specs.Tree.{Ident, Tree}
+use Rattle.scope_map.specs.Hints.{rowsLength}
 use Rattle.semantic.specs.declared.IdentifierStatus.{IdentifierStatus}
 use Rattle.pass.specs.State.{State, Entry}
 use Rattle.pass.specs.Read.{enter, enterDefine, enterTopLevelValue, mutate, ruleOf}
 use Rattle.work.specs.Known.{Known}
 use Rattle.work.specs.Coded.{coded}
-use Rattle.work.specs.Works.{Works, scopeLength}
+use Rattle.work.specs.Works.{Works}
 use Rattle.work.specs.Tied.{raw, Tied, Good, Here}
 use Rattle.work.specs.declared.Pass.{Pass}
 use Rattle.work.specs.declared.entries.Entry.{Entry as Coded}
@@ -20,7 +21,7 @@ use Rattle.names.specs.declared.read.Rule.{Rule}
 
 -- one name more has room
 abbrev pub Room : Pass → Type 0
-Room p = 3 * p .scope .length + 3 ≤ scopeLength
+Room p = 3 * p .scope .length + 3 ≤ rowsLength
 
 -- some state is held
 pub record SomeState (p : Pass) (w : List ℕ) : Type 0 where

@@ -35,4 +35,5 @@ pub mod Bottoms
 pub mod Sound
 pub mod Stage
 pub mod Visitable
+pub mod Numbers
 pub mod Idle

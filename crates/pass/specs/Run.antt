@@ -88,7 +88,7 @@ abbrev pub itemsLength : ℕ
 itemsLength = itemWidth * itemsMost
 
 abbrev pub workLength : ℕ
-workLength = 61440
+workLength = 59392
 
 unfoldable pub lengthsFit : Tables → Bool
 lengthsFit t =

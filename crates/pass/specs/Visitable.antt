@@ -20,7 +20,7 @@ use Rattle.pass.specs.Laws.Tops.{Spread}
 -- Far below what a number can hold
 
 abbrev pub usesMost : ℕ
-usesMost = 268435456
+usesMost = 16384
 
 abbrev pub layersMost : ℕ
 layersMost = 16384
@@ -95,12 +95,16 @@ abbrev pub CapturedFits : State → ℕ → Type 0
 CapturedFits s at = (v : FunctionInformation) → functionIn (rowAt s at) ≡ some v → endOf (v .«captured_vars») ≤ itemsMost
 
 module _ (P : Ident → Type 0) where
-  pub record Reliable (s : State) : Type 0 where
+  -- tables have their lengths, identifiers are those of P, and counts are small
+  pub record Good (s : State) : Type 0 where
     pub rows : length (s .facts .rows) ≡ rowsMost
-    pub captured : length (s .facts .captured) ≡ itemsMost
     pub arguments : length (s .facts .arguments) ≡ itemsMost
     pub sound : Sound P s
     pub counted : Counted usesMost s
+
+  pub record Reliable (s : State) : Type 0 where
+    pub good : Good s
+    pub captured : length (s .facts .captured) ≡ itemsMost
 
   -- the lambda at a record begins, with k parameters; and ends
   pub record LambdaBegins (at k : ℕ) (s : State) : Type 0 where

@@ -37,5 +37,6 @@ summed F c {d} {r} {p} k q v = record {
       ap (λ (n : ℕ). line (number calls= n ∷ number tail= (c .tail) ∷ number percent= p ∷ [])) (k .all l e)
       ∙ ap (λ (n : ℕ). line (number calls= (count isCall l) ∷ number tail= n ∷ number percent= p ∷ [])) (k .tail l e)
       ∙ ap (λ (n : ℕ). line (number calls= (count isCall l) ∷ number tail= (count isTail l) ∷ number percent= n ∷ [])) s in
-      record { text = v .text ∙ t; short = v .short };
+      v .text ∙ t;
+  short = v .short;
 }

@@ -188,7 +188,7 @@ fn main() {
     let mut facts = [0u32; 81920];
     let mut captured = [0u32; 53248];
     let mut arguments = [0u32; 53248];
-    let mut work = [0u32; 61440];
+    let mut work = [0u32; 59392];
     let t = replay(
         &mut classes,
         &mut records,

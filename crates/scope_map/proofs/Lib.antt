@@ -1,3 +1,4 @@
 pub mod Search
+pub mod Hinted
 pub mod Write
 pub mod Cases

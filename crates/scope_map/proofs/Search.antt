@@ -3,12 +3,15 @@
 use Prim.Native.Nat.{ℕ, zero, suc, _-_, _≤_, _<_}
 use mathlib.Core.List.{List, [], _∷_}
 use mathlib.Core.Bool.{Bool, true, false, cond, _&&_}
-use mathlib.Core.Path.{_≡_, refl, ap, _∙_}
+use mathlib.Core.Path.{_≡_, refl, ap, sym, _∙_}
 use native.Mathlib.Omega.{arith}
-use borrow.Author.Tests.{eq-eqb, ne-eqb}
+use borrow.Author.Tests.{eqb-true, eqb-false, eq-eqb, ne-eqb}
 use lib.Dec.{eqb}
 use Rattle.scope_map.specs.ScopeMap.{Live}
 use Rattle.scope_map.specs.Rows.{rowAt, liveIn}
+use Rattle.scope_map.specs.Held.{Held, Bounds}
+use Rattle.scope_map.specs.HeldLaws.{mapOf}
+use Rattle.scope_map.specs.declared.ScopeMap.{ScopeMap as Map}
 
 pub record Search {A : Type 0} (f : List (Live ℕ) → A) : Type 0 where
   pub test : Live ℕ → Bool
@@ -36,9 +39,32 @@ module _ {A : Type 0} {f : List (Live ℕ) → A} (s : Search f) (t : List ℕ) 
   ends zero h = refl
   ends (suc k) h = absurd (omega arith)
 
+  -- rows that the test fails need not be looked at
+  skips : (r n : ℕ) → r ≤ n → ((i : ℕ) → r ≤ i → i < n → s .test (rowAt t i) ≡ false) → f (liveIn t n) ≡ f (liveIn t r)
+  skips r zero h g = let z : zero ≡ r = omega arith in ap (λ (k : ℕ). f (liveIn t k)) z
+  skips r (suc n) h g = pick (eqb r (suc n)) refl (λ l. skips r n l (λ i a b. g i a (omega arith)))
+    where
+      pick : (b : Bool) → eqb r (suc n) ≡ b → (r ≤ n → f (liveIn t n) ≡ f (liveIn t r)) → f (liveIn t (suc n)) ≡ f (liveIn t r)
+      pick true q k = ap (λ (j : ℕ). f (liveIn t j)) (sym (eqb-true r (suc n) q))
+      pick false q k =
+          let z = eqb-false r (suc n) q in
+          let y : n ≡ suc n - 1 = omega arith in
+          misses (suc n) (omega arith) (ap (λ (i : ℕ). s .test (rowAt t i)) (sym y) ∙ g n (omega arith) (omega arith))
+          ∙ ap (λ (i : ℕ). f (liveIn t i)) (sym y)
+          ∙ k (omega arith)
+
+  -- a search for a name may start where its rows end
+  pub from-bound : {m : Map} {x r : ℕ} → ((e : Live ℕ) → (e .name ≡ x → ⊥) → s .test e ≡ false) → Bounds m t x r → Held m t (mapOf m t) →
+      f (liveIn t r) ≡ f (liveIn t (m .length))
+  from-bound {m} {x} {r} other b k = sym (skips r (m .length) (b .most) (λ i g h. other (rowAt t i) (b .over (mapOf m t) k i g h)))
+
 -- a test of two parts: the second decides, or the first
 pub second : (a b : ℕ) (q : Bool) → a ≡ b → q ≡ (eqb a b && q)
 second a b q e = rw (eq-eqb a b e)
 
 pub first : (a b : ℕ) (q : Bool) → (a ≡ b → ⊥) → eqb a b ≡ (eqb a b && q)
 first a b q e = rw (ne-eqb a b e)
+
+pub neither : (p q : Bool) → q ≡ false → p && q ≡ false
+neither true q e = e
+neither false q e = refl

@@ -88,10 +88,10 @@ shifted-over t k (suc n) j l h g =
 
 -- Row i, of n, is gone
 
-module _ (t : List ℕ) (i n : ℕ) (h : i < n) (g : 3 * n ≤ length t) where
-  pub drop-closed : drop (3 * (n - 1)) (closed t i n) ≡ drop (3 * (n - 1)) t
-  drop-closed = drop-shifted t (3 * i) (3 * n - 3 - 3 * i) (3 * (n - 1)) (omega arith)
+pub drop-closed : (t : List ℕ) (i n : ℕ) → i < n → (k : ℕ) → 3 * (n - 1) ≤ k → drop k (closed t i n) ≡ drop k t
+drop-closed t i n h k g = drop-shifted t (3 * i) (3 * n - 3 - 3 * i) k (omega arith)
 
+module _ (t : List ℕ) (i n : ℕ) (h : i < n) (g : 3 * n ≤ length t) where
   pub closed-under : (k : ℕ) → k < i → rowAt (closed t i n) k ≡ rowAt t k
   closed-under k l =
       let cell : (j : ℕ) → j < 3 * i → getD (closed t i n) j 0 ≡ getD t j 0 = λ j m. shifted-under t (3 * i) (3 * n - 3 - 3 * i) j m in

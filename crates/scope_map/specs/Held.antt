@@ -1,5 +1,5 @@
 -- What the code holds, and what each operation says of it. The contracts speak of every map held; there is at most one.
-use Prim.Native.Nat.{ℕ, _-_, _*_, _≤_}
+use Prim.Native.Nat.{ℕ, _-_, _≤_, _<_}
 use mathlib.Core.List.{List, [], _∷_}
 use mathlib.Core.Bool.{cond}
 use mathlib.Core.Path.{_≡_}
@@ -7,7 +7,8 @@ use mathlib.Core.Option.{Option, none, some}
 use lib.ListN.{length, drop}
 use lib.Dec.{eqb, ltb}
 use Rattle.scope_map.specs.ScopeMap.{Live, ScopeMap, isAt, belowLayer, get, depthOf, hasAtTop, newestLayer}
-use Rattle.scope_map.specs.Rows.{liveIn, rowsFrom}
+use Rattle.scope_map.specs.Rows.{rowAt, liveIn, rowsFrom}
+use Rattle.scope_map.specs.Hints.{mapLength, Roomy, Hinted}
 use Rattle.scope_map.specs.declared.ScopeMap.{ScopeMap as Map}
 use Rattle.scope_map.specs.declared.Found.{Found}
 use Rattle.scope_map.specs.declared.Found.the-variants.{At, Nothing}
@@ -18,17 +19,23 @@ use Rattle.scope_map.specs.declared.Distance.the-variants as distance
 pub record Held (m : Map) (t : List ℕ) (s : ScopeMap ℕ) : Type 0 where
   pub depth : m .depth ≡ s .depth
   pub many : m .length ≡ length (s .live)
-  pub inside : 3 * m .length ≤ length t
+  pub room : Roomy (m .length) t
   pub live : liveIn t (m .length) ≡ s .live
+  pub hinted : Hinted t (s .live)
 
--- an operation that takes a map to another; what lies after its rows is as it was
+-- an operation that takes a map to another; what lies after the map is as it was
 pub record Becomes (m : Map) (t : List ℕ) (f : ScopeMap ℕ → ScopeMap ℕ) (m′ : Map) (t′ : List ℕ) : Type 0 where
   pub held : (s : ScopeMap ℕ) → Held m t s → Held m′ t′ (f s)
-  pub rest : drop (3 * m′ .length) t′ ≡ drop (3 * m′ .length) t
+  pub rest : drop mapLength t′ ≡ drop mapLength t
 
 -- an operation that answers
 pub record Tells {A : Type 0} (m : Map) (t : List ℕ) (f : ScopeMap ℕ → A) (r : A) : Type 0 where
   pub is : (s : ScopeMap ℕ) → Held m t s → r ≡ f s
+
+-- where a search for a name starts: no row from r on has it
+pub record Bounds (m : Map) (t : List ℕ) (x r : ℕ) : Type 0 where
+  pub over : (s : ScopeMap ℕ) → Held m t s → (i : ℕ) → r ≤ i → i < m .length → rowAt t i .name ≡ x → ⊥
+  pub most : r ≤ m .length
 
 -- A lookup. The row of a live name is the number of older ones.
 

@@ -1,16 +1,17 @@
--- A struct and a table hold one map, `mapOf`. What an operation does to that one, it does to every map held.
+-- A struct and a table hold at most one map, `mapOf`. What an operation does to that one, it does to every map held.
 use Prim.Native.Nat.{ℕ, zero, suc, _+_, _-_, _*_, _≤_, _<_}
 use mathlib.Core.List.{List, [], _∷_, reverse, reverse-cons}
-use mathlib.Core.Path.{_≡_, refl, ap, sym, _∙_}
+use mathlib.Core.Path.{_≡_, refl, ap, sym, subst, _∙_}
 use native.Mathlib.Omega.{arith}
 use lib.ListN.{length, drop, take, getD}
 use lib.Seq.{take-add, drop-cons}
 use lib.Dec.{ltb}
 use Rattle.table.specs.Layout.{layout, layout-append}
-use Rattle.scope_map.specs.ScopeMap.{Live, ScopeMap, belowLayer, hasAtTop, newestLayer}
+use Rattle.scope_map.specs.ScopeMap.{Live, ScopeMap, new, belowLayer, hasAtTop, newestLayer}
 use Rattle.scope_map.specs.SizeLaws.{below-size}
 use Rattle.scope_map.specs.Rows.{rowAt, liveIn, rowsFrom}
-use Rattle.scope_map.specs.RowLaws.{length-liveIn, found-get, place-most, place-has, layer-liveIn}
+use Rattle.scope_map.specs.RowLaws.{length-liveIn, found-get, place-has, layer-liveIn}
+use Rattle.scope_map.specs.Hints.{mapLength, Roomy, Hinted}
 use Rattle.scope_map.specs.Held.{Held, Becomes, foundIn, entryOf, Gets, placeIn, placeOf, Places, Starts}
 use Rattle.scope_map.specs.declared.ScopeMap.{ScopeMap as Map}
 use Rattle.scope_map.specs.declared.Found.{Found}
@@ -18,39 +19,43 @@ use Rattle.scope_map.specs.declared.Found.{Found}
 abbrev pub mapOf : Map → List ℕ → ScopeMap ℕ
 mapOf m t = record { depth = m .depth; live = liveIn t (m .length) }
 
-pub held-is : {m : Map} {t : List ℕ} {s : ScopeMap ℕ} → 3 * m .length ≤ length t → mapOf m t ≡ s → Held m t s
-held-is {m} {t} h e = record {
+pub held-is : {m : Map} {t : List ℕ} {s : ScopeMap ℕ} → Roomy (m .length) t → Hinted t (liveIn t (m .length)) → mapOf m t ≡ s → Held m t s
+held-is {m} {t} r h e = record {
   depth = ap (λ (s : ScopeMap ℕ). s .depth) e;
   many = sym (length-liveIn t (m .length)) ∙ ap (λ (s : ScopeMap ℕ). length (s .live)) e;
-  inside = h;
+  room = r;
   live = ap (λ (s : ScopeMap ℕ). s .live) e;
+  hinted = subst (λ (s : ScopeMap ℕ). Hinted t (s .live)) e h;
 }
 
 pub map-is : {m : Map} {t : List ℕ} {s : ScopeMap ℕ} → Held m t s → mapOf m t ≡ s
 map-is h = rw (h .depth, h .live)
 
-pub becomes : {m : Map} {t : List ℕ} {m′ : Map} {t′ : List ℕ} (f : ScopeMap ℕ → ScopeMap ℕ) → 3 * m′ .length ≤ length t′ →
-    mapOf m′ t′ ≡ f (mapOf m t) → drop (3 * m′ .length) t′ ≡ drop (3 * m′ .length) t → Becomes m t f m′ t′
-becomes f h e r = record { held = λ s g. held-is h (e ∙ ap f (map-is g)); rest = r }
+every-map : {m : Map} {t : List ℕ} (P : ScopeMap ℕ → Type 0) → (Held m t (mapOf m t) → P (mapOf m t)) → (s : ScopeMap ℕ) → Held m t s → P s
+every-map {m} {t} P h s g = subst (λ (s : ScopeMap ℕ). Held m t s → P s) (map-is g) h g
 
-pub stays-inside : {m : Map} {t : List ℕ} {f : ScopeMap ℕ → ScopeMap ℕ} {m′ : Map} {t′ : List ℕ} → Becomes m t f m′ t′ →
-    3 * m .length ≤ length t → 3 * m′ .length ≤ length t′
-stays-inside {m} {t} b h = b .held (mapOf m t) (held-is h refl) .inside
+-- no names, in any table that is long enough
+pub held-new : (t : List ℕ) → mapLength ≤ length t → Held (record { depth = 1; length = 0 }) t new
+unfolding liveIn Hinted
+held-new t h = held-is (record { rows = omega arith; long = h }) tt refl
 
-pub gets : {m : Map} {t : List ℕ} {x : ℕ} {r : Found} → r ≡ foundIn (liveIn t (m .length)) x → Gets m t x r
-gets {m} {t} {x} e =
-    let row : (s : ScopeMap ℕ) → Held m t s → _ ≡ foundIn (s .live) x = λ s g. e ∙ ap (λ (l : List (Live ℕ)). foundIn l x) (g .live) in
+pub becomes : {m : Map} {t : List ℕ} {m′ : Map} {t′ : List ℕ} (f : ScopeMap ℕ → ScopeMap ℕ) → (Held m t (mapOf m t) → Held m′ t′ (f (mapOf m t))) →
+    drop mapLength t′ ≡ drop mapLength t → Becomes m t f m′ t′
+becomes {m′ = m′} {t′} f h r = record { held = every-map (λ s. Held m′ t′ (f s)) h; rest = r }
+
+pub gets : {m : Map} {t : List ℕ} {x : ℕ} {r : Found} → (Held m t (mapOf m t) → r ≡ foundIn (liveIn t (m .length)) x) → Gets m t x r
+gets {m} {t} {x} {r} h =
+    let row : (s : ScopeMap ℕ) → Held m t s → r ≡ foundIn (s .live) x = every-map (λ s. r ≡ foundIn (s .live) x) h in
     record { is = λ s g. ap (entryOf x) (row s g) ∙ found-get (s .live) x; row = row }
 
-pub places : {m : Map} {t : List ℕ} {x r : ℕ} → r ≡ placeIn (m .depth) x (m .length) (liveIn t (m .length)) → Places m t x r
-places {m} {t} {x} e =
+pub places : {m : Map} {t : List ℕ} {x r : ℕ} → r ≤ m .length → (Held m t (mapOf m t) → r ≡ placeIn (m .depth) x (m .length) (liveIn t (m .length))) → Places m t x r
+places {m} {t} {x} {r} l h =
     let n = m .length in
-    let l = liveIn t n in
     let z = length-liveIn t n in
     record {
-      is = λ s g. e ∙ ap (λ (k : ℕ). placeIn (m .depth) x k l) (sym z) ∙ ap (λ (s : ScopeMap ℕ). placeOf s x) (map-is g);
-      has = λ s g. ap (λ (k : ℕ). ltb k n) e ∙ place-has (m .depth) x n l (omega arith) ∙ ap (λ (s : ScopeMap ℕ). hasAtTop s x) (map-is g);
-      most = rw e (place-most (m .depth) x n l (omega arith));
+      is = every-map (λ s. r ≡ placeOf s x) (λ g. h g ∙ ap (λ (k : ℕ). placeIn (m .depth) x k (liveIn t n)) (sym z));
+      has = every-map (λ s. ltb r n ≡ hasAtTop s x) (λ g. ap (λ (k : ℕ). ltb k n) (h g) ∙ place-has (m .depth) x n (liveIn t n) (omega arith));
+      most = l;
     }
 
 pub starts : {m : Map} {t : List ℕ} {r : ℕ} → belowLayer (m .depth) (liveIn t (m .length)) ≡ liveIn t r → Starts m t r
@@ -89,4 +94,4 @@ live-layout t (suc n) h =
     (sym (ap (layout put) (reverse-cons (rowAt t n) (liveIn t n)) ∙ layout-append put (reverse (liveIn t n)) (rowAt t n ∷ [])))
 
 pub held-layout : {m : Map} {t : List ℕ} {s : ScopeMap ℕ} → Held m t s → take (3 * m .length) t ≡ layout put (reverse (s .live))
-held-layout {m} {t} h = live-layout t (m .length) (h .inside) ∙ ap (λ (l : List (Live ℕ)). layout put (reverse l)) (h .live)
+held-layout {m} {t} h = live-layout t (m .length) (omega (arith, h .room .rows, h .room .long)) ∙ ap (λ (l : List (Live ℕ)). layout put (reverse l)) (h .live)

@@ -97,15 +97,6 @@ module _ (d x n : ℕ) where
       pick true g r = omega arith
       pick false g r = omega (arith, r g)
 
-  pub place-most : (l : List (Live ℕ)) → length l ≤ n → placeIn d x n l ≤ n
-  unfolding placeIn
-  place-most [] h = omega arith
-  place-most (e ∷ l) h = pick (isAt d x e) (place-most l (omega arith))
-    where
-      pick : (b : Bool) → placeIn d x n l ≤ n → cond b (length l) (placeIn d x n l) ≤ n
-      pick true r = omega arith
-      pick false r = r
-
   pub place-has : (l : List (Live ℕ)) → length l ≤ n → ltb (placeIn d x n l) n ≡ hasIn d x l
   unfolding hasIn placeIn
   place-has [] h = le-ltb n n (omega arith)

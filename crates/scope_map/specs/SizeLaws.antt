@@ -19,7 +19,7 @@ module _ {A : Type 0} where
       pick true r = refl
       pick false r = ap suc r
 
-  remove-sizeIn : (d x : ℕ) (l : List (Live A)) → length (removeIn d x l) ≤ length l
+  pub remove-sizeIn : (d x : ℕ) (l : List (Live A)) → length (removeIn d x l) ≤ length l
   unfolding removeIn
   remove-sizeIn d x [] = omega arith
   remove-sizeIn d x (e ∷ l) = pick (isAt d x e) (remove-sizeIn d x l)

@@ -1,12 +1,20 @@
 // Layers of names, each with a value. The live names stand in a lent table, oldest first, as rows of three numbers: name, layer, value. The
-// bottom layer is 1.
+// bottom layer is 1. After the rows stand the hints, a number for each name: no row from it on has the name.
+use table::wide;
 ghost use mathlib.Core.Path.{_≡_};
 ghost use mathlib.Core.List.{List};
 ghost use Prim.Native.Nat.{ℕ, _+_, _*_, _≤_, _<_};
 ghost use lib.ListN.{length};
 ghost use Rattle.scope_map.specs.ScopeMap.{new, pushLayer, popLayer, isAt, hasAtTop, define, remove};
 ghost use Rattle.scope_map.specs.Rows.{rowAt, liveOf, written, closed};
-ghost use Rattle.scope_map.specs.Held.{Held, Becomes, Tells, Gets, Places, Starts, distanceOf};
+ghost use Rattle.scope_map.specs.Hints.{mapLength, Roomy, withHint};
+ghost use Rattle.scope_map.specs.Held.{Held, Becomes, Tells, Bounds, Gets, Places, Starts, distanceOf};
+
+// There is room for 4,096 rows.
+const HINTS: usize = 12288;
+
+// Names from here on have no hint.
+const HINTED: u32 = 1024;
 
 // How many layers there are, and how many rows.
 pub struct ScopeMap {
@@ -35,7 +43,7 @@ pub struct Row {
 
 impl ScopeMap {
     pub fn new() -> Self
-        ensures { λ r. ⌜ ((t : List ℕ) → Held r t new) ⌝ }
+        ensures { λ r. ⌜ ((t : List ℕ) → mapLength ≤ length t → Held r t new) ⌝ }
     {
         ScopeMap {
             depth: 1,
@@ -61,7 +69,7 @@ impl ScopeMap {
 
     // The first row of the newest layer. The rows from it on are the layer's names, in the order they were defined.
     pub fn newest_layer(self, t: &[u32]) -> usize
-        requires { ⌜ 3 * self .length ≤ length (now t) ⌝ }
+        requires { ⌜ Roomy (self .length) (now t) ⌝ }
         ensures { λ r. ⌜ Starts self (now (t .entry)) r ⌝ }
     {
         let depth = self.depth;
@@ -78,7 +86,7 @@ impl ScopeMap {
 
     // The bottom layer is never popped.
     pub fn pop_layer(self, t: &[u32]) -> Self
-        requires { ⌜ 3 * self .length ≤ length (now t) ⌝ }
+        requires { ⌜ Roomy (self .length) (now t) ⌝ }
         ensures { λ r. ⌜ Becomes self (now (t .entry)) popLayer r (now (t .entry)) ⌝ }
     {
         if self.depth <= 1 {
@@ -91,12 +99,28 @@ impl ScopeMap {
         }
     }
 
+    // Where a search for the name starts: no row from here on has it.
+    fn bound(self, t: &[u32], name: u32) -> usize
+        requires { ⌜ Roomy (self .length) (now t) ⌝ }
+        ensures { λ r. ⌜ Bounds self (now (t .entry)) name r ⌝ }
+    {
+        let length = self.length;
+        if HINTED <= name {
+            return length;
+        }
+        let hint = wide(t[HINTS + wide(name)]);
+        if hint < length {
+            return hint;
+        }
+        length
+    }
+
     // The newest of the name.
     pub fn get(self, t: &[u32], name: u32) -> Found
-        requires { ⌜ 3 * self .length ≤ length (now t) ⌝ }
+        requires { ⌜ Roomy (self .length) (now t) ⌝ }
         ensures { λ r. ⌜ Gets self (now (t .entry)) name r ⌝ }
     {
-        let mut i = self.length;
+        let mut i = self.bound(t, name);
         while 0 < i {
             i -= 1;
             if t[3 * i] == name {
@@ -111,7 +135,7 @@ impl ScopeMap {
     }
 
     pub fn depth_of(self, t: &[u32], name: u32) -> Distance
-        requires { ⌜ 3 * self .length ≤ length (now t) ⌝ }
+        requires { ⌜ Roomy (self .length) (now t) ⌝ }
         ensures { λ r. ⌜ Tells self (now (t .entry)) (λ m. distanceOf m name) r ⌝ }
     {
         let found = self.get(t, name);
@@ -132,11 +156,11 @@ impl ScopeMap {
 
     // The row that defines the name in the newest layer; where it has none, the row after the last.
     pub fn place(self, t: &[u32], name: u32) -> usize
-        requires { ⌜ 3 * self .length ≤ length (now t) ⌝ }
+        requires { ⌜ Roomy (self .length) (now t) ⌝ }
         ensures { λ r. ⌜ Places self (now (t .entry)) name r ⌝ }
     {
         let depth = self.depth;
-        let mut i = self.length;
+        let mut i = self.bound(t, name);
         while 0 < i {
             i -= 1;
             if is_at(t, i, depth, name) {
@@ -147,7 +171,7 @@ impl ScopeMap {
     }
 
     pub fn contains_key_at_top(self, t: &[u32], name: u32) -> bool
-        requires { ⌜ 3 * self .length ≤ length (now t) ⌝ }
+        requires { ⌜ Roomy (self .length) (now t) ⌝ }
         ensures { λ r. ⌜ Tells self (now (t .entry)) (λ m. hasAtTop m name) r ⌝ }
     {
         let place = self.place(t, name);
@@ -156,7 +180,7 @@ impl ScopeMap {
 
     // In a layer that has the name the value is replaced.
     pub fn define(self, t: &mut [u32], name: u32, value: u32) -> Self
-        requires { ⌜ 3 * self .length + 3 ≤ length (now t) ⌝ }
+        requires { ⌜ Roomy (self .length + 1) (now t) ⌝ }
         ensures { λ r. ⌜ Becomes self (now (t .entry)) (define name value) r (now (t .exit)) ⌝ }
     {
         let place = self.place(t, name);
@@ -166,6 +190,7 @@ impl ScopeMap {
         if place < length {
             return self;
         }
+        set_hint(t, name, length + 1);
         ScopeMap {
             depth,
             length: length + 1,
@@ -174,7 +199,7 @@ impl ScopeMap {
 
     // Out of the newest layer alone.
     pub fn remove(self, t: &mut [u32], name: u32) -> Self
-        requires { ⌜ 3 * self .length ≤ length (now t) ⌝ }
+        requires { ⌜ Roomy (self .length) (now t) ⌝ }
         ensures { λ r. ⌜ Becomes self (now (t .entry)) (remove name) r (now (t .exit)) ⌝ }
     {
         let place = self.place(t, name);
@@ -191,7 +216,7 @@ impl ScopeMap {
 
     // Row i, by which a caller walks the live names.
     pub fn row_at(self, t: &[u32], i: usize) -> Row
-        requires { ⌜ (i < self .length) × (3 * self .length ≤ length (now t)) ⌝ }
+        requires { ⌜ (i < self .length) × Roomy (self .length) (now t) ⌝ }
         ensures { λ r. ⌜ liveOf r ≡ rowAt (now (t .entry)) i ⌝ }
     {
         Row {
@@ -218,6 +243,16 @@ fn put(t: &mut [u32], i: usize, name: u32, layer: u32, value: u32)
     t[3 * i] = name;
     t[3 * i + 1] = layer;
     t[3 * i + 2] = value;
+}
+
+// No row from row n on has the name.
+fn set_hint(t: &mut [u32], name: u32, n: usize)
+    requires { ⌜ (mapLength ≤ length (now t)) × (n < 4294967296) ⌝ }
+    ensures { λ _. ⌜ now (t .exit) ≡ withHint (now (t .entry)) name n ⌝ }
+{
+    if name < HINTED {
+        t[HINTS + wide(name)] = n as u32;
+    }
 }
 
 // The rows after row i, of n, move down by one.

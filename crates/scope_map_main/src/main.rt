@@ -1,7 +1,8 @@
 // What `ScopeMap` gives in the cases that its document names.
-ghost use Prim.Native.Nat.{_*_, _≤_, _<_};
+ghost use Prim.Native.Nat.{_<_};
+ghost use Rattle.scope_map.specs.Hints.{Roomy};
 ghost use Rattle.scope_map.specs.Held.{Held};
-ghost use Rattle.scope_map_main.specs.States.{twoLayers, replaced};
+ghost use Rattle.scope_map_main.specs.States.{twoLayers, replaced, Holds};
 use scope_map::Distance;
 use scope_map::Found;
 use scope_map::ScopeMap;
@@ -39,15 +40,15 @@ fn show_distance(d: Distance) {
 }
 
 // The newest layer and value of a name, and how many layers down it lies.
-fn show_name(m: ScopeMap, t: &[u32; 12], name: u32)
-    requires { ⌜ 3 * m .length ≤ 12 ⌝ }
+fn show_name(m: ScopeMap, t: &[u32; 13312], name: u32)
+    requires { ⌜ Roomy (m .length) (now t) ⌝ }
 {
     show_found(m.get(t, name));
     show_distance(m.depth_of(t, name));
 }
 
-fn show_row(m: ScopeMap, t: &[u32; 12], i: usize)
-    requires { ⌜ (i < m .length) × (3 * m .length ≤ 12) ⌝ }
+fn show_row(m: ScopeMap, t: &[u32; 13312], i: usize)
+    requires { ⌜ (i < m .length) × Roomy (m .length) (now t) ⌝ }
 {
     let row = m.row_at(t, i);
     io::write_all(1, b" ");
@@ -55,8 +56,8 @@ fn show_row(m: ScopeMap, t: &[u32; 12], i: usize)
 }
 
 // The names of the newest layer, in the order they were defined.
-fn show_newest_layer(m: ScopeMap, t: &[u32; 12])
-    requires { ⌜ 3 * m .length ≤ 12 ⌝ }
+fn show_newest_layer(m: ScopeMap, t: &[u32; 13312])
+    requires { ⌜ Roomy (m .length) (now t) ⌝ }
 {
     let mut i = m.newest_layer(t);
     let end = m.length;
@@ -66,8 +67,8 @@ fn show_newest_layer(m: ScopeMap, t: &[u32; 12])
     }
 }
 
-fn show(m: ScopeMap, t: &[u32; 12])
-    requires { ⌜ 3 * m .length ≤ 12 ⌝ }
+fn show(m: ScopeMap, t: &[u32; 13312])
+    requires { ⌜ Roomy (m .length) (now t) ⌝ }
 {
     io::write_all(1, b"depth=");
     number(m.depth());
@@ -78,7 +79,7 @@ fn show(m: ScopeMap, t: &[u32; 12])
 }
 
 // The name 7 in two layers.
-fn two_layers(t: &mut [u32; 12]) -> ScopeMap
+fn two_layers(t: &mut [u32; 13312]) -> ScopeMap
     ensures { λ r. ⌜ Held r (now (t .exit)) twoLayers ⌝ }
 {
     let a = ScopeMap::new();
@@ -88,7 +89,7 @@ fn two_layers(t: &mut [u32; 12]) -> ScopeMap
 }
 
 // Another name after it, and its value replaced: the order stays.
-fn replaced(m: ScopeMap, t: &mut [u32; 12]) -> ScopeMap
+fn replaced(m: ScopeMap, t: &mut [u32; 13312]) -> ScopeMap
     requires { ⌜ Held m (now t) twoLayers ⌝ }
     ensures { λ r. ⌜ Held r (now (t .exit)) replaced ⌝ }
 {
@@ -96,18 +97,18 @@ fn replaced(m: ScopeMap, t: &mut [u32; 12]) -> ScopeMap
     a.define(t, 7, 72)
 }
 
-fn removed(m: ScopeMap, t: &mut [u32; 12]) -> ScopeMap
-    requires { ⌜ 3 * m .length ≤ 12 ⌝ }
-    ensures { λ r. ⌜ 3 * r .length ≤ 12 ⌝ }
+fn removed(m: ScopeMap, t: &mut [u32; 13312]) -> ScopeMap
+    requires { ⌜ Holds m (now t) ⌝ }
+    ensures { λ r. ⌜ Holds r (now (t .exit)) ⌝ }
 {
     let r = m.remove(t, 7);
     show(r, t);
     r
 }
 
-fn popped(m: ScopeMap, t: &mut [u32; 12]) -> ScopeMap
-    requires { ⌜ 3 * m .length ≤ 12 ⌝ }
-    ensures { λ r. ⌜ 3 * r .length ≤ 12 ⌝ }
+fn popped(m: ScopeMap, t: &mut [u32; 13312]) -> ScopeMap
+    requires { ⌜ Holds m (now t) ⌝ }
+    ensures { λ r. ⌜ Holds r (now (t .exit)) ⌝ }
 {
     let r = m.pop_layer(t);
     show(r, t);
@@ -116,7 +117,7 @@ fn popped(m: ScopeMap, t: &mut [u32; 12]) -> ScopeMap
 
 // A name leaves the newest layer alone; the bottom layer is never popped.
 fn main() {
-    let mut t = [0u32; 12];
+    let mut t = [0u32; 13312];
     let a = two_layers(&mut t);
     show(a, &t);
     let b = replaced(a, &mut t);

@@ -5,5 +5,6 @@ pub mod Places
 pub mod Missing
 pub mod Naming
 pub mod Repeated
+pub mod Chaining
 pub mod Nesting
 pub mod Order

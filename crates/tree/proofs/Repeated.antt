@@ -1,9 +1,9 @@
 -- Check 8: the ids before record i, latest first, are those that `repeated` has seen there.
-use Prim.Native.Nat.{ℕ, zero, suc, _+_, _-_, _≤_, _<_}
+use Prim.Native.Nat.{ℕ, suc, _+_, _≤_, _<_}
 use mathlib.Core.List.{List, [], _∷_}
-use mathlib.Core.Bool.{Bool, true, false, not, _&&_, _||_}
+use mathlib.Core.Bool.{Bool, true, false, not, _&&_}
 use mathlib.Core.Option.{none, some}
-use mathlib.Core.Path.{_≡_, refl, ap, sym, _∙_}
+use mathlib.Core.Path.{_≡_, ap, sym, _∙_}
 use native.Mathlib.Omega.{arith}
 use borrow.Author.Tests.{eq-eqb, ne-eqb}
 use lib.Dec.{eqb}
@@ -16,21 +16,16 @@ use Rattle.tree.specs.FirstLaws.{on-zero, on-on}
 use Rattle.tree.specs.Check.{member, repeated}
 use Rattle.tree.specs.Seen.{seen}
 
--- the id j among those before record i
-module _ (rs : List ℕ) (j : ℕ) where
-  stands-last : (i : ℕ) → 0 < i → member j (seen rs i) ≡ eqb j (nth rs (i - 1) .id) || member j (seen rs (i - 1))
-  stands-last zero h = absurd (omega arith)
-  stands-last (suc i) h = let z : suc i - 1 ≡ i = omega arith in rw z
+pub seen-none : (rs : List ℕ) (j : ℕ) {i : ℕ} → i ≡ 0 → member j (seen rs i) ≡ false
+seen-none rs j z = rw z
 
-  pub stands-hit : (i x : ℕ) → 0 < i → x ≡ nth rs (i - 1) .id → x ≡ j → member j (seen rs i) ≡ true
-  stands-hit i x h e q = stands-last i h ∙ rw (eq-eqb j (nth rs (i - 1) .id) (sym q ∙ e))
+-- the id j among those of the first i records, of which record k is the last
+module _ (rs : List ℕ) (j : ℕ) {i k : ℕ} (z : i ≡ suc k) where
+  pub seen-hit : nth rs k .id ≡ j → member j (seen rs i) ≡ true
+  seen-hit e = rw (z, eq-eqb j (nth rs k .id) (sym e))
 
-  pub stands-miss : (i x : ℕ) → 0 < i → x ≡ nth rs (i - 1) .id → (x ≡ j → ⊥) → member j (seen rs i) ≡ member j (seen rs (i - 1))
-  stands-miss i x h e q = stands-last i h ∙ rw (ne-eqb j (nth rs (i - 1) .id) (λ p. q (e ∙ sym p)))
-
-  pub stands-none : (i : ℕ) → i ≤ 0 → member j (seen rs i) ≡ false
-  stands-none zero h = refl
-  stands-none (suc i) h = absurd (omega arith)
+  pub seen-miss : (nth rs k .id ≡ j → ⊥) → member j (seen rs i) ≡ member j (seen rs k)
+  seen-miss e = rw (z, ne-eqb j (nth rs k .id) (λ p. e (sym p)))
 
 abbrev pub again : List ℕ → ℕ → Bool
 again rs i = not (eqb (nth rs i .id) 0) && member (nth rs i .id) (seen rs i)

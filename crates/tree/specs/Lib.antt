@@ -17,6 +17,7 @@ pub mod Answer
 pub mod FirstLaws
 pub mod Found
 pub mod Seen
+pub mod Chain
 pub mod Walked
 pub mod Stands
 pub mod WithinLaws

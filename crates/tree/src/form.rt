@@ -13,9 +13,16 @@ const LAST_ID: u32 = 4294967294;
 const MOST_COUNT: u32 = 255;
 
 // By form: the children that every record has, and those that it has for each one counted.
-const FIXED: [usize; 10] = [0, 0, 0, 3, 1, 2, 1, 0, 0, 2];
+const FIXED: [u8; 10] = [0, 0, 0, 3, 1, 2, 1, 0, 0, 2];
 
-const COUNTED: [usize; 10] = [0, 0, 0, 0, 2, 0, 1, 1, 1, 0];
+const COUNTED: [u8; 10] = [0, 0, 0, 0, 2, 0, 1, 1, 1, 0];
+
+// A byte of a table as a length.
+fn byte(x: u8) -> usize
+    ensures { λ r. ⌜ r ≡ x ⌝ }
+{
+    x as usize
+}
 
 // How many children a record has; none where its form is unknown.
 pub fn children(form: u32, count: u32) -> usize
@@ -25,7 +32,7 @@ pub fn children(form: u32, count: u32) -> usize
         return 0;
     }
     let f = wide(form);
-    FIXED[f] + COUNTED[f] * wide(count)
+    byte(FIXED[f]) + byte(COUNTED[f]) * wide(count)
 }
 
 // How many of the children are names, which stand first.

@@ -1,8 +1,8 @@
-// Check 8: each id against all the earlier ones.
+// Check 8: each id against the earlier ones of its bucket, which are few, unless ids are chosen to share one.
 ghost use mathlib.Core.Path.{_≡_};
-ghost use mathlib.Core.Bool.{not, _&&_};
+ghost use mathlib.Core.Bool.{false, not, _&&_};
 ghost use mathlib.Core.List.{[]};
-ghost use Prim.Native.Nat.{_<_, _≤_};
+ghost use Prim.Native.Nat.{_+_, _<_, _≤_};
 ghost use lib.Dec.{eqb};
 ghost use lib.ListN.{length};
 ghost use Rattle.tree.specs.Record.{records};
@@ -10,44 +10,89 @@ ghost use Rattle.tree.specs.RecordLaws.{nth};
 ghost use Rattle.tree.specs.Check.{member, repeated};
 ghost use Rattle.tree.specs.Found.{foundOf};
 ghost use Rattle.tree.specs.Seen.{seen};
+ghost use Rattle.tree.specs.Chain.{bucketOf, Chain, Chains};
+use crate::MOST_RECORDS;
 use crate::record;
 use crate::scan::Found;
+use table::wide;
 
-// Whether the id stands among the first n.
-fn stands(rs: &[u32], n: usize, id: u32) -> bool
-    requires { ⌜ n ≤ length (records (now rs)) ⌝ }
-    ensures { λ r. ⌜ r ≡ member id (seen (now (rs .entry)) n) ⌝ }
+const BUCKETS: usize = 4096;
+
+// A prime near 2^32 by the golden ratio.
+const MULTIPLIER: usize = 2654435761;
+
+// Bits 20 to 31 of the product, which spread ids that have a common factor too.
+fn bucket(id: u32) -> usize
+    ensures { λ r. ⌜ r ≡ bucketOf id ⌝ }
+    ensures few { λ r. ⌜ r < 4096 ⌝ }
 {
-    let mut i = n;
-    while 0 < i {
-        i -= 1;
-        if record::id(rs, i) == id {
+    wide(id) * MULTIPLIER / 1048576 % BUCKETS
+}
+
+// A link: a record counted from 1. 0 ends a chain.
+fn link(x: u16) -> usize
+    ensures { λ r. ⌜ r ≡ x ⌝ }
+{
+    x as usize
+}
+
+// Whether the id stands among the first `last` records, of which the last is of the id's bucket: along the chain, newest first.
+fn stands(rs: &[u32], before: &[u16; MOST_RECORDS], last: usize, id: u32) -> bool
+    requires { ⌜ length (records (now rs)) ≤ 4096 ⌝ }
+    requires { ⌜ (id ≡ 0 → ⊥) ⌝ }
+    requires { ⌜ Chain (now rs) (now before) (bucketOf id) last ⌝ }
+    ensures { λ r. ⌜ r ≡ member id (seen (now (rs .entry)) last) ⌝ }
+{
+    let mut p = last;
+    while 0 < p {
+        p -= 1;
+        if record::id(rs, p) == id {
             return true;
         }
+        p = link(before[p]);
     }
     false
 }
 
-// Whether record i repeats an earlier id; 0 is none.
-fn repeats(rs: &[u32], i: usize) -> bool
+// Whether record i repeats an earlier id; 0 is none. If not, it becomes the newest of its bucket.
+fn repeats(
+    rs: &[u32],
+    i: usize,
+    newest: &mut [u16; BUCKETS],
+    before: &mut [u16; MOST_RECORDS],
+) -> bool
+    requires { ⌜ length (records (now rs)) ≤ 4096 ⌝ }
     requires { ⌜ i < length (records (now rs)) ⌝ }
+    requires { ⌜ Chains (now rs) (now newest) (now before) i ⌝ }
     ensures { λ r. ⌜ r ≡ not (eqb (nth (now (rs .entry)) i .id) 0) && member (nth (now (rs .entry)) i .id) (seen (now (rs .entry)) i) ⌝ }
+    ensures chained { λ r. ⌜ (r ≡ false → Chains (now (rs .entry)) (now (newest .exit)) (now (before .exit)) (i + 1)) ⌝ }
 {
     let id = record::id(rs, i);
     if id == 0 {
         return false;
     }
-    stands(rs, i, id)
+    let b = bucket(id);
+    let last = newest[b];
+    if stands(rs, before, link(last), id) {
+        return true;
+    }
+    before[i] = last;
+    newest[b] = (i + 1) as u16;
+    false
 }
 
 // 8: an id used twice, at the record that repeats an earlier one.
 pub fn repeated_id(rs: &[u32]) -> Found
+    requires { ⌜ length (records (now rs)) ≤ 4096 ⌝ }
     ensures { λ r. ⌜ foundOf r ≡ repeated [] (records (now (rs .entry))) ⌝ }
 {
     let n = record::len(rs);
+    // by bucket, the link to its newest record; by record, the link to the one before it in its bucket
+    let mut newest = [0u16; BUCKETS];
+    let mut before = [0u16; MOST_RECORDS];
     let mut i = 0;
     while i < n {
-        if repeats(rs, i) {
+        if repeats(rs, i, &mut newest, &mut before) {
             return Found::At(i);
         }
         i += 1;

@@ -15,8 +15,8 @@ use Rattle.pass.specs.Visitable.{VisitableArguments}
 use Rattle.pass.specs.Laws.Visitable.Parts.{first-argument, next-arguments}
 use Rattle.work.specs.Known.{Known}
 use Rattle.work.specs.Tied.{Raw, Tied}
-use Rattle.forms.specs.Flags.{FlagsAre, Handed}
-use Rattle.forms.specs.declared.flags.Flags.{Flags as Coded}
+use Rattle.flags.specs.Flags.{FlagsAre, Handed}
+use Rattle.flags.specs.declared.Flags.{Flags as Coded}
 use Rattle.visits.specs.Contract.{Fit, Done, FitAll, DoneAll}
 use Rattle.visits.proofs.Views.{part-on, small, stand-all-at, arguments-at}
 

@@ -1,16 +1,16 @@
 -- begin: its lambda defines enter, then its children are visited one after another.
 use Prim.Native.Nat.{ℕ, suc, _+_, _-_, _*_, _≤_, _<_}
 use mathlib.Core.List.{List}
-use mathlib.Core.Bool.{Bool, true, false}
-use mathlib.Core.Path.{_≡_, refl, ap, sym, subst, _∙_}
+use mathlib.Core.Bool.{Bool}
+use mathlib.Core.Path.{_≡_, ap, sym, subst, _∙_}
 use native.Mathlib.Omega.{arith}
-use borrow.Author.Tests.{eqb-true, eqb-false, eq-eqb, ne-eqb}
+use borrow.Author.Tests.{ne-eqb}
 use lib.ListN.{length, drop}
 use lib.Dec.{eqb}
 use Rattle.tree.specs.Record.{width}
 use Rattle.tree.specs.RecordLaws.{nth}
 use Rattle.tree.specs.Tree.{Node, Tree, Trees, begin, nil, cons, many, size, sizes}
-use Rattle.tree.specs.TreeLaws.{size-pos, many-sizes}
+use Rattle.tree.specs.TreeLaws.{size-pos}
 use Rattle.tree.specs.Stands.{StandAll}
 use Rattle.tree.specs.StandsLaws.{first-tree, later-trees}
 use Rattle.tree.specs.StandsParts.{BeginParts}
@@ -24,20 +24,13 @@ use Rattle.pass.specs.Laws.Visitable.Leaves.{begin-enters}
 use Rattle.work.specs.Known.{Known}
 use Rattle.work.specs.Tied.{Raw, raw, Tied}
 use Rattle.work.specs.declared.Pass.{Pass}
-use Rattle.forms.specs.Flags.{FlagsAre, Handed}
+use Rattle.flags.specs.Flags.{FlagsAre, Handed}
 use Rattle.forms.specs.Contract.{ChildrenFit, EntersChildren}
-use Rattle.forms.specs.declared.flags.Flags.{Flags as Coded}
+use Rattle.flags.specs.declared.Flags.{Flags as Coded}
 use Rattle.visits.specs.Contract.{Fit, Done}
-use Rattle.visits.proofs.Views.{part-on, small, good, stand-all-at, children-at, names-room, entered-children}
+use Rattle.visits.proofs.Views.{part-on, small, stand-all-at, children-at, names-room, entered-children}
 
 -- the i-th of k is the last one
-pub last-told : (i k : ℕ) → i < k → eqb (i + 1) k ≡ eqb (k - i) 1
-last-told i k h = go (eqb (i + 1) k) refl
-  where
-    go : (b : Bool) → eqb (i + 1) k ≡ b → eqb (i + 1) k ≡ eqb (k - i) 1
-    go true e = let q = eqb-true (i + 1) k e in e ∙ sym (eq-eqb (k - i) 1 (omega (arith, q)))
-    go false e = e ∙ sym (ne-eqb (k - i) 1 (λ q. eqb-false (i + 1) k e (omega (arith, q))))
-
 module _ {classes rs part : List ℕ} {at : ℕ} {g : Coded} {p : Pass} {F C A w : List ℕ} where
   pub record BeginView (x : Fit classes rs part at g (raw p F C A w)) : Type 0 where
     pub n : Node
@@ -57,13 +50,6 @@ module _ {classes rs part : List ℕ} {at : ℕ} {g : Coded} {p : Pass} {F C A w
         fits = subst (λ (t : Tree). Visitable (Known rs) at t (x .f) (x .s)) (v .is) (x .fits);
       }
 
-  pub begin-long : {k : ℕ} → nth rs at .form ≡ 7 → k ≡ nth rs at .count → (x : Fit classes rs part at g (raw p F C A w)) → k + 1 ≤ size (x .t)
-  unfolding size
-  begin-long {k} e c x =
-      let v = view x e in
-      let m : k ≡ many (v .es) = c ∙ v .parts .count in
-      rw (v .tree) (omega (arith, many-sizes (v .es)))
-
   pub children-fit : {k : ℕ} → nth rs at .form ≡ 7 → k ≡ nth rs at .count → Fit classes rs part at g (raw p F C A w)
       → ChildrenFit (length classes) rs (at + 1) k p F w
   children-fit {k} e c x =
@@ -77,7 +63,7 @@ module _ {classes rs part : List ℕ} {at : ℕ} {g : Coded} {p : Pass} {F C A w
         es = v .es;
         stand = v .parts .children;
         count = m;
-        fits = record { good = good (b .reliable); tied = x .tied };
+        fits = record { good = b .reliable .good; tied = x .tied };
         room = names-room (x .tied) m (b .room .live);
       }
 
@@ -105,7 +91,7 @@ module _ {classes rs part : List ℕ} {at : ℕ} {g : Coded} {p : Pass} {F C A w
         s = enterChildren classes (v .es) (x .s);
         count = omega arith;
         span = sym (ap size (v .tree));
-        tied = entered-children classes (v .es) (x .s) (o .is C A (x .s) (v .es) (v .parts .children) m (record { good = good (b .reliable); tied = x .tied }));
+        tied = entered-children classes (v .es) (x .s) (o .is C A (x .s) (v .es) (v .parts .children) m (record { good = b .reliable .good; tied = x .tied }));
         fits = begin-children small classes at (x .f) (x .s) (v .n) (v .es) (v .fits);
         stand = v .parts .children;
         state = sym (ap (λ (t : Tree). visit classes t (x .f) (x .s)) (v .tree));

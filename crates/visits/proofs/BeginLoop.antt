@@ -12,7 +12,7 @@ use Rattle.tree.specs.Tree.{size, sizes}
 use Rattle.tree.specs.TreeLaws.{size-pos}
 use Rattle.work.specs.Tied.{Raw, raw}
 use Rattle.work.specs.declared.Pass.{Pass}
-use Rattle.forms.specs.declared.flags.Flags.{Flags as Coded}
+use Rattle.flags.specs.declared.Flags.{Flags as Coded}
 use Rattle.visits.specs.Contract.{Fit}
 use Rattle.visits.proofs.Bounds.{Span}
 use Rattle.visits.proofs.BeginCase.{Left, next}

@@ -10,7 +10,7 @@ use Rattle.tree.specs.Tree.{size, sizes}
 use Rattle.tree.specs.TreeLaws.{size-pos}
 use Rattle.tree.specs.StandsLaws.{tree-inside, tree-few, trees-inside, trees-few}
 use Rattle.work.specs.Tied.{Raw}
-use Rattle.forms.specs.declared.flags.Flags.{Flags as Coded}
+use Rattle.flags.specs.declared.Flags.{Flags as Coded}
 use Rattle.visits.specs.Contract.{Fit, Done, FitAll, DoneAll}
 
 -- n records

@@ -23,11 +23,11 @@ use Rattle.work.specs.Known.{Known}
 use Rattle.work.specs.Tied.{Raw, raw, Tied}
 use Rattle.work.specs.declared.Pass.{Pass}
 use Rattle.walk.specs.Contract.{SomeTree, Extends}
-use Rattle.forms.specs.Flags.{FlagsAre, Handed, HandsHead}
+use Rattle.flags.specs.Flags.{FlagsAre, Handed, HandsHead}
 use Rattle.forms.specs.Contract.{CallFits, EndsCall}
-use Rattle.forms.specs.declared.flags.Flags.{Flags as Coded}
+use Rattle.flags.specs.declared.Flags.{Flags as Coded}
 use Rattle.visits.specs.Contract.{Fit, Done, FitAll, DoneAll}
-use Rattle.visits.proofs.Views.{part-on, small, good, stand-all-at, arguments-at}
+use Rattle.visits.proofs.Views.{part-on, small, stand-all-at, arguments-at}
 
 is-six : (t : Tree) → eqb (own t .form) 6 ≡ isLambda t
 unfolding own
@@ -145,7 +145,7 @@ module _ {classes rs part : List ℕ} {at : ℕ} {g : Coded} {z : Raw} {p q : Li
         place = ap (λ (i : ℕ). at + 1 + i) (l .is (length classes) (v .h) (v .parts .operator));
         count = omega (arith, v .parts .count);
         fits = record {
-          good = good (call-ends small classes at (x .f) (x .s) (v .n) (v .h) (v .es) (v .fits));
+          good = call-ends small classes at (x .f) (x .s) (v .n) (v .h) (v .es) (v .fits) .good;
           tied = r .state (operator-fits e c l a d o b j t x);
         };
       }
@@ -164,7 +164,7 @@ module _ {classes rs part : List ℕ} {at : ℕ} {g : Coded} {z : Raw} {p q : Li
         (y .is (length classes) C A _ (v .n) (v .h) (v .es) (x .f) (v .stands) (ap (λ (i : ℕ). at + 1 + i) (l .is (length classes) (v .h) (v .parts .operator)))
         (omega (arith, v .parts .count)) (x .flags .tail) (x .flags .counter)
         (record {
-          good = good (call-ends small classes at (x .f) (x .s) (v .n) (v .h) (v .es) (v .fits));
+          good = call-ends small classes at (x .f) (x .s) (v .n) (v .h) (v .es) (v .fits) .good;
           tied = r .state (operator-fits e c l a d o b j t x);
         }));
   }

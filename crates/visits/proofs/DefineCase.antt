@@ -22,11 +22,11 @@ use Rattle.work.specs.Tied.{raw, Tied}
 use Rattle.work.specs.declared.Pass.{Pass}
 use Rattle.walk.specs.Contract.{SomeTreeOf, TellsBody}
 use Rattle.walk.specs.declared.body.Body.{Body as Says}
-use Rattle.forms.specs.Flags.{Handed}
+use Rattle.flags.specs.Flags.{Handed}
 use Rattle.forms.specs.Contract.{DefineFits, BeforeDefine, AfterDefine}
-use Rattle.forms.specs.declared.flags.Flags.{Flags as Coded}
+use Rattle.flags.specs.declared.Flags.{Flags as Coded}
 use Rattle.visits.specs.Contract.{Fit, Done}
-use Rattle.visits.proofs.Views.{part-on, small, good, names-room}
+use Rattle.visits.proofs.Views.{part-on, small, names-room}
 
 module _ {classes rs part : List ℕ} {at : ℕ} {g : Coded} {p : Pass} {F C A w : List ℕ} where
   pub record DefineView (x : Fit classes rs part at g (raw p F C A w)) : Type 0 where
@@ -72,7 +72,7 @@ module _ {classes rs part : List ℕ} {at : ℕ} {g : Coded} {p : Pass} {F C A w
           x = v .y;
           t = v .b;
           stands = v .stands;
-          fits = record { good = good (b .reliable); tied = x .tied };
+          fits = record { good = b .reliable .good; tied = x .tied };
           room = names-room (x .tied) refl (b .room .live);
         }
 
@@ -90,7 +90,7 @@ module _ {classes rs part : List ℕ} {at : ℕ} {g : Coded} {p : Pass} {F C A w
             stands = v .parts .body;
             flags = h .is (x .f) (x .flags);
             tied = subst (λ (i : Bool). Tied (raw p₁ F₁ C A w₁) (beforeDefine classes i (isLambda (v .b)) (v .y) (v .b) (x .s))) (x .flags .direct)
-                (o .is classes C A (x .s) (v .n) (v .y) (v .b) (v .stands) (b .is (v .b) (v .parts .body)) (record { good = good (u .reliable); tied = x .tied }));
+                (o .is classes C A (x .s) (v .n) (v .y) (v .b) (v .stands) (b .is (v .b) (v .parts .body)) (record { good = u .reliable .good; tied = x .tied }));
             fits = define-body small classes at (x .f) (x .s) (v .n) (v .y) (v .b) (v .fits);
           }
 
@@ -110,7 +110,7 @@ module _ {classes rs part : List ℕ} {at : ℕ} {g : Coded} {p : Pass} {F C A w
               x = v .y;
               t = v .b;
               stands = v .stands;
-              fits = record { good = good (u .reliable); tied = y };
+              fits = record { good = u .reliable .good; tied = y };
               room = names-room y refl (u .room .live);
             }
 
@@ -127,7 +127,7 @@ module _ {classes rs part : List ℕ} {at : ℕ} {g : Coded} {p : Pass} {F C A w
               let u = define-ends small classes at (x .f) (x .s) (v .n) (v .y) (v .b) (v .fits) in
               let s = visit classes (v .b) (defineFlags (x .f)) (beforeDefine classes (x .f .direct) (isLambda (v .b)) (v .y) (v .b) (x .s)) in
               let c : p .context ≡ x .s .context = ap (λ (k : Beside). k .context) (x .tied .works .beside) in
-              let z = y .is classes C₂ A₂ s (v .n) (v .y) (v .b) (v .stands) (b .is (v .b) (v .parts .body)) (record { good = good (u .reliable); tied = r .state (body-fits x) }) in
+              let z = y .is classes C₂ A₂ s (v .n) (v .y) (v .b) (v .stands) (b .is (v .b) (v .parts .body)) (record { good = u .reliable .good; tied = r .state (body-fits x) }) in
               let t : Tied (raw p₃ F₃ C₂ A₂ w₃) (afterDefine classes (x .f .direct) (isLambda (v .b)) (p .context) (v .y) (v .b) s)
               = subst (λ (i : Bool). Tied (raw p₃ F₃ C₂ A₂ w₃) (afterDefine classes i (isLambda (v .b)) (p .context) (v .y) (v .b) s)) (x .flags .direct) z in
               subst (λ (i : Tree). Tied (raw p₃ F₃ C₂ A₂ w₃) (visit classes i (x .f) (x .s))) (sym (v .tree))

@@ -15,8 +15,8 @@ use Rattle.pass.specs.Visitable.{Visitable}
 use Rattle.pass.specs.Laws.Visitable.Parts.{if-first, if-second, if-third}
 use Rattle.work.specs.Known.{Known}
 use Rattle.work.specs.Tied.{Raw, Tied}
-use Rattle.forms.specs.Flags.{Handed}
-use Rattle.forms.specs.declared.flags.Flags.{Flags as Coded}
+use Rattle.flags.specs.Flags.{Handed}
+use Rattle.flags.specs.declared.Flags.{Flags as Coded}
 use Rattle.visits.specs.Contract.{Fit, Done}
 use Rattle.visits.proofs.Views.{part-on, small, stands-at, visitable-at}
 

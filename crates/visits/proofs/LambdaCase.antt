@@ -21,11 +21,11 @@ use Rattle.work.specs.Tied.{Raw, raw, Tied}
 use Rattle.work.specs.declared.Pass.{Pass}
 use Rattle.walk.specs.Contract.{SomeBody, HoldsLambda}
 use Rattle.lists.specs.Contract.{Told, Body}
-use Rattle.forms.specs.Flags.{FlagsAre, HandsBody}
+use Rattle.flags.specs.Flags.{FlagsAre, HandsBody}
 use Rattle.forms.specs.Contract.{Fits, EndFits, LambdaFits, EntersLambda, LambdaEnds, LeavesLambda}
-use Rattle.forms.specs.declared.flags.Flags.{Flags as Coded}
+use Rattle.flags.specs.declared.Flags.{Flags as Coded}
 use Rattle.visits.specs.Contract.{Fit, Done}
-use Rattle.visits.proofs.Views.{part-on, small, good, stands-at, visitable-at, names-room, shallow, lists-fit, end-fits}
+use Rattle.visits.proofs.Views.{part-on, small, stands-at, visitable-at, names-room, shallow, lists-fit, end-fits}
 
 module _ {classes rs part : List ℕ} {at : ℕ} {g : Coded} {p : Pass} {F C A w : List ℕ} where
   pub record LambdaView (x : Fit classes rs part at g (raw p F C A w)) : Type 0 where
@@ -68,7 +68,7 @@ module _ {classes rs part : List ℕ} {at : ℕ} {g : Coded} {p : Pass} {F C A w
           s = x .s;
           xs = v .xs;
           told = told x;
-          fits = record { good = good (b .reliable); tied = x .tied };
+          fits = record { good = b .reliable .good; tied = x .tied };
           few = omega (arith, b .few);
           room = names-room (x .tied) (c ∙ v .parts .count) (b .room .live);
           shallow = shallow (x .tied) (b .room);
@@ -93,7 +93,7 @@ module _ {classes rs part : List ℕ} {at : ℕ} {g : Coded} {p : Pass} {F C A w
             stands = stands-at j (v .parts .body);
             flags = subst (λ (l : ℕ). FlagsAre g₁ (bodyFlags (v .n) l (x .f))) u
                 (h .is (v .n) (x .f) (sym i) (rw (v .parts .node .own .is) refl) (x .flags));
-            tied = o .is (x .s) (v .xs) (v .n) i (told x) (record { good = good (b .reliable); tied = x .tied }) (lists-fit (x .tied) i (b .lists));
+            tied = o .is (x .s) (v .xs) (v .n) i (told x) (record { good = b .reliable .good; tied = x .tied }) (lists-fit (x .tied) i (b .lists));
             fits = visitable-at j (lambda-body small classes at (x .f) (x .s) (v .n) (v .xs) (v .b) (v .fits));
           }
 
@@ -124,7 +124,7 @@ module _ {classes rs part : List ℕ} {at : ℕ} {g : Coded} {p : Pass} {F C A w
         unfolding body-fits
         fits x =
             let v = view x e in
-            record { good = good (lambda-ends small classes at (x .f) (x .s) (v .n) (v .xs) (v .b) (v .fits) .reliable); tied = r .state (body-fits x) }
+            record { good = lambda-ends small classes at (x .f) (x .s) (v .n) (v .xs) (v .b) (v .fits) .reliable .good; tied = r .state (body-fits x) }
 
         pub end-fit : Fit classes rs part at g (raw p F C A w)
             → LambdaEnds rs at (record { names = record { first = at + 1; count = k }; first = at + 1 + k; end = at + 1 + k + n₁; holds = holds }) p₂ F₂ C₂ A₂ w₂

@@ -14,9 +14,9 @@ use Rattle.pass.specs.Laws.Visitable.Leaves.{reliable}
 use Rattle.work.specs.Tied.{Raw, raw, Tied, Here}
 use Rattle.work.specs.declared.Pass.{Pass}
 use Rattle.names.specs.Contract.{Readable, Does}
-use Rattle.forms.specs.declared.flags.Flags.{Flags as Coded}
+use Rattle.flags.specs.declared.Flags.{Flags as Coded}
 use Rattle.visits.specs.Contract.{Fit, Done}
-use Rattle.visits.proofs.Views.{good, known}
+use Rattle.visits.proofs.Views.{known}
 
 down : (f k : ℕ) → f ≤ suc k → (f ≡ suc k → ⊥) → f ≤ k
 down f k h n = omega arith
@@ -26,7 +26,7 @@ pinned f h n u = omega arith
 
 module _ {classes rs part : List ℕ} {at : ℕ} {g : Coded} {p : Pass} {F C A w : List ℕ} where
   ident-here : (x : Fit classes rs part at g (raw p F C A w)) → (v : IdentOf (length classes) rs at (x .t)) → Here rs at (raw p F C A w) (x .s) (v .x)
-  ident-here x v = record { known = known (v .name); place = v .here; good = good (reliable (x .fits)); tied = x .tied }
+  ident-here x v = record { known = known (v .name); place = v .here; good = reliable (x .fits) .good; tied = x .tied }
 
   pub ident-reads : nth rs at .form ≡ 1 → Fit classes rs part at g (raw p F C A w) → Readable (length classes) rs at p F C w
   ident-reads k x =

@@ -14,10 +14,10 @@ use Rattle.walk.specs.declared.uses.Names.{Names}
 use Rattle.work.specs.Passes.{inContext}
 use Rattle.work.specs.Tied.{Raw, raw}
 use Rattle.work.specs.declared.Pass.{Pass}
-use Rattle.forms.specs.Flags.{Handed}
+use Rattle.flags.specs.Flags.{Handed}
 use Rattle.forms.specs.Contract.{LetFits, EntersLet, LetEnds, LeavesLet}
-use Rattle.forms.specs.declared.flags.Around.{Around}
-use Rattle.forms.specs.declared.flags.Flags.{Flags as Coded}
+use Rattle.flags.specs.declared.Around.{Around}
+use Rattle.flags.specs.declared.Flags.{Flags as Coded}
 use Rattle.visits.specs.Contract.{Fit, Done, FitAll, DoneAll}
 use Rattle.visits.proofs.Bounds.{Span, whole}
 use Rattle.visits.proofs.LetCase.{let-long, initials-fit, body-long, names-fit, body-fits, end-fits, let-done}

@@ -22,40 +22,15 @@ use Rattle.pass.specs.Laws.Visitable.Leaves.{let-begins, let-ends}
 use Rattle.work.specs.Known.{Known}
 use Rattle.work.specs.Works.{Beside}
 use Rattle.work.specs.Passes.{inContext}
-use Rattle.work.specs.Tied.{Raw, raw, Tied}
+use Rattle.work.specs.Tied.{raw, Tied}
 use Rattle.work.specs.declared.Pass.{Pass}
-use Rattle.walk.specs.declared.uses.Names.{Names}
 use Rattle.lists.specs.Contract.{Told}
-use Rattle.forms.specs.Flags.{FlagsAre, Handed}
+use Rattle.flags.specs.Flags.{FlagsAre, Handed}
 use Rattle.forms.specs.Contract.{Fits, LetFits, EntersLet, LetEnds, LeavesLet}
-use Rattle.forms.specs.declared.flags.Around.{Around}
-use Rattle.forms.specs.declared.flags.Flags.{Flags as Coded}
+use Rattle.flags.specs.declared.Flags.{Flags as Coded}
 use Rattle.visits.specs.Contract.{Fit, Done, FitAll, DoneAll}
-use Rattle.visits.proofs.Views.{part-on, small, good, stands-at, stand-all-at, visitable-at, arguments-at, names-room, shallow, let-list, let-outer, let-blank, tied-context}
-
--- the code's own names for a context, a count and a depth
-
-module _ {classes rs q : List ℕ} {k i : ℕ} {g : Coded} {p r : Pass} {F C A w : List ℕ} (e : r ≡ p) where
-  pub initials-in : FitAll classes rs q k i g (raw p F C A w) → FitAll classes rs q k i g (raw r F C A w)
-  initials-in x = subst (λ (o : Pass). FitAll classes rs q k i g (raw o F C A w)) (sym e) x
-
-  pub done-in : {n : ℕ} {z : Raw} → DoneAll classes rs q k i g (raw r F C A w) n z → DoneAll classes rs q k i g (raw p F C A w) n z
-  done-in {n} {z} d = subst (λ (o : Pass). DoneAll classes rs q k i g (raw o F C A w) n z) e d
-
-module _ {rs : List ℕ} {i h : ℕ} {names : Names} {f : Around} {p r : Pass} {F C A w : List ℕ} (e : r ≡ p) where
-  pub names-in : LetFits rs i names h f p F C A w → LetFits rs i names h f r F C A w
-  names-in x = subst (λ (o : Pass). LetFits rs i names h f o F C A w) (sym e) x
-
-  pub enters-in : {p′ : Pass} {F′ w′ : List ℕ} → EntersLet rs i names h f r F C A w p′ F′ w′ → EntersLet rs i names h f p F C A w p′ F′ w′
-  enters-in {p′} {F′} {w′} d = subst (λ (o : Pass). EntersLet rs i names h f o F C A w p′ F′ w′) e d
-
-pub body-in : {g r : Coded} {k m : ℕ} → k ≡ m → Handed g (letBodyFlags m) r → Handed g (letBodyFlags k) r
-body-in {g} {r} e h = subst (λ (j : ℕ). Handed g (letBodyFlags j) r) (sym e) h
-
-pub leaves-in : {rs : List ℕ} {d m i h : ℕ} {names : Names} {f : Around} {p p′ : Pass} {F A w F′ A′ w′ : List ℕ} → m ≡ d
-    → LeavesLet rs (eqb m 1) i names h f p F A w p′ F′ A′ w′ → LeavesLet rs (eqb d 1) i names h f p F A w p′ F′ A′ w′
-leaves-in {rs} {d} {m} {i} {h} {names} {f} {p} {p′} {F} {A} {w} {F′} {A′} {w′} e l =
-    subst (λ (j : ℕ). LeavesLet rs (eqb j 1) i names h f p F A w p′ F′ A′ w′) e l
+use Rattle.visits.proofs.Views.{part-on, small, stands-at, stand-all-at, visitable-at, arguments-at, names-room, shallow, let-list, let-outer, let-blank}
+use Rattle.forms.specs.FitsLaws.{tied-context}
 
 module _ {classes rs part : List ℕ} {at : ℕ} {g : Coded} {p : Pass} {F C A w : List ℕ} where
   pub record LetView (x : Fit classes rs part at g (raw p F C A w)) : Type 0 where
@@ -151,7 +126,7 @@ module _ {classes rs part : List ℕ} {at : ℕ} {g : Coded} {p : Pass} {F C A w
             xs = v .xs;
             function = x .f .function;
             told = told x;
-            fits = record { good = good (b .reliable); tied = t };
+            fits = record { good = b .reliable .good; tied = t };
             around = x .flags .function;
             few = omega (arith, b .few);
             room = names-room t u (b .room .live);
@@ -173,7 +148,7 @@ module _ {classes rs part : List ℕ} {at : ℕ} {g : Coded} {p : Pass} {F C A w
             let m : many (v .es) ≡ k = v .parts .paired ∙ sym u in
             let i : at + 1 + length (v .xs) + sizes (v .es) ≡ at + (1 + k + n₁) = omega arith in
             let z = y .is (middle x v) (v .xs) (v .n) (x .f .function) (v .parts .node .here) (x .flags .function) (told x)
-            (record { good = good (b .reliable); tied = middle-tied x }) in
+            (record { good = b .reliable .good; tied = middle-tied x }) in
             record {
               t = v .b;
               f = letBodyFlags (many (v .es)) (x .f);
@@ -190,7 +165,7 @@ module _ {classes rs part : List ℕ} {at : ℕ} {g : Coded} {p : Pass} {F C A w
           unfolding body-fits after inside
           fits x =
               let v = view x e in
-              record { good = good (let-ends small classes at (x .f) (x .s) (v .n) (v .xs) (v .es) (v .b) (v .fits) .reliable); tied = t .state (body-fits x) }
+              record { good = let-ends small classes at (x .f) (x .s) (v .n) (v .xs) (v .es) (v .b) (v .fits) .reliable .good; tied = t .state (body-fits x) }
 
           pub end-fits : Fit classes rs part at g (raw p F C A w) → LetEnds rs at (record { first = at + 1; count = k }) (g .function) p₃ F₃ A₃ w₃
           unfolding after

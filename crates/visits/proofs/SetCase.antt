@@ -20,11 +20,11 @@ use Rattle.work.specs.Known.{Known}
 use Rattle.work.specs.Tied.{raw, Tied, Here}
 use Rattle.work.specs.declared.Pass.{Pass}
 use Rattle.names.specs.Contract.{Settable, Mutates, Readable, Does}
-use Rattle.forms.specs.Flags.{Handed}
+use Rattle.flags.specs.Flags.{Handed}
 use Rattle.forms.specs.Contract.{ClearsContext}
-use Rattle.forms.specs.declared.flags.Flags.{Flags as Coded}
+use Rattle.flags.specs.declared.Flags.{Flags as Coded}
 use Rattle.visits.specs.Contract.{Fit, Done}
-use Rattle.visits.proofs.Views.{part-on, small, good, known}
+use Rattle.visits.proofs.Views.{part-on, small, known}
 
 module _ {classes rs part : List ℕ} {at : ℕ} {g : Coded} {p : Pass} {F C A w : List ℕ} where
   record SetView (x : Fit classes rs part at g (raw p F C A w)) : Type 0 where
@@ -62,7 +62,7 @@ module _ {classes rs part : List ℕ} {at : ℕ} {g : Coded} {p : Pass} {F C A w
         is = part-on rs at 2 (x .is) d;
         stands = v .parts .body;
         flags = h .is (x .f) (x .flags);
-        tied = c .is rs C A w (x .s) (v .y) (v .parts .place) (record { good = good (reliable (x .fits)); tied = x .tied });
+        tied = c .is rs C A w (x .s) (v .y) (v .parts .place) (record { good = reliable (x .fits) .good; tied = x .tied });
         fits = set-expression small classes at (x .f) (x .s) (v .n) (v .y) (v .e) (v .fits);
       }
 
@@ -78,7 +78,7 @@ module _ {classes rs part : List ℕ} {at : ℕ} {g : Coded} {p : Pass} {F C A w
           captured = C₂;
           arguments = A₂;
           s = visit classes (v .e) (notTail (x .f)) (clearContext (v .y) (x .s));
-          good = good (set-mutates small classes at (x .f) (x .s) (v .n) (v .y) (v .e) (v .fits));
+          good = set-mutates small classes at (x .f) (x .s) (v .n) (v .y) (v .e) (v .fits) .good;
           tied = o .state (expression-fits k h c d x);
         }
 
@@ -97,8 +97,8 @@ module _ {classes rs part : List ℕ} {at : ℕ} {g : Coded} {p : Pass} {F C A w
         record {
           known = known (v .parts .name);
           place = v .parts .place;
-          good = good (set-reads small classes at (x .f) (x .s) (v .n) (v .y) (v .e) (v .fits));
-          tied = rw (sym i) (m .is rs C₂ A₂ s (good u) (o .state (expression-fits k h c d x)));
+          good = set-reads small classes at (x .f) (x .s) (v .n) (v .y) (v .e) (v .fits) .good;
+          tied = rw (sym i) (m .is rs C₂ A₂ s (u .good) (o .state (expression-fits k h c d x)));
         }
 
     pub target-reads : {n₁ name : ℕ} {p₂ : Pass} {F₂ C₂ A₂ w₂ F₃ w₃ : List ℕ} → Done classes rs q (at + 2) g₁ (raw p₁ F C A w) n₁ (raw p₂ F₂ C₂ A₂ w₂)

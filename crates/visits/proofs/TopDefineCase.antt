@@ -25,12 +25,13 @@ use Rattle.work.specs.declared.Pass.{Pass}
 use Rattle.walk.specs.Contract.{SomeTreeOf, TellsBody}
 use Rattle.walk.specs.declared.body.Body.{Body as Says}
 use Rattle.names.specs.Contract.{Room, Defined, EntersValue}
-use Rattle.forms.specs.Flags.{FlagsAre}
+use Rattle.flags.specs.Flags.{FlagsAre}
 use Rattle.forms.specs.Contract.{Fits, DefineFits}
-use Rattle.forms.specs.declared.flags.Flags.{Flags as Coded}
+use Rattle.flags.specs.declared.Flags.{Flags as Coded}
 use Rattle.visits.specs.Contract.{Fit, Done}
 use Rattle.visits.specs.Tops.{beforeTop, afterTop, BeforeTop, leavesTop, TopFits, VisitsTop}
-use Rattle.visits.proofs.Views.{part-on, small, good, known, names-room, tied-context}
+use Rattle.visits.proofs.Views.{part-on, small, known, names-room}
+use Rattle.forms.specs.FitsLaws.{tied-context}
 
 -- Before the body
 
@@ -121,7 +122,7 @@ module _ {classes rs part : List ℕ} {at : ℕ} {p : Pass} {F C A w : List ℕ}
     held : (x : TopFits classes rs part at (raw p F C A w)) → Fits rs (raw p F C A w) (x .s)
     held x =
         let v = view x in
-        record { good = good (define-begins small classes at topFlags (x .s) (v .n) (v .y) (v .b) (v .fits) .reliable); tied = x .tied }
+        record { good = define-begins small classes at topFlags (x .s) (v .n) (v .y) (v .b) (v .fits) .reliable .good; tied = x .tied }
 
     pub define-fits : TopFits classes rs part at (raw p F C A w) → DefineFits rs at p F w
     define-fits x =

@@ -27,7 +27,7 @@ use Rattle.walk.specs.Contract.{SomeTree, Extends}
 use Rattle.forms.specs.Contract.{Fits, NamesRoom, ChildFits, EntersChild, ChildrenFit, EntersChildren}
 use Rattle.forms.specs.Defines.{enterEach, tops-entered}
 use Rattle.visits.specs.Tops.{TopEnters, EntersTop, TopsEnter, EntersTops}
-use Rattle.visits.proofs.Views.{small, good, stand-all-at, names-room}
+use Rattle.visits.proofs.Views.{small, stand-all-at, names-room}
 
 -- all records are the trees'
 pub whole : {N : ℕ} {rs : List ℕ} {ts : Trees} → Accepted N rs ts → sizes ts ≡ length (records rs)
@@ -157,7 +157,7 @@ module _ {classes rs : List ℕ} {p : Pass} {F w : List ℕ} where
     tree-at = record { names = length classes; tree = record { t = n .t; stands = first-tree (n .stand) } }
 
     held : Fits rs (raw p′ F′ (x .captured) (x .arguments) w′) (n .s)
-    held = record { good = good (n .fits .enters .reliable); tied = n .tied }
+    held = record { good = n .fits .enters .reliable .good; tied = n .tied }
 
     pub next-fits : TopEnters (length classes) rs at p′ F′ w′
     unfolding topLevel

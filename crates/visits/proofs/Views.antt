@@ -1,14 +1,13 @@
 -- What is known where a visit begins: the part of a child, the state, and the identifiers of the tree.
 use Prim.Native.Nat.{ℕ, _+_, _-_, _*_, _≤_, _<_}
 use mathlib.Core.List.{List}
-use mathlib.Core.Bool.{Bool, true, false}
 use mathlib.Core.Option.{Option, some}
-use mathlib.Core.Path.{_≡_, refl, ap, subst, _∙_}
+use mathlib.Core.Path.{_≡_, ap, subst, _∙_}
 use native.Mathlib.Omega.{arith}
 use lib.ListN.{length, take, drop}
 use Rattle.table.specs.Part.{part-is}
 use Rattle.tree.specs.Record.{width}
-use Rattle.tree.specs.Tree.{Ident, Node, Tree, Trees, ident, const, if, letin, define, lambda, begin, call, set!, nil, cons}
+use Rattle.tree.specs.Tree.{Ident, Node, Tree, Trees, lambda, begin, call}
 use Rattle.tree.specs.WithinLaws.{drop-records}
 use Rattle.tree.specs.Stands.{Stands, StandAll}
 use Rattle.tree.specs.StandsLaws.{IdentAt}
@@ -18,20 +17,17 @@ use Rattle.semantic.specs.Rows.{Blank}
 use Rattle.semantic.specs.Kinds.{functionIn, letIn}
 use Rattle.semantic.specs.declared.FunctionInformation.{FunctionInformation}
 use Rattle.semantic.specs.declared.LetInformation.{LetInformation}
-use Rattle.pass.specs.State.{State, withContext, rowAt}
-use Rattle.pass.specs.Visit.{Flags, isLambda, enterIfLambda, enterChild, enterChildren}
+use Rattle.pass.specs.State.{State, rowAt}
+use Rattle.pass.specs.Visit.{Flags, enterChildren}
 use Rattle.pass.specs.Run.{rowsMost, itemsMost}
 use Rattle.pass.specs.Stage.{endOf}
-use Rattle.pass.specs.Visitable.{Reliable, Room, Visitable, VisitableArguments, VisitableChildren}
+use Rattle.pass.specs.Visitable.{Room, Visitable, VisitableArguments, VisitableChildren}
 use Rattle.pass.specs.Visitable as pass
 use Rattle.work.specs.Known.{Known}
 use Rattle.work.specs.Works.{Beside, recordAt, rowOf}
-use Rattle.work.specs.Tied.{Raw, raw, Tied, Good}
-use Rattle.work.specs.Passes.{inContext}
-use Rattle.work.specs.WorksKept.{context-kept}
-use Rattle.work.specs.declared.Pass.{Pass}
+use Rattle.work.specs.Tied.{Raw, Tied}
 use Rattle.lists.specs.Contract.{Inside}
-use Rattle.forms.specs.Defines.{enterIf, enterOne, enterEach}
+use Rattle.forms.specs.Defines.{enterEach, children-entered}
 use Rattle.forms.specs.Contract.{NamesRoom, Shallow, ListsFit, EndFits}
 
 -- the part of a child that stands k records on
@@ -46,9 +42,6 @@ part-after l k =
 
 pub small : {rs : List ℕ} (x : Ident) → Known rs x → x .at < rowsMost
 small x k = k .few
-
-pub good : {rs : List ℕ} {s : State} → Reliable (Known rs) s → Good rs s
-good r = record { rows = r .rows; arguments = r .arguments; sound = r .sound; counted = r .counted }
 
 pub known : {N : ℕ} {rs : List ℕ} {x : Ident} → IdentAt N rs x → Known rs x
 known i = record { inside = i .inside; few = i .few; is = i .is }
@@ -78,28 +71,8 @@ names-room {z} {s} {k} {m} t e h =
 
 -- the lambda defines of an inner begin
 
-enters-if : (classes : List ℕ) (l : Bool) (x : Ident) (b : Tree) (s : State) → enterIf classes LocallyDefinedFunction l x b s ≡ enterIfLambda classes l x b s
-enters-if classes true x b s = refl
-enters-if classes false x b s = refl
-
-enters-one : (classes : List ℕ) (t : Tree) (s : State) → enterOne classes LocallyDefinedFunction t s ≡ enterChild classes t s
-enters-one classes (ident x) s = refl
-enters-one classes (const n q) s = refl
-enters-one classes (if n a b c) s = refl
-enters-one classes (letin n xs es b) s = refl
-enters-one classes (define n x b) s = enters-if classes (isLambda b) x b s
-enters-one classes (lambda n xs b) s = refl
-enters-one classes (begin n es) s = refl
-enters-one classes (call n h es) s = refl
-enters-one classes (set! n x e) s = refl
-
-enters-same : (classes : List ℕ) (ts : Trees) (s : State) → enterEach classes LocallyDefinedFunction ts s ≡ enterChildren classes ts s
-unfolding enterEach enterChildren
-enters-same classes nil s = refl
-enters-same classes (cons t ts) s = ap (enterEach classes LocallyDefinedFunction ts) (enters-one classes t s) ∙ enters-same classes ts (enterChild classes t s)
-
 pub entered-children : (classes : List ℕ) (es : Trees) (s : State) {z : Raw} → Tied z (enterEach classes LocallyDefinedFunction es s) → Tied z (enterChildren classes es s)
-entered-children classes es s {z} t = subst (Tied z) (enters-same classes es s) t
+entered-children classes es s {z} t = subst (Tied z) (children-entered classes es s) t
 
 -- both maps can open a layer
 pub shallow : {z : Raw} {s : State} {k : ℕ} → Tied z s → Room k s → Shallow (z .pass)
@@ -116,7 +89,7 @@ lists-fit {z} {s} {i} {j} t e h v f =
 pub end-fits : {P : Ident → Type 0} {z : Raw} {s : State} {i j : ℕ} → Tied z s → i ≡ j → pass.LambdaEnds P i s → EndFits (z .pass) s j
 end-fits {s = s} t e b =
     let f = ap (λ (k : ℕ). functionIn (rowAt s k)) e in
-    record { made = λ h. b .made (f ∙ h); amended = λ v h. b .amended v (f ∙ h); captured = omega (arith, ap (λ (o : Beside). o .capturedTop) (t .works .beside), b .captured); named = b .reliable .sound .named }
+    record { made = λ h. b .made (f ∙ h); amended = λ v h. b .amended v (f ∙ h); captured = omega (arith, ap (λ (o : Beside). o .capturedTop) (t .works .beside), b .captured); named = b .reliable .good .sound .named }
 
 -- a let that begins, and one that ends
 
@@ -131,7 +104,3 @@ let-outer s h m e = (h m e .0, λ v f. h m e .1 v f)
 pub let-blank : (s : State) {i j k m : ℕ} → i ≡ j → k ≡ m → (rowAt s i ≡ Blank → s .facts .argumentsTop + m ≤ itemsMost)
     → rowAt s j ≡ Blank → s .facts .argumentsTop + k ≤ itemsMost
 let-blank s {k = k} {m = m} e u h f = let b = h (ap (rowAt s) e ∙ f) in omega arith
-
--- another context
-pub tied-context : {p : Pass} {F C A w : List ℕ} {s : State} (c : ℕ) → Tied (raw p F C A w) s → Tied (raw (inContext c p) F C A w) (withContext c s)
-tied-context c t = record { facts = t .facts; captured = t .captured; arguments = t .arguments; works = context-kept (t .works) c }

@@ -11,8 +11,8 @@ use Rattle.pass.specs.Visit.{Flags, visit, visitArguments}
 use Rattle.pass.specs.Visitable.{Visitable, VisitableArguments}
 use Rattle.work.specs.Known.{Known}
 use Rattle.work.specs.Tied.{Raw, Tied}
-use Rattle.forms.specs.Flags.{FlagsAre}
-use Rattle.forms.specs.declared.flags.Flags.{Flags as Coded}
+use Rattle.flags.specs.Flags.{FlagsAre}
+use Rattle.flags.specs.declared.Flags.{Flags as Coded}
 
 -- a tree stands at the record, where the part starts, and can be visited in a state that is held
 pub record Fit (classes rs part : List ℕ) (at : ℕ) (g : Coded) (z : Raw) : Type 0 where

@@ -1,9 +1,9 @@
 // `run_with_scope`: a run over the top level.
 use crate::visit::Out;
 use crate::visit::visit;
+use flags::Flags;
 use forms::defines::enter_child;
 use forms::defines::enter_children;
-use forms::flags::Flags;
 use names::define::enter_top_level_value;
 use semantic::IdentifierStatus;
 use semantic::NONE;

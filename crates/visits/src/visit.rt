@@ -1,10 +1,13 @@
 // The visits. Each is given the part of the records that starts at its expression, and tells how many records it used.
+use flags::Flags;
+use flags::Part;
+use flags::by_value::part;
+use flags::by_value::parts;
 use forms::calls::clear_context;
 use forms::calls::end_call;
 use forms::defines::after_define;
 use forms::defines::before_define;
 use forms::defines::enter_children;
-use forms::flags::Flags;
 use forms::lambda::enter_lambda;
 use forms::lambda::leave_lambda;
 use forms::lets::enter_let;
@@ -79,12 +82,13 @@ fn visit_if(
     requires { ⌜ Fit (now classes) (now all) (now rs) at f (raw p (now facts) (now captured) (now arguments) (now work)) × (nth (now all) at .form ≡ 3) ⌝ }
     ensures { λ r. ⌜ Done (now (classes .entry)) (now (all .entry)) (now (rs .entry)) at f (raw p (now (facts .entry)) (now (captured .entry)) (now (arguments .entry)) (now (work .entry))) (r .used) (raw (r .pass) (now (facts .exit)) (now (captured .exit)) (now (arguments .exit)) (now (work .exit))) ⌝ }
 {
+    let g = parts(f, Part::NotTail, Part::SameTail);
     let a = visit(
         classes,
         all,
         &rs[6..],
         at + 1,
-        f.not_tail(),
+        g.first,
         p,
         facts,
         captured,
@@ -99,7 +103,7 @@ fn visit_if(
         all,
         &rs[start..],
         at + i,
-        f.same_tail(),
+        g.second,
         q,
         facts,
         captured,
@@ -114,7 +118,7 @@ fn visit_if(
         all,
         &rs[next..],
         at + j,
-        f.same_tail(),
+        g.second,
         r,
         facts,
         captured,
@@ -165,7 +169,7 @@ fn visit_arguments(
         );
         q = o.pass;
         used += o.used;
-        g = g.pushed();
+        g = part(g, Part::Next);
         i += 1;
     }
     Out { used, pass: q }
@@ -194,6 +198,7 @@ fn visit_let(
     };
     let opened = p.depth() == 1;
     let around = f.function;
+    let g = parts(f, Part::NotTail, Part::LetBody(many));
     let start = 6 + 6 * count;
     let a = visit_arguments(
         classes,
@@ -201,7 +206,7 @@ fn visit_let(
         &rs[start..],
         count,
         at + 1 + count,
-        f.not_tail(),
+        g.first,
         p.with_context(NONE),
         facts,
         captured,
@@ -228,7 +233,7 @@ fn visit_let(
         all,
         &rs[next..],
         at + i,
-        f.let_body(many),
+        g.second,
         q,
         facts,
         captured,
@@ -275,7 +280,7 @@ fn visit_define(
         all,
         &rs[12..],
         at + 2,
-        f.define_body(),
+        part(f, Part::DefineBody),
         q,
         facts,
         captured,
@@ -318,7 +323,7 @@ fn visit_lambda_function(
         all,
         &rs[start..],
         first,
-        f.body(at, tree::record::id(all, at), many),
+        part(f, Part::Body(at, tree::record::id(all, at), many)),
         q,
         facts,
         captured,
@@ -379,12 +384,13 @@ fn visit_begin(
     let mut i = 0;
     while i < count {
         let start = 6 * used;
+        let last = i + 1 == count;
         let o = visit(
             classes,
             all,
             &rs[start..],
             at + used,
-            f.child(i + 1 == count),
+            part(f, Part::Child(last)),
             q,
             facts,
             captured,
@@ -416,6 +422,8 @@ fn visit_list(
     let k = wide(tree::record::count(all, at)) - 1;
     let head = extent_at(all, at + 1);
     let first = at + 1 + head;
+    let lambda = tree::record::form(all, at + 1) == 6;
+    let g = parts(f, Part::Argument, Part::Head(lambda, narrow(k)));
     let start = 6 + 6 * head;
     let a = visit_arguments(
         classes,
@@ -423,7 +431,7 @@ fn visit_list(
         &rs[start..],
         k,
         first,
-        f.argument(),
+        g.first,
         p,
         facts,
         captured,
@@ -436,7 +444,7 @@ fn visit_list(
         all,
         &rs[6..],
         at + 1,
-        f.head(tree::record::form(all, at + 1) == 6, narrow(k)),
+        g.second,
         q,
         facts,
         captured,
@@ -472,7 +480,7 @@ fn visit_set(
         all,
         &rs[12..],
         at + 2,
-        f.not_tail(),
+        part(f, Part::NotTail),
         q,
         facts,
         captured,

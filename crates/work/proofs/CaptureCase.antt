@@ -18,10 +18,10 @@ use Rattle.semantic.specs.Numbers.{bit-one}
 use Rattle.semantic.specs.Marks.{bit-low}
 use Rattle.pass.specs.State.{Capture}
 use Rattle.pass.specs.Lambda.{closeCaptures}
-use Rattle.pass.specs.Run.{itemsMost}
+use Rattle.pass.specs.Run.{rowsMost, itemsMost}
 use Rattle.pass.specs.Read.{usedCapture, useIn}
 use Rattle.work.specs.Coded.{takenOf, takenWidth, putTaken}
-use Rattle.work.specs.Works.{workLong, capturesFirst, capturesLength, takenFirst, takenLength, rowOf}
+use Rattle.work.specs.Works.{workLong, capturesFirst, capturesLength, takenFirst, takenLength, rowOf, TakenAt}
 use Rattle.work.specs.WorksLaws.{part-length}
 use Rattle.work.specs.Passes.{inCaptures}
 use Rattle.work.specs.Leaves.{Becomes}
@@ -37,19 +37,23 @@ use Rattle.work.proofs.CaptureRows.{taken-pop, use-rows, taken-use}
 pub capture-gets : {p : Pass} {w : List ℕ} {x : ℕ} {f : Found} → Gets (p .captures) (region w capturesFirst capturesLength) x f → GetsCapture p w x f
 capture-gets g = record { is = λ s k. g .row (mapValues rowOf (s .captures)) (k .captures) }
 
-taken-back : (t : Taken) → takenIn (putTaken t) ≡ t
+taken-back : (t : Taken) → t .binder < rowsMost → takenIn (putTaken t) ≡ t
 unfolding takenIn putTaken
-taken-back t =
+taken-back t h =
     let n = 2 * t .uses + bit (t .enclosing) in
-    let a : n / 2 ≡ t .uses = omega (arith, bit-low (t .enclosing)) in
-    let b : n % 2 ≡ bit (t .enclosing) = omega (arith, bit-low (t .enclosing)) in
-    rw (a, b, bit-one (t .enclosing))
+    let m = t .binder + rowsMost * n in
+    let a : m % rowsMost ≡ t .binder = omega arith in
+    let b : m / rowsMost ≡ n = omega arith in
+    let c : n / 2 ≡ t .uses = omega (arith, bit-low (t .enclosing)) in
+    let d : n % 2 ≡ bit (t .enclosing) = omega (arith, bit-low (t .enclosing)) in
+    rw (a, b, c, d, bit-one (t .enclosing))
 
 pub loads-taken : (w : List ℕ) (i : ℕ) {row : List ℕ} {r : Taken} → row ≡ region (region w takenFirst takenLength) (takenWidth * i) takenWidth
     → r ≡ takenIn row → LoadsTaken w i r
 loads-taken w i e q = record {
   is = λ p s x d v c k f g.
-      q ∙ ap takenIn (e ∙ taken-found (region w takenFirst takenLength) (s .captures .live) (k .taken) x f g) ∙ taken-back (takenOf (c .value));
+      let h = taken-found (region w takenFirst takenLength) (s .captures .live) (k .taken) x f g in
+      q ∙ ap takenIn (e ∙ h .row) ∙ taken-back (takenOf (c .value)) (h .small);
 }
 
 -- A layer opens, or goes: the table stays
@@ -74,33 +78,38 @@ module _ {p : Pass} {w : List ℕ} {m : Map} where
 -- One use more
 
 module _ (w : List ℕ) (i : ℕ) (z : length w ≡ workLong) (h : i < itemsMost) where
-  uses-at : UsesCapture w i (set w (takenFirst + (3 * i + 2)) (getD w (takenFirst + (3 * i + 2)) 0 + 2))
+  uses-at : UsesCapture w i (set w (takenFirst + (2 * i + 1)) (getD w (takenFirst + (2 * i + 1)) 0 + 8192))
   unfolding putTaken
   uses-at =
-      let v = getD w (takenFirst + (3 * i + 2)) 0 + 2 in
+      let v = getD w (takenFirst + (2 * i + 1)) 0 + 8192 in
       let t = region w takenFirst takenLength in
       let l : length t ≡ takenLength = part-length w z takenFirst takenLength (omega arith) in
       let b : takenFirst + takenLength ≤ length w = omega arith in
-      let j : 3 * i + 2 < takenLength = omega arith in
-      let q : 3 * i + 3 ≤ length t = omega arith in
-      let e = set-elsewhere w takenFirst takenLength b (3 * i + 2) v j in
+      let j : 2 * i + 1 < takenLength = omega arith in
+      let q : 2 * i + 2 ≤ length t = omega arith in
+      let e = set-elsewhere w takenFirst takenLength b (2 * i + 1) v j in
       record {
         is = λ p s x d n k f.
             let m = s .captures .live in
-            let row : (c : Live Capture) → getIn m x ≡ some c → region (set t (3 * i + 2) v) (3 * i) 3 ≡ putTaken (takenOf (usedCapture (c .value))) =
+            let row : (c : Live Capture) → getIn m x ≡ some c → TakenAt (set t (2 * i + 1) v) i (usedCapture (c .value)) =
             λ c g.
-            let a : takenFirst + 3 * i + 2 ≡ takenFirst + (3 * i + 2) = omega arith in
+            let a : takenFirst + 2 * i + 1 ≡ takenFirst + (2 * i + 1) = omega arith in
             let u = ap (λ (k : ℕ). getD w k 0) (sym a) ∙ taken-uses k x (found-below m x f) f g in
-            set-region t (3 * i) 3 q 2 v (omega arith)
-            ∙ ap (λ (r : List ℕ). set r 2 v) (taken-found t m (k .taken) x f g)
-            ∙ ap (λ (n : ℕ). c .value .binder .at ∷ c .value .binder .id ∷ n ∷ []) (omega (arith, u)) in
+            let h = taken-found t m (k .taken) x f g in
+            record {
+              row =
+                  set-region t (2 * i) 2 q 1 v (omega arith)
+                  ∙ ap (λ (r : List ℕ). set r 1 v) (h .row)
+                  ∙ ap (λ (n : ℕ). c .value .binder .id ∷ n ∷ []) (omega (arith, u));
+              small = h .small;
+            } in
             captures-changed k (p .captures) (record { depth = s .captures .depth; live = useIn x m }) (elsewhere-wider (omega arith) (omega arith) e)
             (rw (e .before capturesFirst capturesLength (omega arith), use-rows x m) (k .captures))
-            (rw (set-region w takenFirst takenLength b (3 * i + 2) v j)
-            (taken-use t (set t (3 * i + 2) v) i x (set-elsewhere t (3 * i) 3 q 2 v (omega arith)) m f row (k .taken)));
+            (rw (set-region w takenFirst takenLength b (2 * i + 1) v j)
+            (taken-use t (set t (2 * i + 1) v) i x (set-elsewhere t (2 * i) 2 q 1 v (omega arith)) m f row (k .taken)));
       }
 
-  pub uses-capture : UsesCapture w i (set w (takenFirst + 3 * i + 2) (getD w (takenFirst + 3 * i + 2) 0 + 2))
+  pub uses-capture : UsesCapture w i (set w (takenFirst + 2 * i + 1) (getD w (takenFirst + 2 * i + 1) 0 + 8192))
   uses-capture =
-      let a : takenFirst + (3 * i + 2) ≡ takenFirst + 3 * i + 2 = omega arith in
-      subst (λ (n : ℕ). UsesCapture w i (set w n (getD w n 0 + 2))) a uses-at
+      let a : takenFirst + (2 * i + 1) ≡ takenFirst + 2 * i + 1 = omega arith in
+      subst (λ (n : ℕ). UsesCapture w i (set w n (getD w n 0 + 8192))) a uses-at

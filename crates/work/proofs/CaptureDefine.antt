@@ -10,12 +10,13 @@ use Rattle.table.specs.Region.{region, replaced}
 use Rattle.table.specs.RegionLaws.{Elsewhere, replaced-region, replaced-elsewhere, sets-replaced, elsewhere-then, elsewhere-wider}
 use Rattle.scope_map.specs.ScopeMap.{ScopeMap, define}
 use Rattle.scope_map.specs.MapLaws.{mapLive, mapValues, map-length, map-hasAtTop, map-define}
+use Rattle.scope_map.specs.Hints.{rowsLength}
 use Rattle.scope_map.specs.Held.{Held, placeIn, Places}
 use Rattle.scope_map.specs.Held as map
 use Rattle.scope_map.specs.declared.ScopeMap.{ScopeMap as Map}
 use Rattle.pass.specs.State.{State, Capture, withCaptures}
-use Rattle.pass.specs.Run.{itemsMost}
-use Rattle.work.specs.Coded.{takenOf, takenWidth, putTaken}
+use Rattle.pass.specs.Run.{rowsMost, itemsMost}
+use Rattle.work.specs.Coded.{takenOf, takenWidth, putTaken, Packable}
 use Rattle.work.specs.Works.{workLong, capturesFirst, capturesLength, takenFirst, takenLength, rowOf, TakenIn, Works, Spacious}
 use Rattle.work.specs.WorksLaws.{part-length}
 use Rattle.work.specs.Passes.{inCaptures}
@@ -40,7 +41,8 @@ map-defined {m} {m′} {t} {ys} x n c q b h =
 
 -- In the rows
 
-module _ (t zs : List ℕ) (i : ℕ) (c : Capture) (h : takenWidth * i + takenWidth ≤ length t) (e : zs ≡ sets t (takenWidth * i) (putTaken (takenOf c))) where
+module _ (t zs : List ℕ) (i : ℕ) (c : Capture) (small : c .binder .at < rowsMost) (h : takenWidth * i + takenWidth ≤ length t)
+    (e : zs ≡ sets t (takenWidth * i) (putTaken (takenOf c))) where
   row-put : zs ≡ replaced t (takenWidth * i) takenWidth (putTaken (takenOf c))
   unfolding putTaken
   row-put = e ∙ sets-replaced t (takenWidth * i) (putTaken (takenOf c)) h
@@ -53,8 +55,12 @@ module _ (t zs : List ℕ) (i : ℕ) (c : Capture) (h : takenWidth * i + takenWi
       (subst (Elsewhere (takenWidth * i) takenWidth t) (sym row-put)
       (replaced-elsewhere t (takenWidth * i) takenWidth h (putTaken (takenOf c)) (taken-long (takenOf c))))
       (n .depth) x c
-      (ap (λ (l : List ℕ). region l (takenWidth * i) takenWidth) row-put
-      ∙ replaced-region t (takenWidth * i) takenWidth h (putTaken (takenOf c)) (taken-long (takenOf c)))
+      (record {
+        row =
+            ap (λ (l : List ℕ). region l (takenWidth * i) takenWidth) row-put
+            ∙ replaced-region t (takenWidth * i) takenWidth h (putTaken (takenOf c)) (taken-long (takenOf c));
+        small = small;
+      })
       n refl
       (u .is (mapValues rowOf n) g ∙ ap (λ (j : ℕ). placeIn (n .depth) x j (mapLive rowOf (n .live))) (map-length rowOf (n .live)))
       (subst (λ (j : ℕ). i ≤ j) l (u .most))
@@ -107,16 +113,16 @@ module _ (w ys : List ℕ) (i : ℕ) (c : Capture) (h : length w ≡ workLong) (
   rows-kept : zs ≡ sets (region w takenFirst takenLength) (takenWidth * i) (putTaken (takenOf c))
   rows-kept = ap (λ (l : List ℕ). sets l (takenWidth * i) (putTaken (takenOf c))) (first-elsewhere .after takenFirst takenLength (omega arith))
 
-  works-defined : {p : Pass} {s : State} {m : Map} (x : ℕ) {r : ℕ} → c .row ≡ r → Places (p .captures) (region w capturesFirst capturesLength) x i
+  works-defined : {p : Pass} {s : State} {m : Map} (x : ℕ) {r : ℕ} → c .binder .at < rowsMost → c .row ≡ r → Places (p .captures) (region w capturesFirst capturesLength) x i
       → map.Becomes (p .captures) (region w capturesFirst capturesLength) (define x r) m ys → Works p w s
       → Works (inCaptures m p) both (withCaptures (define x c (s .captures)) s)
-  works-defined {p} {s} {m} x q u d k =
+  works-defined {p} {s} {m} x small q u d k =
       let z : length (region w takenFirst takenLength) ≡ takenLength = part-length w h takenFirst takenLength (omega arith) in
       let n = s .captures in
       captures-changed k m (define x c n) both-elsewhere
       (subst (λ (l : List ℕ). Held m l (mapValues rowOf (define x c n))) (sym both-map) (map-defined x n c q d (k .captures)))
       (subst (λ (l : List ℕ). TakenIn l (define x c n .live)) (sym both-rows)
-      (rows-defined (region w takenFirst takenLength) zs i c (omega arith) rows-kept (p .captures) x n u (k .captures) (k .taken)))
+      (rows-defined (region w takenFirst takenLength) zs i c small (omega arith) rows-kept (p .captures) x n u (k .captures) (k .taken)))
 
 pub row-defined : {p : Pass} {w ys : List ℕ} {m : Map} (x : ℕ) {v r : ℕ} → v ≡ r → length ys ≡ length (region w capturesFirst capturesLength)
     → map.Becomes (p .captures) (region w capturesFirst capturesLength) (define x v) m ys → DefinesRow p w x r (inCaptures m p) (first w ys)
@@ -133,14 +139,14 @@ pub row-written : (w : List ℕ) (i : ℕ) (t : Taken) {row ys : List ℕ} → r
     → replaced w takenFirst takenLength ys ≡ takenPut w i t
 row-written w i t e q = ap (replaced w takenFirst takenLength) (q ∙ ap (sets (region w takenFirst takenLength) (takenWidth * i)) e)
 
-pub defines-capture : {p q : Pass} {w v v′ : List ℕ} {x r i : ℕ} {t : Taken} → Spacious p w → 3 * p .captures .length + 3 ≤ capturesLength
+pub defines-capture : {p q : Pass} {w v v′ : List ℕ} {x r i : ℕ} {t : Taken} → Spacious p w → 3 * p .captures .length + 3 ≤ rowsLength → Packable t
     → Places (p .captures) (region w capturesFirst capturesLength) x i → DefinesRow p w x r q v → v′ ≡ takenPut v i t → DefinesCapture p w x r t q v′
-defines-capture {p} {q} {w} {v} {v′} {x} {r} {i} {t} h room u d e = record {
+defines-capture {p} {q} {w} {v} {v′} {x} {r} {i} {t} h room g u d e = record {
   is = λ s c z y k.
       let n = define x c (s .captures) in
       let f : takenPut (first w (d .ys)) i (takenOf c) ≡ v′ =
       ap (λ (o : Taken). takenPut (first w (d .ys)) i o) y ∙ ap (λ (l : List ℕ). takenPut l i t) (sym (d .table)) ∙ sym e in
       subst (λ (o : Pass). Works o v′ (withCaptures n s)) (sym (d .pass))
       (subst (λ (l : List ℕ). Works (inCaptures (d .m) p) l (withCaptures n s)) f
-      (works-defined w (d .ys) i c (h .long) (omega (arith, u .most)) (d .long) x z u (d .becomes) k));
+      (works-defined w (d .ys) i c (h .long) (omega (arith, u .most)) (d .long) x (omega (arith, g .binder, ap (λ (o : Taken). o .binder) y)) z u (d .becomes) k));
 }

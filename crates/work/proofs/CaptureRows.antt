@@ -3,7 +3,7 @@ use Prim.Native.Nat.{ℕ, suc, _-_, _*_, _≤_, _<_}
 use mathlib.Core.List.{List, [], _∷_}
 use mathlib.Core.Bool.{Bool, true, false, cond}
 use mathlib.Core.Option.{some}
-use mathlib.Core.Path.{_≡_, refl, ap, sym, _∙_}
+use mathlib.Core.Path.{_≡_, refl, ap, sym, subst, _∙_}
 use native.Mathlib.Omega.{arith}
 use borrow.Author.Tests.{ltb-true, ltb-false}
 use lib.ListN.{length}
@@ -18,8 +18,8 @@ use Rattle.scope_map.specs.Held.{foundIn, placeIn}
 use Rattle.scope_map.specs.declared.Found.the-variants.{At}
 use Rattle.pass.specs.State.{Capture}
 use Rattle.pass.specs.Read.{usedCapture, useIn}
-use Rattle.work.specs.Coded.{takenOf, takenWidth, putTaken}
-use Rattle.work.specs.Works.{rowOf, TakenIn}
+use Rattle.work.specs.Coded.{takenWidth}
+use Rattle.work.specs.Works.{rowOf, TakenAt, TakenIn}
 use Rattle.work.specs.CapturesLaws.{found-below}
 
 -- The newest layer goes
@@ -49,16 +49,19 @@ module _ (t t′ : List ℕ) (i : ℕ) (e : Elsewhere (takenWidth * i) takenWidt
   over : (j : ℕ) → i < j → region t′ (takenWidth * j) takenWidth ≡ region t (takenWidth * j) takenWidth
   over j h = e .after (takenWidth * j) takenWidth (omega arith)
 
+  moved : {j k : ℕ} {c : Capture} → j ≡ k → region t′ (takenWidth * k) takenWidth ≡ region t (takenWidth * k) takenWidth → TakenAt t k c → TakenAt t′ j c
+  moved z q h = record { row = ap (λ (j : ℕ). region t′ (takenWidth * j) takenWidth) z ∙ q ∙ h .row; small = h .small }
+
   -- captures in the rows before it
   taken-older : (l : List (Live Capture)) → length l ≤ i → TakenIn t l → TakenIn t′ l
   unfolding TakenIn
   taken-older [] h k = k
-  taken-older (c ∷ l) h k = (under (length l) (omega arith) ∙ k .0, taken-older l (omega arith) (k .1))
+  taken-older (c ∷ l) h k = (moved refl (under (length l) (omega arith)) (k .0), taken-older l (omega arith) (k .1))
 
-  module _ (d x : ℕ) (c : Capture) (r : region t′ (takenWidth * i) takenWidth ≡ putTaken (takenOf c)) where
+  module _ (d x : ℕ) (c : Capture) (r : TakenAt t′ i c) where
     taken-new : (l : List (Live Capture)) → length l ≡ i → TakenIn t l → TakenIn t′ (record { name = x; layer = d; value = c } ∷ l)
     unfolding TakenIn
-    taken-new l z k = (ap (λ (j : ℕ). region t′ (takenWidth * j) takenWidth) z ∙ r, taken-older l (omega arith) k)
+    taken-new l z k = (subst (λ (j : ℕ). TakenAt t′ j c) (sym z) r, taken-older l (omega arith) k)
 
     taken-replace : (n : ℕ) (l : List (Live Capture)) → placeIn d x n (mapLive rowOf l) ≡ i → i < n → TakenIn t l → TakenIn t′ (replaceIn d x c l)
     unfolding TakenIn replaceIn placeIn mapLive
@@ -70,9 +73,8 @@ module _ (t t′ : List ℕ) (i : ℕ) (e : Elsewhere (takenWidth * i) takenWidt
             → TakenIn t′ (cond b (record { name = x; layer = d; value = c } ∷ l) (a ∷ replaceIn d x c l))
         pick true q f = taken-new l (sym (map-length rowOf l) ∙ q) (k .1)
         pick false q f =
-            let z = replace-size d x c l in
             let s : i < length l = omega (arith, place-below d x n (mapLive rowOf l) (omega arith), map-length rowOf l) in
-            (ap (λ (j : ℕ). region t′ (takenWidth * j) takenWidth) z ∙ over (length l) s ∙ k .0, f q)
+            (moved (replace-size d x c l) (over (length l) s) (k .0), f q)
 
     -- the name's capture is written at its place
     pub taken-define : (m : ScopeMap Capture) → d ≡ m .depth → i ≡ placeIn d x (length (m .live)) (mapLive rowOf (m .live)) → i ≤ length (m .live)
@@ -108,21 +110,21 @@ use-rows x (e ∷ l) = pick (eqb (e .name) x) (use-rows x l)
 
 module _ (t t′ : List ℕ) (i x : ℕ) (e : Elsewhere (takenWidth * i) takenWidth t t′) where
   pub taken-use : (l : List (Live Capture)) {d v : ℕ} → foundIn (mapLive rowOf l) x ≡ At i d v
-      → ((c : Live Capture) → getIn l x ≡ some c → region t′ (takenWidth * i) takenWidth ≡ putTaken (takenOf (usedCapture (c .value))))
+      → ((c : Live Capture) → getIn l x ≡ some c → TakenAt t′ i (usedCapture (c .value)))
       → TakenIn t l → TakenIn t′ (useIn x l)
   unfolding TakenIn useIn foundIn getIn mapLive
   taken-use [] q r k = k
   taken-use (a ∷ l) {d} {v} q r k = pick (eqb (a .name) x) q r (λ q r. taken-use l q r (k .1))
     where
       pick : (b : Bool) → cond b (At (length (mapLive rowOf l)) (a .layer) (a .value .row)) (foundIn (mapLive rowOf l) x) ≡ At i d v
-          → ((c : Live Capture) → cond b (some a) (getIn l x) ≡ some c → region t′ (takenWidth * i) takenWidth ≡ putTaken (takenOf (usedCapture (c .value))))
+          → ((c : Live Capture) → cond b (some a) (getIn l x) ≡ some c → TakenAt t′ i (usedCapture (c .value)))
           → (foundIn (mapLive rowOf l) x ≡ At i d v
-          → ((c : Live Capture) → getIn l x ≡ some c → region t′ (takenWidth * i) takenWidth ≡ putTaken (takenOf (usedCapture (c .value))))
+          → ((c : Live Capture) → getIn l x ≡ some c → TakenAt t′ i (usedCapture (c .value)))
           → TakenIn t′ (useIn x l))
           → TakenIn t′ (cond b (record { name = a .name; layer = a .layer; value = usedCapture (a .value) } ∷ l) (a ∷ useIn x l))
       pick true q r f =
           let z : length l ≡ i = sym (map-length rowOf l) ∙ cc in
-          (ap (λ (j : ℕ). region t′ (takenWidth * j) takenWidth) z ∙ r a refl, taken-older t t′ i e l (omega arith) (k .1))
+          (subst (λ (j : ℕ). TakenAt t′ j (usedCapture (a .value))) (sym z) (r a refl), taken-older t t′ i e l (omega arith) (k .1))
       pick false q r f =
           let s = found-below l x q in
-          (ap (λ (j : ℕ). region t′ (takenWidth * j) takenWidth) (use-size x l) ∙ over t t′ i e (length l) s ∙ k .0, f q r)
+          (moved t t′ i e (use-size x l) (over t t′ i e (length l) s) (k .0), f q r)

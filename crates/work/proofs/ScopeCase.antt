@@ -18,6 +18,7 @@ use Rattle.scope_map.specs.SizeLaws.{below-size}
 use Rattle.scope_map.specs.MapLaws.{mapValue, mapValues, map-length, map-getD, map-get, map-hasAtTop, map-define, map-belowLayer}
 use Rattle.scope_map.specs.Rows.{rowAt, liveOf}
 use Rattle.scope_map.specs.RowLaws.{length-liveIn, live-row}
+use Rattle.scope_map.specs.Hints.{Roomy}
 use Rattle.scope_map.specs.Held.{entryOf, Gets, Starts}
 use Rattle.scope_map.specs.Held as map
 use Rattle.scope_map.specs.declared.ScopeMap.{ScopeMap as Map}
@@ -45,8 +46,8 @@ module _ {p : Pass} {w : List ℕ} (h : Spacious p w) where
   pub names-length : scopeLength ≡ length (region w 0 scopeLength)
   names-length = sym (part-length w (h .long) 0 scopeLength (omega arith))
 
-  pub names-inside : 3 * p .scope .length ≤ length (region w 0 scopeLength)
-  names-inside = omega (arith, names-length, h .names)
+  pub names-room : Roomy (p .scope .length) (region w 0 scopeLength)
+  names-room = record { rows = h .names; long = omega (arith, names-length) }
 
 -- What is told
 

@@ -16,6 +16,7 @@ use Rattle.scope_map.specs.declared.Found.the-variants.{At}
 use Rattle.semantic.specs.Rows.{Item}
 use Rattle.pass.specs.State.{State, Capture, itemAt, withCaptures, withCaptured}
 use Rattle.pass.specs.Read.{useCapture}
+use Rattle.pass.specs.Run.{rowsMost}
 use Rattle.work.specs.Coded.{takenOf, takenWidth, putTaken}
 use Rattle.work.specs.Works.{capturesFirst, capturesLength, takenFirst, takenLength, rowOf, Works}
 use Rattle.work.specs.Passes.{inCaptures}
@@ -24,7 +25,12 @@ use Rattle.work.specs.declared.captures.Taken.{Taken}
 
 -- as it is read from its row
 unfoldable pub takenIn : List ℕ → Taken
-takenIn r = record { binder = getD r 0 0; id = getD r 1 0; uses = getD r 2 0 / 2; enclosing = eqb (getD r 2 0 % 2) 1 }
+takenIn r = record {
+  binder = getD r 1 0 % rowsMost;
+  id = getD r 0 0;
+  uses = getD r 1 0 / rowsMost / 2;
+  enclosing = eqb (getD r 1 0 / rowsMost % 2) 1;
+}
 
 -- a layer opens
 abbrev pub opened : State → State

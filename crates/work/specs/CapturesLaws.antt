@@ -3,7 +3,7 @@ use Prim.Native.Nat.{ℕ, _+_, _*_, _≤_, _<_}
 use mathlib.Core.List.{List, [], _∷_}
 use mathlib.Core.Bool.{Bool, true, false, cond}
 use mathlib.Core.Option.{none, some}
-use mathlib.Core.Path.{_≡_, refl, ap, sym, _∙_}
+use mathlib.Core.Path.{_≡_, refl, ap, sym, subst, _∙_}
 use native.Mathlib.Omega.{arith}
 use lib.ListN.{length, getD, drop}
 use lib.Seq.{getD-take, getD-drop}
@@ -12,11 +12,13 @@ use Rattle.table.specs.Region.{region}
 use Rattle.tree.specs.Tree.{bit}
 use Rattle.scope_map.specs.ScopeMap.{Live, get, getIn}
 use Rattle.scope_map.specs.MapLaws.{mapLive, map-length}
+use Rattle.scope_map.specs.Hints.{rowsLength}
 use Rattle.scope_map.specs.Held.{foundIn}
 use Rattle.scope_map.specs.declared.Found.the-variants.{At, Nothing}
 use Rattle.pass.specs.State.{State, Capture}
-use Rattle.work.specs.Coded.{takenOf, takenWidth, putTaken}
-use Rattle.work.specs.Works.{capturesLength, takenFirst, takenLength, rowOf, TakenIn, Works}
+use Rattle.pass.specs.Run.{rowsMost}
+use Rattle.work.specs.Coded.{putTaken}
+use Rattle.work.specs.Works.{takenFirst, takenLength, rowOf, TakenAt, TakenIn, Works}
 use Rattle.work.specs.WorksLaws.{spacious, captures-many}
 use Rattle.work.specs.Captures.{captureFound}
 use Rattle.work.specs.declared.Pass.{Pass}
@@ -46,36 +48,35 @@ found-below l x {i} {d} {v} f = pick (found-capture l x)
 
 -- the row of the capture that is found
 pub taken-found : (t : List ℕ) (l : List (Live Capture)) → TakenIn t l → (x : ℕ) {i d v : ℕ} {c : Live Capture}
-    → foundIn (mapLive rowOf l) x ≡ At i d v → getIn l x ≡ some c
-    → region t (takenWidth * i) takenWidth ≡ putTaken (takenOf (c .value))
+    → foundIn (mapLive rowOf l) x ≡ At i d v → getIn l x ≡ some c → TakenAt t i (c .value)
 unfolding TakenIn getIn foundIn mapLive
 taken-found t [] h x f g = absurd (let z : _≡_ {A = ℕ} 0 1 = cc in omega arith)
 taken-found t (e ∷ l) h x {i} {d} {v} {c} f g = pick (eqb (e .name) x) f g (taken-found t l (h .1) x)
   where
     pick : (b : Bool) → cond b (At (length (mapLive rowOf l)) (e .layer) (e .value .row)) (foundIn (mapLive rowOf l) x) ≡ At i d v
         → cond b (some e) (getIn l x) ≡ some c
-        → (foundIn (mapLive rowOf l) x ≡ At i d v → getIn l x ≡ some c → region t (takenWidth * i) takenWidth ≡ putTaken (takenOf (c .value)))
-        → region t (takenWidth * i) takenWidth ≡ putTaken (takenOf (c .value))
+        → (foundIn (mapLive rowOf l) x ≡ At i d v → getIn l x ≡ some c → TakenAt t i (c .value))
+        → TakenAt t i (c .value)
     pick true f g r =
-        let a : i ≡ length (mapLive rowOf l) = cc in
+        let a : length l ≡ i = sym (map-length rowOf l) ∙ cc in
         let b : e ≡ c = cc in
-        ap (λ (k : ℕ). region t (takenWidth * k) takenWidth) (a ∙ map-length rowOf l) ∙ h .0 ∙ ap (λ (c : Live Capture). putTaken (takenOf (c .value))) b
+        subst (λ (k : ℕ). TakenAt t k (c .value)) a (subst (λ (c : Live Capture). TakenAt t (length l) (c .value)) b (h .0))
     pick false f g r = r f g
 
 module _ {p : Pass} {w : List ℕ} {s : State} (k : Works p w s) where
-  pub captures-few : 3 * length (s .captures .live) ≤ capturesLength
+  pub captures-few : 3 * length (s .captures .live) ≤ rowsLength
   captures-few = omega (arith, captures-many k, spacious k .captures)
 
-  -- the third number: the uses, and whether the lambda around takes the name too
+  -- the second number: the binder, whether the lambda around takes the name too, and the uses
   pub taken-uses : (x : ℕ) {i d v : ℕ} {c : Live Capture} → i < length (s .captures .live) → captureFound s x ≡ At i d v → get (s .captures) x ≡ some c
-      → getD w (takenFirst + 3 * i + 2) 0 ≡ 2 * c .value .usageCount + bit (c .value .fromEnclosing)
+      → getD w (takenFirst + 2 * i + 1) 0 ≡ c .value .binder .at + rowsMost * (2 * c .value .usageCount + bit (c .value .fromEnclosing))
   unfolding putTaken
   taken-uses x {i} h f g =
       let t = region w takenFirst takenLength in
-      let z : takenFirst + 3 * i + 2 ≡ takenFirst + (3 * i + 2) = omega arith in
+      let z : takenFirst + 2 * i + 1 ≡ takenFirst + (2 * i + 1) = omega arith in
       ap (λ (j : ℕ). getD w j 0) z
-      ∙ sym (getD-drop takenFirst w (3 * i + 2) 0)
-      ∙ sym (getD-take takenLength (drop takenFirst w) (3 * i + 2) 0 (omega (arith, captures-few)))
-      ∙ sym (getD-drop (3 * i) t 2 0)
-      ∙ sym (getD-take 3 (drop (3 * i) t) 2 0 (omega arith))
-      ∙ ap (λ (l : List ℕ). getD l 2 0) (taken-found t (s .captures .live) (k .taken) x f g)
+      ∙ sym (getD-drop takenFirst w (2 * i + 1) 0)
+      ∙ sym (getD-take takenLength (drop takenFirst w) (2 * i + 1) 0 (omega (arith, captures-few)))
+      ∙ sym (getD-drop (2 * i) t 1 0)
+      ∙ sym (getD-take 2 (drop (2 * i) t) 1 0 (omega arith))
+      ∙ ap (λ (l : List ℕ). getD l 1 0) (taken-found t (s .captures .live) (k .taken) x f g .row)

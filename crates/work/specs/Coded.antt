@@ -1,5 +1,5 @@
 -- What the code holds of an entry, of a capture and of a refusal; and their rows of the work table.
-use Prim.Native.Nat.{ℕ, suc, _+_, _*_}
+use Prim.Native.Nat.{ℕ, suc, _+_, _*_, _<_}
 use mathlib.Core.List.{List, [], _∷_}
 use mathlib.Core.Option.{Option, none, some}
 use mathlib.Core.Path.{_≡_, refl}
@@ -8,6 +8,7 @@ use Rattle.tree.specs.Tree.{Ident, bit}
 use Rattle.tree.specs.Check.{Refusal}
 use Rattle.semantic.specs.Rows.{Item}
 use Rattle.pass.specs.State.{Entry, Capture}
+use Rattle.pass.specs.Run.{rowsMost}
 use Rattle.work.specs.declared.entries.Entry.{Entry as Coded}
 use Rattle.work.specs.declared.captures.Taken.{Taken}
 use Rattle.work.specs.declared.Noted.{Noted}
@@ -50,10 +51,15 @@ abbrev pub takenOf : Capture → Taken
 takenOf c = record { binder = c .binder .at; id = c .binder .id; uses = c .usageCount; enclosing = c .fromEnclosing }
 
 abbrev pub takenWidth : ℕ
-takenWidth = 3
+takenWidth = 2
 
 unfoldable pub putTaken : Taken → List ℕ
-putTaken t = t .binder ∷ t .id ∷ (2 * t .uses + bit (t .enclosing)) ∷ []
+putTaken t = t .id ∷ (t .binder + rowsMost * (2 * t .uses + bit (t .enclosing))) ∷ []
+
+-- all but the id have room in one number
+pub record Packable (t : Taken) : Type 0 where
+  pub binder : t .binder < rowsMost
+  pub uses : t .uses < 524288
 
 -- of a captured entry, its binder's record
 abbrev pub putBinder : Item → List ℕ

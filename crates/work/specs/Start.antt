@@ -9,21 +9,20 @@ use Rattle.table.specs.Region.{region, replaced}
 use Rattle.table.specs.RegionLaws.{within, region-replicate, replaced-region, replaced-elsewhere}
 use Rattle.scope_map.specs.ScopeMap.{new}
 use Rattle.scope_map.specs.MapLaws.{mapValues, map-new}
-use Rattle.scope_map.specs.Rows.{liveIn}
+use Rattle.scope_map.specs.Hints.{mapLength}
 use Rattle.scope_map.specs.Held.{Held}
-use Rattle.scope_map.specs.HeldLaws.{held-is}
+use Rattle.scope_map.specs.HeldLaws.{held-new}
 use Rattle.semantic.specs.Rows.{noItem}
 use Rattle.pass.specs.State.{Facts, State, noEntry}
 use Rattle.pass.specs.Run.{rowsMost, itemsMost, noFacts, start}
 use Rattle.work.specs.Coded.{entryWidth, putCoded, putEntryRow, entry-long, putBinder}
 use Rattle.work.specs.Works.{workLong, scopeLength, entriesFirst, entriesLength, capturesFirst, capturesLength, bindersFirst, bindersLength, recordAt, rowOf, TakenIn, Works}
-use Rattle.work.specs.WorksLaws.{captured-top, arguments-top}
+use Rattle.work.specs.WorksLaws.{part-length, captured-top, arguments-top}
 use Rattle.work.specs.Passes.{passNew}
 use Rattle.work.specs.declared.Pass.{Pass}
 
-new-held : {A : Type 0} (f : A → ℕ) (t : List ℕ) → Held (record { depth = 1; length = 0 }) t (mapValues f new)
-unfolding liveIn
-new-held f t = held-is (omega arith) (sym (map-new f))
+new-held : {A : Type 0} (f : A → ℕ) (t : List ℕ) → mapLength ≤ length t → Held (record { depth = 1; length = 0 }) t (mapValues f new)
+new-held f t h = rw (map-new f) (held-new t h)
 
 -- entries of zeros
 no-entries : (n : ℕ) → layout putEntryRow (replicate n noEntry) ≡ replicate (entryWidth * n) 0
@@ -38,13 +37,13 @@ pub start-works : (f : Facts) (w : List ℕ) → length w ≡ workLong → take 
 unfolding start TakenIn
 start-works f w l z b = record {
   long = l;
-  names = new-held recordAt (region w 0 scopeLength);
+  names = new-held recordAt (region w 0 scopeLength) (omega (arith, part-length w l 0 scopeLength (omega arith)));
   entries =
       within w bindersFirst entriesFirst entriesLength (omega arith) (omega arith)
       ∙ ap (λ (v : List ℕ). region v entriesFirst entriesLength) z
       ∙ region-replicate bindersFirst entriesFirst entriesLength 0 (omega arith)
       ∙ sym (no-entries rowsMost);
-  captures = new-held rowOf (region w capturesFirst capturesLength);
+  captures = new-held rowOf (region w capturesFirst capturesLength) (omega (arith, part-length w l capturesFirst capturesLength (omega arith)));
   taken = tt;
   binders = b;
   beside = refl;

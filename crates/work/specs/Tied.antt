@@ -2,13 +2,11 @@
 use Prim.Native.Nat.{ℕ}
 use mathlib.Core.List.{List}
 use mathlib.Core.Path.{_≡_}
-use lib.ListN.{length}
 use Rattle.table.specs.Layout.{layout}
 use Rattle.tree.specs.Tree.{Ident}
 use Rattle.semantic.specs.Rows.{putRow, putItem}
 use Rattle.pass.specs.State.{State}
-use Rattle.pass.specs.Sound.{Sound, Counted}
-use Rattle.pass.specs.Run.{rowsMost, itemsMost}
+use Rattle.pass.specs.Visitable as visitable
 use Rattle.work.specs.Known.{Known}
 use Rattle.work.specs.Works.{Works}
 use Rattle.work.specs.declared.Pass.{Pass}
@@ -30,16 +28,9 @@ pub record Tied (z : Raw) (s : State) : Type 0 where
   pub arguments : z .arguments ≡ layout putItem (s .facts .arguments)
   pub works : Works (z .pass) (z .work) s
 
--- no count of uses comes near what a number can hold
-abbrev pub usesMost : ℕ
-usesMost = 268435456
-
--- the identifiers are the tree's, the tables have their lengths, and the counts are small
-pub record Good (rs : List ℕ) (s : State) : Type 0 where
-  pub rows : length (s .facts .rows) ≡ rowsMost
-  pub arguments : length (s .facts .arguments) ≡ itemsMost
-  pub sound : Sound (Known rs) s
-  pub counted : Counted usesMost s
+-- the identifiers are the tree's
+abbrev pub Good : List ℕ → State → Type 0
+Good rs s = visitable.Good (Known rs) s
 
 -- the record at holds the identifier x
 pub record Here (rs : List ℕ) (at : ℕ) (z : Raw) (s : State) (x : Ident) : Type 0 where

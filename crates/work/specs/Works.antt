@@ -1,51 +1,53 @@
 -- The work table and what is threaded beside it hold a state, all but its facts.
-use Prim.Native.Nat.{ℕ, _*_, _≤_}
+use Prim.Native.Nat.{ℕ, _*_, _≤_, _<_}
 use mathlib.Core.List.{List, [], _∷_}
 use mathlib.Core.Option.{Option}
 use mathlib.Core.Path.{_≡_}
-use lib.ListN.{length, take, drop}
+use lib.ListN.{length}
 use Rattle.table.specs.Layout.{layout}
 use Rattle.table.specs.Region.{region}
 use Rattle.tree.specs.Tree.{Ident}
 use Rattle.tree.specs.Check.{Refusal}
 use Rattle.scope_map.specs.ScopeMap.{Live}
 use Rattle.scope_map.specs.MapLaws.{mapValues}
+use Rattle.scope_map.specs.Hints.{rowsLength, mapLength}
 use Rattle.scope_map.specs.Held.{Held}
 use Rattle.pass.specs.State.{State, Capture}
-use Rattle.work.specs.Coded.{putEntryRow, takenOf, putTaken, putBinder, notedOf, secondOf}
+use Rattle.pass.specs.Run.{rowsMost}
+use Rattle.work.specs.Coded.{putEntryRow, takenOf, takenWidth, putTaken, putBinder, notedOf, secondOf}
 use Rattle.work.specs.declared.Pass.{Pass}
 
 -- Which numbers of the work table are what: the first of each part, and how many
 
 abbrev pub scopeLength : ℕ
-scopeLength = 12288
+scopeLength = mapLength
 
 abbrev pub entriesFirst : ℕ
-entriesFirst = 12288
+entriesFirst = 13312
 
 abbrev pub entriesLength : ℕ
 entriesLength = 20480
 
 abbrev pub capturesFirst : ℕ
-capturesFirst = 32768
+capturesFirst = 33792
 
 abbrev pub capturesLength : ℕ
-capturesLength = 12288
+capturesLength = mapLength
 
 abbrev pub takenFirst : ℕ
-takenFirst = 45056
+takenFirst = 47104
 
 abbrev pub takenLength : ℕ
-takenLength = 12288
+takenLength = 8192
 
 abbrev pub bindersFirst : ℕ
-bindersFirst = 57344
+bindersFirst = 55296
 
 abbrev pub bindersLength : ℕ
 bindersLength = 4096
 
 abbrev pub workLong : ℕ
-workLong = 61440
+workLong = 59392
 
 abbrev pub recordAt : Ident → ℕ
 recordAt x = x .at
@@ -53,10 +55,15 @@ recordAt x = x .at
 abbrev pub rowOf : Capture → ℕ
 rowOf c = c .row
 
--- the captures' own numbers stand in rows, the oldest capture's first
+-- what is known of a capture stands in row i, from which it can be read back
+pub record TakenAt (t : List ℕ) (i : ℕ) (c : Capture) : Type 0 where
+  pub row : region t (takenWidth * i) takenWidth ≡ putTaken (takenOf c)
+  pub small : c .binder .at < rowsMost
+
+-- the captures stand in rows, the oldest first
 unfoldable pub TakenIn : List ℕ → List (Live Capture) → Type 0
 TakenIn t [] = Unit {0}
-TakenIn t (c ∷ l) = (take 3 (drop (3 * length l) t) ≡ putTaken (takenOf (c .value))) × TakenIn t l
+TakenIn t (c ∷ l) = TakenAt t (length l) (c .value) × TakenIn t l
 
 -- what is threaded beside the table, by the code and by the state
 pub record Beside : Type 0 where
@@ -96,8 +103,8 @@ pub record Works (p : Pass) (w : List ℕ) (s : State) : Type 0 where
   pub binders : region w bindersFirst bindersLength ≡ layout putBinder (s .facts .captured)
   pub beside : besidePass p ≡ besideState s
 
--- what the code needs of the numbers alone: the table is long enough, and the maps lie in their parts
+-- what the code needs of the numbers alone: the table is long enough, and the rows of the maps lie in their parts
 pub record Spacious (p : Pass) (w : List ℕ) : Type 0 where
   pub long : length w ≡ workLong
-  pub names : 3 * p .scope .length ≤ scopeLength
-  pub captures : 3 * p .captures .length ≤ capturesLength
+  pub names : 3 * p .scope .length ≤ rowsLength
+  pub captures : 3 * p .captures .length ≤ rowsLength

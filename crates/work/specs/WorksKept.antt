@@ -6,7 +6,7 @@ use lib.ListN.{getD, set}
 use Rattle.table.specs.Layout.{layout}
 use Rattle.semantic.specs.Rows.{Row, Item, noItem}
 use Rattle.semantic.specs.declared.SemanticInformation.{SemanticInformation}
-use Rattle.pass.specs.State.{Facts, State, withFacts, withContext, withCaptured, itemAt, insert, amend}
+use Rattle.pass.specs.State.{Facts, State, withFacts, withContext, withCaptured, insert, amend}
 use Rattle.work.specs.Coded.{putBinder}
 use Rattle.work.specs.Works.{Beside, besidePass, besideState, Works}
 use Rattle.work.specs.Passes.{inContext, withTops}
@@ -61,10 +61,6 @@ module _ {p : Pass} {w : List ℕ} {s : State} (k : Works p w s) where
     binders = k .binders ∙ sym e;
     beside = k .beside;
   }
-
-  -- the entry in row r is another, with the same binder's record
-  pub item-kept : (r : ℕ) (x : Item) → x .binder .at ≡ itemAt s r .binder .at → Works p w (withCaptured (set (s .facts .captured) r x) s)
-  item-kept r x e = items-kept (set (s .facts .captured) r x) (binder-same (s .facts .captured) r x e)
 
   -- other facts, with the same captured entries
   pub facts-kept : (f : Facts) → f .captured ≡ s .facts .captured → Works (withTops (f .capturedTop) (f .argumentsTop) p) w (withFacts f s)

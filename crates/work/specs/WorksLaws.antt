@@ -11,7 +11,7 @@ use Rattle.scope_map.specs.MapLaws.{map-length}
 use Rattle.pass.specs.State.{State}
 use Rattle.pass.specs.Run.{rowsMost, itemsMost}
 use Rattle.work.specs.Coded.{entryWidth, putEntryRow, entry-long, putBinder}
-use Rattle.work.specs.Works.{workLong, scopeLength, entriesFirst, entriesLength, capturesFirst, capturesLength, bindersFirst, bindersLength, recordAt, rowOf, Beside, Works, Spacious}
+use Rattle.work.specs.Works.{workLong, entriesFirst, entriesLength, bindersFirst, bindersLength, recordAt, rowOf, Beside, Works, Spacious}
 use Rattle.work.specs.declared.Pass.{Pass}
 
 -- a part of a work table
@@ -22,8 +22,8 @@ module _ {p : Pass} {w : List ℕ} {s : State} (k : Works p w s) where
   pub spacious : Spacious p w
   spacious = record {
     long = k .long;
-    names = omega (arith, k .names .inside, part-length w (k .long) 0 scopeLength (omega arith));
-    captures = omega (arith, k .captures .inside, part-length w (k .long) capturesFirst capturesLength (omega arith));
+    names = k .names .room .rows;
+    captures = k .captures .room .rows;
   }
 
   -- how many names are live, and how many captures

@@ -12,13 +12,17 @@ ghost use mathlib.Core.List.{List};
 ghost use Prim.Native.Nat.{ℕ, _+_, _*_, _≤_, _<_};
 ghost use lib.ListN.{length, getD};
 ghost use Rattle.table.specs.Region.{region};
+ghost use Rattle.scope_map.specs.Hints.{rowsLength};
 ghost use Rattle.scope_map.specs.Held.{Places};
 ghost use Rattle.pass.specs.Run.{itemsMost};
 ghost use Rattle.pass.specs.Lambda.{closeCaptures};
-ghost use Rattle.work.specs.Coded.{putTaken};
+ghost use Rattle.work.specs.Coded.{Packable, putTaken};
 ghost use Rattle.work.specs.Works.{Spacious, workLong, capturesFirst, capturesLength, takenFirst};
 ghost use Rattle.work.specs.Leaves.{Becomes};
 ghost use Rattle.work.specs.Captures.{takenIn, opened, GetsCapture, LoadsTaken, UsesCapture, DefinesRow, takenPut, DefinesCapture, TellsBinder, StoresBinder};
+
+// A record's number is below this.
+const RECORDS: u32 = 4096;
 
 // What is known of a capture beside the row that it stands for: the record and the id of its binder, its uses, and whether the lambda
 // around takes the name too.
@@ -29,22 +33,25 @@ pub struct Taken {
     pub enclosing: bool,
 }
 
-fn taken_row(t: Taken) -> [u32; 3]
-    requires { ⌜ t .uses < 2147483647 ⌝ }
+// All but the id are one number.
+fn taken_row(t: Taken) -> [u32; 2]
+    requires { ⌜ Packable t ⌝ }
     ensures { λ r. ⌜ r ≡ putTaken t ⌝ }
 {
-    [t.binder, t.id, 2 * t.uses + t.enclosing as u32]
+    let rest = 2 * t.uses + t.enclosing as u32;
+    [t.id, t.binder + RECORDS * rest]
 }
 
-fn taken_of(row: [u32; 3]) -> Taken
+fn taken_of(row: [u32; 2]) -> Taken
     ensures { λ r. ⌜ r ≡ takenIn row ⌝ }
 {
-    let last = row[2];
+    let last = row[1];
+    let rest = last / RECORDS;
     Taken {
-        binder: row[0],
-        id: row[1],
-        uses: last / 2,
-        enclosing: last % 2 == 1,
+        binder: last % RECORDS,
+        id: row[0],
+        uses: rest / 2,
+        enclosing: rest % 2 == 1,
     }
 }
 
@@ -66,18 +73,18 @@ pub fn load_taken(work: &[u32], place: usize) -> Taken
     let start = TAKEN;
     let end = BINDERS;
     let part = &work[start..end];
-    let mut row = [0; 3];
-    table::get(part, 3 * place, &mut row);
+    let mut row = [0; 2];
+    table::get(part, 2 * place, &mut row);
     taken_of(row)
 }
 
 // One use more of the capture at the place.
 pub fn use_capture(work: &mut [u32], place: usize)
-    requires { ⌜ (length (now work) ≡ workLong) × (place < itemsMost) × (getD (now work) (takenFirst + 3 * place + 2) 0 < 4294967294) ⌝ }
+    requires { ⌜ (length (now work) ≡ workLong) × (place < itemsMost) × (getD (now work) (takenFirst + 2 * place + 1) 0 < 4294959104) ⌝ }
     ensures { λ _. ⌜ UsesCapture (now (work .entry)) place (now (work .exit)) ⌝ }
 {
-    let i = TAKEN + 3 * place + 2;
-    work[i] = work[i] + 2;
+    let i = TAKEN + 2 * place + 1;
+    work[i] = work[i] + 2 * RECORDS;
 }
 
 // The place of the capture that defining the name writes.
@@ -93,7 +100,7 @@ fn capture_place(p: Pass, work: &[u32], name: u32) -> usize
 
 // The map alone: what is known of the capture is not written yet.
 fn define_row(p: Pass, work: &mut [u32], name: u32, r: usize) -> Pass
-    requires { ⌜ Spacious p (now work) × (3 * p .captures .length + 3 ≤ capturesLength) × (r < itemsMost) ⌝ }
+    requires { ⌜ Spacious p (now work) × (3 * p .captures .length + 3 ≤ rowsLength) × (r < itemsMost) ⌝ }
     ensures { λ q. ⌜ DefinesRow p (now (work .entry)) name r q (now (work .exit)) ⌝ }
 {
     let captures = p.captures;
@@ -107,18 +114,18 @@ fn define_row(p: Pass, work: &mut [u32], name: u32, r: usize) -> Pass
 }
 
 fn put_taken(work: &mut [u32], place: usize, t: Taken)
-    requires { ⌜ (length (now work) ≡ workLong) × (place < itemsMost) × (t .uses < 2147483647) ⌝ }
+    requires { ⌜ (length (now work) ≡ workLong) × (place < itemsMost) × Packable t ⌝ }
     ensures { λ _. ⌜ now (work .exit) ≡ takenPut (now (work .entry)) place t ⌝ }
 {
     let row = taken_row(t);
     let start = TAKEN;
     let end = BINDERS;
-    table::put(&mut work[start..end], 3 * place, &row);
+    table::put(&mut work[start..end], 2 * place, &row);
 }
 
 // The captured entry in row r is the name's newest capture.
 pub fn define_capture(p: Pass, work: &mut [u32], name: u32, r: usize, t: Taken) -> Pass
-    requires { ⌜ Spacious p (now work) × (3 * p .captures .length + 3 ≤ capturesLength) × (r < itemsMost) × (t .uses < 2147483647) ⌝ }
+    requires { ⌜ Spacious p (now work) × (3 * p .captures .length + 3 ≤ rowsLength) × (r < itemsMost) × Packable t ⌝ }
     ensures { λ q. ⌜ DefinesCapture p (now (work .entry)) name r t q (now (work .exit)) ⌝ }
 {
     let place = capture_place(p, work, name);

@@ -10,17 +10,17 @@ pub mod entries;
 pub mod notes;
 pub mod scope;
 
-// The work table: the rows of the scope's map; an entry for each record; the rows of the captures' map; what is known of each capture, by
+// The work table: the scope's map; an entry for each record; the captures' map; what is known of each capture, by
 // its place; and the binder's record of each captured entry, by its row.
-const ENTRIES: usize = 12288;
+const ENTRIES: usize = 13312;
 
-const CAPTURES: usize = 32768;
+const CAPTURES: usize = 33792;
 
-const TAKEN: usize = 45056;
+const TAKEN: usize = 47104;
 
-pub const BINDERS: usize = 57344;
+pub const BINDERS: usize = 55296;
 
-pub const WORK: usize = 61440;
+pub const WORK: usize = 59392;
 
 // The record of a refusal's first place.
 pub enum Noted {

@@ -9,11 +9,12 @@ use table::wide;
 ghost use mathlib.Core.List.{List};
 ghost use Prim.Native.Nat.{ℕ, _+_, _*_, _≤_, _<_};
 ghost use Rattle.scope_map.specs.ScopeMap.{hasAtTop};
+ghost use Rattle.scope_map.specs.Hints.{rowsLength};
 ghost use Rattle.pass.specs.State.{newest};
 ghost use Rattle.pass.specs.Run.{rowsMost};
 ghost use Rattle.pass.specs.Lambda.{openScope, closeScope};
 ghost use Rattle.work.specs.Coded.{recordIn, recordOf};
-ghost use Rattle.work.specs.Works.{Spacious, scopeLength};
+ghost use Rattle.work.specs.Works.{Spacious};
 ghost use Rattle.work.specs.Leaves.{Becomes, Tells};
 ghost use Rattle.work.specs.Scope.{KnownHere, TellsId, Defines, removed, StartsLayer, TellsLive};
 
@@ -63,7 +64,7 @@ pub fn has_at_top(p: Pass, work: &[u32], name: u32) -> bool
 }
 
 pub fn define_name(p: Pass, work: &mut [u32], name: u32, at: usize) -> Pass
-    requires { ⌜ Spacious p (now work) × (3 * p .scope .length + 3 ≤ scopeLength) × (at < rowsMost) ⌝ }
+    requires { ⌜ Spacious p (now work) × (3 * p .scope .length + 3 ≤ rowsLength) × (at < rowsMost) ⌝ }
     ensures { λ r. ⌜ Defines p (now (work .entry)) name at r (now (work .exit)) ⌝ }
 {
     let names = p.scope;

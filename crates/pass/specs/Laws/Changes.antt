@@ -2,7 +2,7 @@
 use Prim.Native.Nat.{ℕ, _-_, _≤_}
 use mathlib.Core.List.{List}
 use mathlib.Core.Bool.{Bool, true, false, cond}
-use mathlib.Core.Option.{none, some}
+use mathlib.Core.Option.{Option, none, some}
 use mathlib.Core.Path.{_≡_, refl, ap, _∙_}
 use native.Mathlib.Omega.{arith}
 use borrow.Author.Tests.{lt-ltb}
@@ -16,6 +16,10 @@ use Rattle.pass.specs.State.{Entry, Facts, Capture, Noted, State, withFa
 use Rattle.pass.specs.Lambda.{openScope, closeScope}
 use Rattle.pass.specs.Laws.Rows.{key, Marks, row-other, key-amended}
 
+-- a refusal that only a second run meets
+abbrev pub Second : Option Refusal → Type 0
+Second o = (r : Refusal) → o ≡ some r → (11 ≤ r .number) × (r .number ≤ 12)
+
 -- what was noted stays noted
 pub record Later (m n : Noted) : Type 0 where
   pub nine : n .nine ≡ none → m .nine ≡ none
@@ -24,6 +28,7 @@ pub record Later (m n : Noted) : Type 0 where
   pub firstNine : (i : ℕ) → m .nine ≡ some i → n .nine ≡ some i
   pub firstTen : (i : ℕ) → m .ten ≡ some i → n .ten ≡ some i
   pub firstSecond : (r : Refusal) → m .second ≡ some r → n .second ≡ some r
+  pub numbers : Second (m .second) → Second (n .second)
 
 -- and no 9 is noted anew unless names change
 pub record Noting (free : Type 0) (m n : Noted) : Type 0 where
@@ -173,7 +178,7 @@ keeps-depth (note n l) h = refl
 
 -- Refusals: one that was noted stays
 pub no-later : {n : Noted} → Later n n
-no-later = record { nine = λ e. e; ten = λ e. e; second = λ e. e; firstNine = λ i e. e; firstTen = λ i e. e; firstSecond = λ r e. e }
+no-later = record { nine = λ e. e; ten = λ e. e; second = λ e. e; firstNine = λ i e. e; firstTen = λ i e. e; firstSecond = λ r e. e; numbers = λ h. h }
 
 pub later-trans : {l m n : Noted} → Later l m → Later m n → Later l n
 later-trans p q =
@@ -184,6 +189,7 @@ later-trans p q =
       firstNine = λ i e. q .firstNine i (p .firstNine i e);
       firstTen = λ i e. q .firstTen i (p .firstTen i e);
       firstSecond = λ r e. q .firstSecond r (p .firstSecond r e);
+      numbers = λ h. q .numbers (p .numbers h);
     }
 
 pub keeps-noted : {free : Type 0} {own : ℕ → Type 0} {s t : State} → Steps free own s t → Later (s .noted) (t .noted)

@@ -1,11 +1,13 @@
 -- What a read, a set! and an entering name change.
-use Prim.Native.Nat.{ℕ}
+use Prim.Native.Nat.{ℕ, _≤_}
 use mathlib.Core.List.{List}
 use mathlib.Core.Bool.{Bool, true, false, _&&_}
-use mathlib.Core.Option.{Option, none, some, Option·none-ne-some}
-use mathlib.Core.Path.{_≡_, refl, _∙_}
+use mathlib.Core.Option.{Option, none, some, Option·some-injective, Option·none-ne-some}
+use mathlib.Core.Path.{_≡_, refl, ap, _∙_}
+use native.Mathlib.Omega.{arith}
 use lib.Dec.{eqb, ltb}
 use Rattle.tree.specs.Tree.{Ident, Tree}
+use Rattle.tree.specs.Check.{Refusal}
 use Rattle.scope_map.specs.ScopeMap.{hasAtTop}
 use Rattle.scope_map.specs.ScopeMap as map
 use Rattle.semantic.specs.Information.{NONE, withUsageCount, markSet, markShadowed}
@@ -15,7 +17,7 @@ use Rattle.semantic.specs.declared.SemanticInformation.{SemanticInformation}
 use Rattle.pass.specs.State.{infoAt, Entry, Noted, State, withNames, depth, newest, orKept, noteNine, noteTen, noteSecond, putEntry}
 use Rattle.pass.specs.Read.{noteLive, enter, enterDefine, markIf, shadowIfBuiltin, shadow, enterTopLevelValue, Rule, noEntry, depthOne, currentLayer, takenCapture, homeSlot, ruleOf, hasNumber, noteTaken, oneUseMore, readBy, read, mutateAt, mutate}
 use Rattle.pass.specs.Laws.Rows.{lasting}
-use Rattle.pass.specs.Laws.Changes.{lastingEntry, Used, Later, Steps, Changes, same, _⨾_, either, row, mark, entry, used, names, captures, note}
+use Rattle.pass.specs.Laws.Changes.{lastingEntry, Used, Second, Later, Steps, Changes, same, _⨾_, either, row, mark, entry, used, names, captures, note}
 
 -- An entry that is read, read from an inner lambda, or set
 
@@ -39,13 +41,17 @@ kept-first none a b e = absurd (Option·none-ne-some b e)
 kept-first (some c) a b e = e
 
 nine-later : (i : ℕ) (n : Noted) → Later n (record { nine = orKept (n .nine) i; ten = n .ten; second = n .second })
-nine-later i n = record { nine = kept-none (n .nine) i; ten = λ e. e; second = λ e. e; firstNine = kept-first (n .nine) i; firstTen = λ j e. e; firstSecond = λ r e. e }
+nine-later i n = record { nine = kept-none (n .nine) i; ten = λ e. e; second = λ e. e; firstNine = kept-first (n .nine) i; firstTen = λ j e. e; firstSecond = λ r e. e; numbers = λ h. h }
 
 ten-later : (i : ℕ) (n : Noted) → Later n (record { nine = n .nine; ten = orKept (n .ten) i; second = n .second })
-ten-later i n = record { nine = λ e. e; ten = kept-none (n .ten) i; second = λ e. e; firstNine = λ j e. e; firstTen = kept-first (n .ten) i; firstSecond = λ r e. e }
+ten-later i n = record { nine = λ e. e; ten = kept-none (n .ten) i; second = λ e. e; firstNine = λ j e. e; firstTen = kept-first (n .ten) i; firstSecond = λ r e. e; numbers = λ h. h }
 
-second-later : (k i : ℕ) (n : Noted) → Later n (record { nine = n .nine; ten = n .ten; second = orKept (n .second) (record { number = k; at = i }) })
-second-later k i n = record { nine = λ e. e; ten = λ e. e; second = kept-none (n .second) _; firstNine = λ j e. e; firstTen = λ j e. e; firstSecond = kept-first (n .second) _ }
+kept-second : (o : Option Refusal) (k i : ℕ) → (11 ≤ k) × (k ≤ 12) → Second o → Second (orKept o (record { number = k; at = i }))
+kept-second none k i b h r e = let q : k ≡ r .number = ap (λ (p : Refusal). p .number) (Option·some-injective _ _ e) in (omega (arith, q, b .0), omega (arith, q, b .1))
+kept-second (some a) k i b h r e = h r e
+
+second-later : (k i : ℕ) (n : Noted) → (11 ≤ k) × (k ≤ 12) → Later n (record { nine = n .nine; ten = n .ten; second = orKept (n .second) (record { number = k; at = i }) })
+second-later k i n b = record { nine = λ e. e; ten = λ e. e; second = kept-none (n .second) _; firstNine = λ j e. e; firstTen = λ j e. e; firstSecond = kept-first (n .second) _; numbers = kept-second (n .second) k i b }
 
 marked-if : (b : Bool) (v : SemanticInformation) → lasting (markIf b markShadowed v) ≡ lasting v
 marked-if true v = refl
@@ -55,11 +61,11 @@ module _ {free : Type 0} {own : ℕ → Type 0} where
   pub ten-changes : (i : ℕ) (s : State) → Steps free own s (noteTen i s)
   ten-changes i s = note _ (record { later = ten-later i (s .noted); nine = λ o. refl })
 
-  pub second-changes : (n i : ℕ) (s : State) → Steps free own s (noteSecond n i s)
-  second-changes n i s = note _ (record { later = second-later n i (s .noted); nine = λ o. refl })
+  pub second-changes : (n i : ℕ) (s : State) → (11 ≤ n) × (n ≤ 12) → Steps free own s (noteSecond n i s)
+  second-changes n i s b = note _ (record { later = second-later n i (s .noted) b; nine = λ o. refl })
 
   taken-changes : (c : ScopeInfo) (x : Ident) (s : State) → Steps free own s (noteTaken c x s)
-  taken-changes c x s = either (hasNumber (c .«read_capture_offset») && eqb (c .«capture_offset») NONE) (second-changes 12 (x .at) s) same
+  taken-changes c x s = either (hasNumber (c .«read_capture_offset») && eqb (c .«capture_offset») NONE) (second-changes 12 (x .at) s (omega arith, omega arith)) same
 
   pub shadow-changes : (classes : List ℕ) (o : Option Ident) (s : State) → Steps free own s (shadow classes o s)
   shadow-changes classes none s = same

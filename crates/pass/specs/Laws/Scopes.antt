@@ -87,7 +87,7 @@ module _ {free : Type 0} {own : ℕ → Type 0} where
   -- Names enter
 
   heap-changes : (o : Option ℕ) (x : Ident) (s : State) → Steps free own s (noteHeap o x s)
-  heap-changes none x s = second-changes 11 (x .at) s
+  heap-changes none x s = second-changes 11 (x .at) s (omega arith, omega arith)
   heap-changes (some n) x s = same
 
 module _ {own : ℕ → Type 0} where

@@ -1,6 +1,5 @@
--- `main`: the maps made have at most four rows.
-use native.Mathlib.Omega.{arith}
-use Rattle.scope_map.specs.ScopeMap.{hasIn, replaceIn}
+-- `main`: each step hands on the map held.
+use Rattle.scope_map_main.specs.States.{replaced}
 use borrow.Author.Needs.{needs}
 use Rattle.scope_map_main.proofs.main.Statement.{statement}
 use Rattle.scope_map_main.proofs.main.Tie as tie
@@ -9,19 +8,16 @@ two-layers-requires : tie.Need-two-layers-requires
 two-layers-requires c κs = search needs
 
 show-requires : tie.Need-show-requires
-unfolding hasIn replaceIn
-show-requires c κs = omega (arith, c .before .two-layers .ensures .many)
+show-requires c κs = c .before .two-layers .ensures .room
 
 replaced-requires : tie.Need-replaced-requires
 replaced-requires c κs = search needs
 
 show-requires-2 : tie.Need-show-requires-2
-unfolding hasIn replaceIn
-show-requires-2 c κs = omega (arith, c .before .replaced .ensures .many)
+show-requires-2 c κs = c .before .replaced .ensures .room
 
 removed-requires : tie.Need-removed-requires
-unfolding hasIn replaceIn
-removed-requires c κs = omega (arith, c .before .before .before .replaced .ensures .many)
+removed-requires c κs = record { s = replaced; held = c .before .before .before .replaced .ensures }
 
 removed-requires-2 : tie.Need-removed-requires-2
 removed-requires-2 c κs = search needs

@@ -9,29 +9,32 @@ use borrow.Author.Needs.{needs}
 use Rattle.scope_map_main.proofs.two_layers.Statement.{statement}
 use Rattle.scope_map_main.proofs.two_layers.Tie as tie
 
-pushed : {a b c : Map} {t t′ : List ℕ} → ((t : List ℕ) → Held a t new) → Becomes a t (define 7 70) b t′ →
+pushed : {a b c : Map} {t t′ : List ℕ} → Held a t new → Becomes a t (define 7 70) b t′ →
     ((t : List ℕ) → Becomes b t pushLayer c t) → Held c t′ (pushLayer (define 7 70 new))
-pushed n d p = p _ .held _ (d .held new (n _))
+pushed n d p = p _ .held _ (d .held new n)
 
 new-requires : tie.Need-new-requires
 new-requires c κs = search needs
 
 define-requires : tie.Need-define-requires
-define-requires c κs = omega (arith, c .before .new .ensures (c .before .before .args .t .now) .many)
+define-requires c κs =
+    let h = c .before .new .ensures (c .before .before .args .t .now) (omega arith) in
+    record { rows = omega (arith, h .many); long = h .room .long }
 
 push-layer-requires : tie.Need-push-layer-requires
-push-layer-requires c κs = omega (arith, c .define .ensures .held new (c .before .before .new .ensures _) .depth)
+push-layer-requires c κs = omega (arith, c .define .ensures .held new (c .before .before .new .ensures _ (omega arith)) .depth)
 
 define-requires-2 : tie.Need-define-requires-2
 unfolding hasIn replaceIn
 define-requires-2 c κs =
     let b = c .before .before in
-    omega (arith, pushed (b .before .before .new .ensures) (b .define .ensures) (c .before .push-layer .ensures) .many)
+    let h = pushed (b .before .before .new .ensures _ (omega arith)) (b .define .ensures) (c .before .push-layer .ensures) in
+    record { rows = omega (arith, h .many); long = h .room .long }
 
 returns : tie.Need-returns
 returns c =
     let b = c .before .before .before in
-    c .define2 .ensures .held _ (pushed (b .before .before .new .ensures) (b .define .ensures) (c .before .before .push-layer .ensures))
+    c .define2 .ensures .held _ (pushed (b .before .before .new .ensures _ (omega arith)) (b .define .ensures) (c .before .before .push-layer .ensures))
 
 pub two-layers-spec : {M : Type 1} → statement M
 two-layers-spec =

@@ -1,4 +1,5 @@
 -- `take_row`.
+use native.Mathlib.Omega.{arith}
 use Rattle.work.specs.WorksLaws.{spacious}
 use Rattle.lists.proofs.RowsCase.{captured-long}
 use Rattle.lists.proofs.TakeCase.{take-small, take-room, take-given, takes}
@@ -20,7 +21,7 @@ is-near-requires : tie.Need-is-near-requires
 is-near-requires c κs = search needs
 
 taken-of-requires : tie.Need-taken-of-requires
-taken-of-requires c κs = take-small (c .before .before .before .before .before .before .before .before .before .before .before .pre)
+taken-of-requires c κs = omega (arith, take-small (c .before .before .before .before .before .before .before .before .before .before .before .pre))
 
 define-capture-requires : tie.Need-define-capture-requires
 define-capture-requires c κs =

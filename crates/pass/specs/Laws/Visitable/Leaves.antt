@@ -33,11 +33,13 @@ use Rattle.pass.specs.Laws.Visitable.Parts.{let-initials, initials-furth
 -- j records later
 reliable-on : {P : Ident → Type 0} {j n r : ℕ} {f : Flags} {s t : State} → Further j s t → Ample n r f s → j ≤ n → Sound P t → Reliable P t
 reliable-on p a e h = record {
-  rows = p .lengths .rows ∙ a .rows;
+  good = record {
+    rows = p .lengths .rows ∙ a .rows;
+    arguments = p .lengths .arguments ∙ a .arguments;
+    sound = h;
+    counted = counted-grow (omega (arith, a .few)) (p .counted (a .uses) (a .counted));
+  };
   captured = p .lengths .captured ∙ a .captured;
-  arguments = p .lengths .arguments ∙ a .arguments;
-  sound = h;
-  counted = counted-grow (omega (arith, a .few)) (p .counted (a .uses) (a .counted));
 }
 
 pub reliable : {P : Ident → Type 0} {i : ℕ} {t : Tree} {f : Flags} {s : State} → Visitable P i t f s → Reliable P s

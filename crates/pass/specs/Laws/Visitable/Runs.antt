@@ -53,11 +53,13 @@ module _ {P : Ident → Type 0} (small : (x : Ident) → P x → x .at < rowsMos
           deep = omega (arith, g .layers (w .deep));
           enters = record {
             reliable = record {
-              rows = p .lengths .rows ∙ r .rows;
+              good = record {
+                rows = p .lengths .rows ∙ r .good .rows;
+                arguments = p .lengths .arguments ∙ r .good .arguments;
+                sound = enter-tops-sound small classes us s (hold-first P us vs (w .holds)) (r .good .sound);
+                counted = counted-grow (omega arith) (p .counted usesMost (r .good .counted));
+              };
               captured = p .lengths .captured ∙ r .captured;
-              arguments = p .lengths .arguments ∙ r .arguments;
-              sound = enter-tops-sound small classes us s (hold-first P us vs (w .holds)) (r .sound);
-              counted = counted-grow (omega arith) (p .counted usesMost (r .counted));
             };
             room = record { live = omega (arith, many-⊕ us vs, g .live); layers = omega (arith, p .layers); captureLayers = omega (arith, p .captureLayers) };
           };
@@ -90,11 +92,11 @@ module _ {P : Ident → Type 0} (small : (x : Ident) → P x → x .at < rowsMos
           spread = spread classes ts n few;
           inside = few;
           holds = h;
-          sound = enter-tops-sound small classes us s h (r .sound);
+          sound = enter-tops-sound small classes us s h (r .good .sound);
           ample = record {
-            rows = q .lengths .rows ∙ r .rows;
+            rows = q .lengths .rows ∙ r .good .rows;
             captured = q .lengths .captured ∙ r .captured;
-            arguments = q .lengths .arguments ∙ r .arguments;
+            arguments = q .lengths .arguments ∙ r .good .arguments;
             uses = k;
             counted = counted-grow (omega arith) (q .counted k c);
             few = omega arith;
@@ -112,11 +114,13 @@ module _ {P : Ident → Type 0} (small : (x : Ident) → P x → x .at < rowsMos
     pub first-reliable : Reliable P (start noFacts)
     unfolding start noFacts
     first-reliable = record {
-      rows = length-replicate rowsMost Blank;
+      good = record {
+        rows = length-replicate rowsMost Blank;
+        arguments = length-replicate itemsMost noItem;
+        sound = sound-first small;
+        counted = counted-grow (omega arith) (each-first (counting .none 0) asking-nothing);
+      };
       captured = length-replicate itemsMost noItem;
-      arguments = length-replicate itemsMost noItem;
-      sound = sound-first small;
-      counted = counted-grow (omega arith) (each-first (counting .none 0) asking-nothing);
     }
 
     pub first-visitable : VisitableTops P 0 (sizes ts) (topLevel ts) (entered classes ts noFacts)
@@ -140,11 +144,13 @@ module _ {P : Ident → Type 0} (small : (x : Ident) → P x → x .at < rowsMos
     second-reliable =
         let r = first-reliable in
         record {
-          rows = fresh-lengths .rows ∙ r .rows;
+          good = record {
+            rows = fresh-lengths .rows ∙ r .good .rows;
+            arguments = fresh-lengths .arguments ∙ r .good .arguments;
+            sound = sound-next fresh-sound;
+            counted = counted-grow (omega arith) (each-next (counting .none (sizes ts)) (fresh-counted classes ts));
+          };
           captured = fresh-lengths .captured ∙ r .captured;
-          arguments = fresh-lengths .arguments ∙ r .arguments;
-          sound = sound-next fresh-sound;
-          counted = counted-grow (omega arith) (each-next (counting .none (sizes ts)) (fresh-counted classes ts));
         }
 
     -- where that noted no refusal 10

@@ -1,4 +1,4 @@
--- `get`: the search among the first i rows finds what the search among all does.
+-- `get`: the search among the first i rows finds what the search among all does, since the rows from the bound on do not have the name.
 use native.Mathlib.Omega.{arith}
 use borrow.Author.Needs.{needs}
 use Prim.Native.Nat.{ℕ, _-_, _≤_, _<_}
@@ -9,10 +9,11 @@ use lib.ListN.{length}
 use lib.Dec.{eqb}
 use Rattle.scope_map.specs.Rows.{rowAt, liveIn}
 use Rattle.scope_map.specs.RowLaws.{length-liveIn}
-use Rattle.scope_map.specs.Held.{foundIn}
+use Rattle.scope_map.specs.Held.{Held, Bounds, foundIn}
 use Rattle.scope_map.specs.declared.Found.the-variants.{At}
-use Rattle.scope_map.specs.HeldLaws.{gets}
-use Rattle.scope_map.proofs.Search.{Search, hits, misses, ends}
+use Rattle.scope_map.specs.HeldLaws.{mapOf, gets}
+use Rattle.scope_map.specs.declared.ScopeMap.{ScopeMap as Map}
+use Rattle.scope_map.proofs.Search.{Search, hits, misses, ends, from-bound}
 use Rattle.scope_map.proofs.ScopeMap.get.Statement.{statement}
 use Rattle.scope_map.proofs.ScopeMap.get.Tie as tie
 
@@ -26,11 +27,18 @@ unfolding find
 found t x i h e =
     hits (find x) t i h (eq-eqb _ _ e) ∙ ap (λ (k : ℕ). At k (rowAt t (i - 1) .layer) (rowAt t (i - 1) .value)) (length-liveIn t (i - 1))
 
+among-all : {m : Map} {t : List ℕ} {x r : ℕ} → Bounds m t x r → Held m t (mapOf m t) → foundIn (liveIn t r) x ≡ foundIn (liveIn t (m .length)) x
+unfolding find
+among-all {x = x} b k = from-bound (find x) _ (λ e h. ne-eqb _ _ h) b k
+
 abbrev Inv-loop : tie.InvT-loop
 Inv-loop t name i₀ i = (i ≤ i₀) × (foundIn (liveIn t i) name ≡ foundIn (liveIn t i₀) name)
 
 abbrev μ-loop : tie.MeasureT-loop
 μ-loop t name i₀ i = i
+
+bound-requires : tie.Need-bound-requires Inv-loop μ-loop
+bound-requires c κs = search needs
 
 loop-holds : tie.Need-loop-holds Inv-loop μ-loop
 loop-holds c = search needs
@@ -74,7 +82,7 @@ shared-slice-read-t19 c = search needs
 returns : tie.Need-returns Inv-loop μ-loop
 returns c =
     let l = c .before .before .before .before in
-    gets (sym (found _ _ _ (l .loop-test .taken) (c .before .before .if1 .taken)) ∙ l .before .loop .inv .1)
+    gets (λ k. sym (found _ _ _ (l .loop-test .taken) (c .before .before .if1 .taken)) ∙ l .before .loop .inv .1 ∙ among-all (l .before .before .bound .ensures) k)
 
 loop-less : tie.Need-loop-less Inv-loop μ-loop
 loop-less c = search needs
@@ -87,7 +95,7 @@ loop-again c =
 
 returns-2 : tie.Need-returns-2 Inv-loop μ-loop
 unfolding foundIn
-returns-2 c = gets (sym (ends (find _) _ _ (c .loop-test .left)) ∙ c .before .loop .inv .1)
+returns-2 c = gets (λ k. sym (ends (find _) _ _ (c .loop-test .left)) ∙ c .before .loop .inv .1 ∙ among-all (c .before .before .bound .ensures) k)
 
 pub get-spec : {M : Type 1} → statement M
 get-spec =
@@ -95,6 +103,7 @@ get-spec =
     (tie.spec
     Inv-loop
     μ-loop
+    bound-requires
     loop-holds
     sub-i
     mul-if1

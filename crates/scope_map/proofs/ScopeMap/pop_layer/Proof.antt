@@ -5,7 +5,7 @@ use Rattle.scope_map.proofs.ScopeMap.pop_layer.Statement.{statement}
 use Rattle.scope_map.proofs.ScopeMap.pop_layer.Tie as tie
 
 returns : tie.Need-returns
-returns c = pop-bottom (c .before .before .before .pre) (c .if1 .taken)
+returns c = pop-bottom (c .if1 .taken)
 
 newest-layer-requires : tie.Need-newest-layer-requires
 newest-layer-requires c κs = search needs
@@ -14,7 +14,7 @@ sub-t5 : tie.Need-sub-t5
 sub-t5 c = search needs
 
 returns-2 : tie.Need-returns-2
-returns-2 c = pop-newest (c .before .before .before .before .before .pre) _ (c .before .before .if1 .left) (c .before .newest-layer .ensures)
+returns-2 c = pop-newest _ (c .before .before .if1 .left) (c .before .newest-layer .ensures)
 
 pub pop-layer-spec : {M : Type 1} → statement M
 pop-layer-spec = tie.close (tie.spec returns newest-layer-requires sub-t5 returns-2)

@@ -10,7 +10,7 @@ add-t2 c = search needs
 
 returns : tie.Need-returns
 returns c = λ t. record {
-  held = λ s g. record { depth = omega (arith, g .depth); many = g .many; inside = g .inside; live = g .live };
+  held = λ s g. record { depth = omega (arith, g .depth); many = g .many; room = g .room; live = g .live; hinted = g .hinted };
   rest = refl;
 }
 

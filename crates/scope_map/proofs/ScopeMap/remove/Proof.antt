@@ -11,7 +11,7 @@ same-length : tie.Need-same-length
 same-length c = search needs
 
 returns : tie.Need-returns
-returns c = remove-none (c .before .place .ensures) (c .before .before .before .before .pre) (c .if1 .taken)
+returns c = remove-none (c .before .place .ensures) (c .if1 .taken)
 
 close-requires : tie.Need-close-requires
 close-requires c κs = search needs

@@ -32,37 +32,54 @@ returns c = rw (unknown _ (c .if1 .taken))
 wide-requires : tie.Need-wide-requires
 wide-requires c κs = search needs
 
-mul-result : tie.Need-mul-result
-mul-result c = search needs
+array-read-byte : tie.Need-array-read-byte
+array-read-byte c = search needs
 
-array-read-result : tie.Need-array-read-result
-array-read-result c = search needs
+byte-requires : tie.Need-byte-requires
+byte-requires c κs = search needs
 
-mul-result-2 : tie.Need-mul-result-2
-mul-result-2 c = search needs
+array-read-byte-2 : tie.Need-array-read-byte-2
+array-read-byte-2 c = search needs
 
-array-read-result-2 : tie.Need-array-read-result-2
-array-read-result-2 c = search needs
+byte-requires-2 : tie.Need-byte-requires-2
+byte-requires-2 c κs = search needs
 
 wide-requires-2 : tie.Need-wide-requires-2
 wide-requires-2 c κs = search needs
 
--- the product is at most twice the count
 module _ (c : tie.After-wide2) where
-  small : Right (c .before .wide .result)
-  small = rule (c .before .wide .result) (omega arith)
+  abbrev f : ℕ
+  f = c .before .before .before .wide .result
 
-  twice : getD counted (c .before .wide .result) 0 * c .wide2 .result ≤ 2 * c .wide2 .result
-  twice = mul-le-mul-right (c .wide2 .result) (small .1)
+  abbrev n : ℕ
+  n = c .wide2 .result
 
-mul-result-3 : tie.Need-mul-result-3
-mul-result-3 c = omega (arith, twice c)
+  here : Right f
+  here = rule f (omega arith)
+
+  least : c .before .before .byte .result ≡ getD fixed f 0
+  least = c .before .before .byte .ensures
+
+  each-one : c .before .byte2 .result ≡ getD counted f 0
+  each-one = c .before .byte2 .ensures
+
+  -- the product is at most twice the count
+  twice : c .before .byte2 .result * n ≤ 2 * n
+  twice = mul-le-mul-right n (omega (arith, here .1, each-one))
+
+mul-result : tie.Need-mul-result
+mul-result c = omega (arith, twice c)
 
 add-result : tie.Need-add-result
-add-result c = omega (arith, small c .0, twice c)
+add-result c = omega (arith, twice c, least c, here c .0)
 
 returns-2 : tie.Need-returns-2
-returns-2 c = small c .2 (c .wide2 .result) ∙ ap (childrenOf (c .before .wide .result)) (c .wide2 .ensures) ∙ ap (λ (f : ℕ). childrenOf f (c .before .before .before .args .count)) (c .before .wide .ensures)
+returns-2 c =
+    ap (λ (a : ℕ). a + c .before .byte2 .result * n c) (least c)
+    ∙ ap (λ (b : ℕ). getD fixed (f c) 0 + b * n c) (each-one c)
+    ∙ here c .2 (n c)
+    ∙ ap (childrenOf (f c)) (c .wide2 .ensures)
+    ∙ ap (λ (g : ℕ). childrenOf g (c .before .before .before .before .before .args .count)) (c .before .before .before .wide .ensures)
 
 pub children-spec : {M : Type 1} → statement M
 children-spec =
@@ -70,11 +87,11 @@ children-spec =
     (tie.spec
     returns
     wide-requires
-    mul-result
-    array-read-result
-    mul-result-2
-    array-read-result-2
+    array-read-byte
+    byte-requires
+    array-read-byte-2
+    byte-requires-2
     wide-requires-2
-    mul-result-3
+    mul-result
     add-result
     returns-2)

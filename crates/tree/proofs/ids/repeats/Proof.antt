@@ -1,7 +1,11 @@
--- `repeats`: an id that is not 0 and stands earlier.
+-- `repeats`: the id is compared along its bucket's chain, which the record then heads.
 use borrow.Author.Needs.{needs}
-use borrow.Author.Tests.{eq-eqb, ne-eqb}
-use mathlib.Core.Path.{_∙_}
+use borrow.Author.Tests.{eq-eqb}
+use native.Mathlib.Omega.{arith}
+use mathlib.Core.Bool.{true≢false}
+use mathlib.Core.Path.{_≡_, sym, _∙_}
+use Rattle.tree.proofs.Repeated.{again}
+use Rattle.tree.proofs.Chaining.{chains-skip, chain-begin, again-along, chains-add}
 use Rattle.tree.proofs.ids.repeats.Statement.{statement}
 use Rattle.tree.proofs.ids.repeats.Tie as tie
 
@@ -9,13 +13,81 @@ id-requires : tie.Need-id-requires
 id-requires c κs = search needs
 
 returns : tie.Need-returns
-returns c = rw (← c .before .id .ensures, eq-eqb _ _ (c .if1 .taken))
+returns c =
+    let s = c .before .before .before in
+    let e = c .before .id .ensures in
+    (rw (← e, eq-eqb _ _ (c .if1 .taken)), λ f. chains-skip (s .pre .1 .1) (sym e ∙ c .if1 .taken))
+
+bucket-requires : tie.Need-bucket-requires
+bucket-requires c κs = search needs
+
+mul-last : tie.Need-mul-last
+mul-last c = search needs
+
+element-copy-out-last : tie.Need-element-copy-out-last
+element-copy-out-last c = search needs
+
+link-requires : tie.Need-link-requires
+link-requires c κs = search needs
 
 stands-requires : tie.Need-stands-requires
-stands-requires c κs = search needs
+stands-requires c κs =
+    let d = c .before .before .before in
+    let s = d .before .before .before .before in
+    let n = d .before .if1 .left in
+    (s .pre .0, (n, chain-begin (s .pre .1 .1) (d .before .before .id .ensures) n (d .bucket .ensures .0) (c .link .ensures) (omega arith)))
+
+compared : (c : tie.After-stands) → let s = c .before .before .before .before .before .before .before .before in c .stands .result ≡ again (s .args .rs .now) (s .args .i)
+compared c =
+    let d = c .before .before .before .before in
+    let s = d .before .before .before .before in
+    again-along (s .pre .1 .1) (d .before .before .id .ensures) (d .before .if1 .left) (d .bucket .ensures .0) (c .before .link .ensures) (c .stands .ensures)
 
 returns-2 : tie.Need-returns-2
-returns-2 c = c .stands .ensures ∙ rw (← c .before .before .id .ensures, ne-eqb _ _ (c .before .if1 .left))
+returns-2 c = (sym (c .if2 .taken) ∙ compared (c .before), λ f. absurd (true≢false f))
+
+mul-before : tie.Need-mul-before
+mul-before c = search needs
+
+element-write-before : tie.Need-element-write-before
+element-write-before c = search needs
+
+add-newest : tie.Need-add-newest
+add-newest c = search needs
+
+cast-newest : tie.Need-cast-newest
+cast-newest c = search needs
+
+mul-newest : tie.Need-mul-newest
+mul-newest c = search needs
+
+element-write-newest : tie.Need-element-write-newest
+element-write-newest c = search needs
+
+returns-3 : tie.Need-returns-3
+returns-3 c =
+    let d = c .before .before .before .before .before in
+    let s = d .before .before .before .before in (
+      sym (c .if2 .left) ∙ compared (c .before),
+      λ f. chains-add (s .pre .1 .1) (d .before .before .id .ensures) (d .before .if1 .left) (d .bucket .ensures .0) (omega arith) (omega arith),
+    )
 
 pub repeats-spec : {M : Type 1} → statement M
-repeats-spec = tie.close (tie.spec id-requires returns stands-requires returns-2)
+repeats-spec =
+    tie.close
+    (tie.spec
+    id-requires
+    returns
+    bucket-requires
+    mul-last
+    element-copy-out-last
+    link-requires
+    stands-requires
+    returns-2
+    mul-before
+    element-write-before
+    add-newest
+    cast-newest
+    mul-newest
+    element-write-newest
+    returns-3)

@@ -1,25 +1,27 @@
--- `stands`: the ids are compared, latest first.
+-- `stands`: a walk along a chain, newest first.
 use borrow.Author.Needs.{needs}
 use native.Mathlib.Omega.{arith}
-use Prim.Native.Nat.{_≤_}
-use mathlib.Core.Path.{_≡_, sym, _∙_}
+use Prim.Native.Nat.{suc, _-_}
+use mathlib.Core.Path.{_≡_, refl, sym, _∙_}
 use Rattle.tree.specs.Check.{member}
 use Rattle.tree.specs.Seen.{seen}
-use Rattle.tree.proofs.Repeated.{stands-hit, stands-miss, stands-none}
+use Rattle.tree.specs.Chain.{bucketOf, Chain}
+use Rattle.tree.proofs.Repeated.{seen-hit, seen-none}
+use Rattle.tree.proofs.Chaining.{chain-less, chain-next, chain-miss}
 use Rattle.tree.proofs.ids.stands.Statement.{statement}
 use Rattle.tree.proofs.ids.stands.Tie as tie
 
 abbrev Inv-loop : tie.InvT-loop
-Inv-loop rs n id i₀ i = (i ≤ n) × (member id (seen rs n) ≡ member id (seen rs i))
+Inv-loop rs before last id p₀ p = Chain rs before (bucketOf id) p × (member id (seen rs last) ≡ member id (seen rs p))
 
 abbrev μ-loop : tie.MeasureT-loop
-μ-loop rs n id i₀ i = i
+μ-loop rs before last id p₀ p = p
 
 loop-holds : tie.Need-loop-holds Inv-loop μ-loop
-loop-holds c = search needs
+loop-holds c = (c .before .pre .1 .1, refl)
 
-sub-i : tie.Need-sub-i Inv-loop μ-loop
-sub-i c = search needs
+sub-p : tie.Need-sub-p Inv-loop μ-loop
+sub-p c = search needs
 
 id-requires : tie.Need-id-requires Inv-loop μ-loop
 id-requires c κs = omega arith
@@ -27,20 +29,50 @@ id-requires c κs = omega arith
 returns : tie.Need-returns Inv-loop μ-loop
 returns c =
     let l = c .before .before .before .loop in
-    sym (l .inv .1 ∙ stands-hit _ _ (l .i) _ (c .before .before .loop-test .taken) (c .before .id .ensures) (c .if1 .taken))
+    let s : l .p ≡ suc (l .p - 1) = omega arith in
+    sym (l .inv .1 ∙ seen-hit _ _ s (sym (c .before .id .ensures) ∙ c .if1 .taken))
+
+mul-link : tie.Need-mul-link Inv-loop μ-loop
+mul-link c = omega arith
+
+element-copy-out-link : tie.Need-element-copy-out-link Inv-loop μ-loop
+element-copy-out-link c = omega arith
+
+link-requires : tie.Need-link-requires Inv-loop μ-loop
+link-requires c κs = search needs
 
 loop-less : tie.Need-loop-less Inv-loop μ-loop
-loop-less c = omega arith
+loop-less c = chain-less (c .before .before .before .before .before .loop .inv .0) (c .before .before .before .before .loop-test .taken) (c .link .ensures)
 
 loop-again : tie.Need-loop-again Inv-loop μ-loop
 loop-again c =
-    let l = c .before .before .before .loop in
-    (omega arith, l .inv .1 ∙ stands-miss _ _ (l .i) _ (c .before .before .loop-test .taken) (c .before .id .ensures) (c .if1 .left))
+    let t = c .before .before .before .before in
+    let l = t .before .loop in
+    let h = t .loop-test .taken in
+    let e = c .link .ensures in (
+      chain-next (l .inv .0) h e,
+      l .inv .1 ∙ chain-miss (l .inv .0) h e _ (t .before .before .before .pre .1 .0) refl (λ m. c .before .before .if1 .left (c .before .before .before .id .ensures ∙ m)),
+    )
 
 returns-2 : tie.Need-returns-2 Inv-loop μ-loop
-returns-2 c = sym (c .before .loop .inv .1 ∙ stands-none _ _ _ (c .loop-test .left))
+returns-2 c =
+    let l = c .before .loop in
+    let z : l .p ≡ 0 = omega arith in
+    sym (l .inv .1 ∙ seen-none _ _ z)
 
 pub stands-spec : {M : Type 1} → statement M
 stands-spec =
     tie.close
-    (tie.spec Inv-loop μ-loop loop-holds sub-i id-requires returns loop-less loop-again returns-2)
+    (tie.spec
+    Inv-loop
+    μ-loop
+    loop-holds
+    sub-p
+    id-requires
+    returns
+    mul-link
+    element-copy-out-link
+    link-requires
+    loop-less
+    loop-again
+    returns-2)

@@ -19,7 +19,7 @@ same-length c = search needs
 returns : tie.Need-returns
 returns c =
     let o = c .before .before .before .before .before .before .before .before .before .before .before in
-    defines-capture (o .pre .0) (o .pre .1) (c .before .before .before .before .before .before .before .before .capture-place .ensures)
+    defines-capture (o .pre .0) (o .pre .1) (o .pre .3) (c .before .before .before .before .before .before .before .before .capture-place .ensures)
     (c .before .before .before .before .before .before .define-row .ensures) (c .before .before .put-taken .ensures)
 
 pub define-capture-spec : {M : Type 1} → statement M

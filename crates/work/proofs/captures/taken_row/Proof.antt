@@ -7,18 +7,24 @@ use borrow.Author.Needs.{needs}
 use Rattle.work.proofs.captures.taken_row.Statement.{statement}
 use Rattle.work.proofs.captures.taken_row.Tie as tie
 
-mul-t2 : tie.Need-mul-t2
-mul-t2 c = search needs
+mul-rest : tie.Need-mul-rest
+mul-rest c = search needs
 
-cast-t3 : tie.Need-cast-t3
-cast-t3 c = search needs
+cast-rest : tie.Need-cast-rest
+cast-rest c = search needs
+
+add-rest : tie.Need-add-rest
+add-rest c = omega (arith, bit-low (c .before .before .args .t .enclosing))
+
+mul-t3 : tie.Need-mul-t3
+mul-t3 c = omega (arith, bit-low (c .before .before .args .t .enclosing))
 
 add-t4 : tie.Need-add-t4
-add-t4 c = omega (arith, bit-low (c .before .before .args .t .enclosing))
+add-t4 c = omega (arith, bit-low (c .before .before .before .args .t .enclosing))
 
 returns : tie.Need-returns
 unfolding putTaken
 returns c = refl
 
 pub taken-row-spec : {M : Type 1} → statement M
-taken-row-spec = tie.close (tie.spec mul-t2 cast-t3 add-t4 returns)
+taken-row-spec = tie.close (tie.spec mul-rest cast-rest add-rest mul-t3 add-t4 returns)

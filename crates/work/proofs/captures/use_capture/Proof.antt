@@ -1,4 +1,4 @@
--- `use_capture`: the third number of a row grows by two.
+-- `use_capture`: the uses in the second number of a row grow by one.
 use Rattle.work.proofs.CaptureCase.{uses-capture}
 use borrow.Author.Needs.{needs}
 use Rattle.work.proofs.captures.use_capture.Statement.{statement}
@@ -19,11 +19,14 @@ mul-work c = search needs
 slice-read-work : tie.Need-slice-read-work
 slice-read-work c = search needs
 
+mul-work-2 : tie.Need-mul-work-2
+mul-work-2 c = search needs
+
 add-work : tie.Need-add-work
 add-work c = search needs
 
-mul-work-2 : tie.Need-mul-work-2
-mul-work-2 c = search needs
+mul-work-3 : tie.Need-mul-work-3
+mul-work-3 c = search needs
 
 slice-write-work : tie.Need-slice-write-work
 slice-write-work c = search needs
@@ -43,8 +46,9 @@ use-capture-spec =
     add-i-2
     mul-work
     slice-read-work
-    add-work
     mul-work-2
+    add-work
+    mul-work-3
     slice-write-work
     same-length
     returns)

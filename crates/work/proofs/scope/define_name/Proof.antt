@@ -1,5 +1,5 @@
 -- `define_name`: the map of records has the name, and the rest of the table stays.
-use Rattle.work.proofs.ScopeCase.{names-length, defines}
+use Rattle.work.proofs.ScopeCase.{names-length, names-room, defines}
 use native.Mathlib.Omega.{arith}
 use borrow.Author.Needs.{needs}
 use Rattle.work.proofs.scope.define_name.Statement.{statement}
@@ -15,7 +15,9 @@ slice-aggregate-define : tie.Need-slice-aggregate-define
 slice-aggregate-define c = names-length (c .before .before .before .before .pre .0)
 
 define-requires : tie.Need-define-requires
-define-requires c κs = omega (arith, names-length (c .before .before .before .before .pre .0), c .before .before .before .before .pre .1)
+define-requires c κs =
+    let o = c .before .before .before .before in
+    record { rows = omega (arith, o .pre .1); long = names-room (o .pre .0) .long }
 
 same-length : tie.Need-same-length
 same-length c = search needs

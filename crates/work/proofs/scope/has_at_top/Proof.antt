@@ -1,5 +1,5 @@
 -- `has_at_top`: as the map of records tells.
-use Rattle.work.proofs.ScopeCase.{names-length, names-inside, top-told}
+use Rattle.work.proofs.ScopeCase.{names-length, names-room, top-told}
 use Rattle.work.proofs.scope.has_at_top.Statement.{statement}
 use Rattle.work.proofs.scope.has_at_top.Tie as tie
 
@@ -7,7 +7,7 @@ slice-aggregate-contains-key-at-top : tie.Need-slice-aggregate-contains-key-at-t
 slice-aggregate-contains-key-at-top c = names-length (c .before .before .before .pre)
 
 contains-key-at-top-requires : tie.Need-contains-key-at-top-requires
-contains-key-at-top-requires c κs = names-inside (c .before .before .before .pre)
+contains-key-at-top-requires c κs = names-room (c .before .before .before .pre)
 
 returns : tie.Need-returns
 returns c = top-told _ (c .contains-key-at-top .ensures)

@@ -1,5 +1,5 @@
 -- `newest`: the value found, or none.
-use Rattle.work.proofs.ScopeCase.{names-length, names-inside, newest-none, newest-some}
+use Rattle.work.proofs.ScopeCase.{names-length, names-room, newest-none, newest-some}
 use borrow.Author.Needs.{needs}
 use Rattle.work.proofs.scope.newest.Statement.{statement}
 use Rattle.work.proofs.scope.newest.Tie as tie
@@ -8,7 +8,7 @@ slice-aggregate-get : tie.Need-slice-aggregate-get
 slice-aggregate-get c = names-length (c .before .before .before .pre)
 
 get-requires : tie.Need-get-requires
-get-requires c κs = names-inside (c .before .before .before .pre)
+get-requires c κs = names-room (c .before .before .before .pre)
 
 enum-known-found : tie.Need-enum-known-found
 enum-known-found c = search needs

@@ -1,5 +1,5 @@
 -- `newest_layer`: the first row of the map of records.
-use Rattle.work.proofs.ScopeCase.{names-length, names-inside, layer-starts}
+use Rattle.work.proofs.ScopeCase.{names-length, names-room, layer-starts}
 use Rattle.work.proofs.scope.newest_layer.Statement.{statement}
 use Rattle.work.proofs.scope.newest_layer.Tie as tie
 
@@ -7,7 +7,7 @@ slice-aggregate-newest-layer : tie.Need-slice-aggregate-newest-layer
 slice-aggregate-newest-layer c = names-length (c .before .before .before .pre)
 
 newest-layer-requires : tie.Need-newest-layer-requires
-newest-layer-requires c κs = names-inside (c .before .before .before .pre)
+newest-layer-requires c κs = names-room (c .before .before .before .pre)
 
 returns : tie.Need-returns
 returns c = layer-starts (c .newest-layer .ensures)

@@ -2,7 +2,7 @@
 use Rattle.scope_map.specs.ScopeMap.{remove}
 use Rattle.scope_map.specs.MapLaws.{map-remove}
 use Rattle.work.specs.Works.{recordAt}
-use Rattle.work.proofs.ScopeCase.{names-length, names-inside, names-replaced}
+use Rattle.work.proofs.ScopeCase.{names-length, names-room, names-replaced}
 use borrow.Author.Needs.{needs}
 use Rattle.work.proofs.scope.remove_name.Statement.{statement}
 use Rattle.work.proofs.scope.remove_name.Tie as tie
@@ -14,7 +14,7 @@ slice-aggregate-remove : tie.Need-slice-aggregate-remove
 slice-aggregate-remove c = names-length (c .before .before .before .pre)
 
 remove-requires : tie.Need-remove-requires
-remove-requires c κs = names-inside (c .before .before .before .pre)
+remove-requires c κs = names-room (c .before .before .before .pre)
 
 same-length : tie.Need-same-length
 same-length c = search needs

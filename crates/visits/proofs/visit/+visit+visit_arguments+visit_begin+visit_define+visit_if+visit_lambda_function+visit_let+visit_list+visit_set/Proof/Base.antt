@@ -30,15 +30,8 @@ use Rattle.visits.proofs.visit.+visit+visit_arguments+visit_begin+visit
 use Rattle.visits.proofs.visit.visit_set.Reads as visit-set
 use Rattle.visits.proofs.visit.visit_set.Kinds as visit-set-kinds
 use Rattle.visits.proofs.visit.+visit+visit_arguments+visit_begin+visit_define+visit_if+visit_lambda_function+visit_let+visit_list+visit_set.Lts-visit_set as visit-set-lts
-use Rattle.forms.proofs.flags.Flags.argument.Reads as argument-reads
-use Rattle.forms.proofs.flags.Flags.body.Reads as body-reads
-use Rattle.forms.proofs.flags.Flags.child.Reads as child-reads
-use Rattle.forms.proofs.flags.Flags.define_body.Reads as define-body-reads
-use Rattle.forms.proofs.flags.Flags.head.Reads as head-reads
-use Rattle.forms.proofs.flags.Flags.let_body.Reads as let-body-reads
-use Rattle.forms.proofs.flags.Flags.not_tail.Reads as not-tail-reads
-use Rattle.forms.proofs.flags.Flags.pushed.Reads as pushed-reads
-use Rattle.forms.proofs.flags.Flags.same_tail.Reads as same-tail-reads
+use Rattle.flags.proofs.by_value.part.Reads as part-reads
+use Rattle.flags.proofs.by_value.parts.Reads as parts-reads
 use Rattle.table.proofs.wide.Reads as wide-reads
 use Rattle.tree.proofs.record.count.Reads as count-reads
 use Rattle.tree.proofs.record.form.Reads as form-reads
@@ -180,25 +173,25 @@ abbrev pub visit-calls : ℕ → visit-lts.Claims
 visit-calls t = (form-reads.Asked, form-reads.Learnt, read-reads.Asked, read-reads.Learnt, visit-if-below t, visit-if.Post, visit-let-below t, visit-let.Post, visit-define-below t, visit-define.Post, visit-lambda-function-below t, visit-lambda-function.Post, visit-begin-below t, visit-begin.Post, visit-list-below t, visit-list.Post, visit-set-below t, visit-set.Post)
 
 abbrev pub visit-arguments-calls : ℕ → visit-arguments-lts.Claims
-visit-arguments-calls t = (visit-below t, visit.Post, pushed-reads.Asked, pushed-reads.Learnt)
+visit-arguments-calls t = (visit-below t, visit.Post, part-reads.Asked, part-reads.Learnt)
 
 abbrev pub visit-begin-calls : ℕ → visit-begin-lts.Claims
-visit-begin-calls t = (count-reads.Asked, count-reads.Learnt, wide-reads.Asked, wide-reads.Learnt, enter-children-reads.Asked, enter-children-reads.Learnt, child-reads.Asked, child-reads.Learnt, visit-below t, visit.Post)
+visit-begin-calls t = (count-reads.Asked, count-reads.Learnt, wide-reads.Asked, wide-reads.Learnt, enter-children-reads.Asked, enter-children-reads.Learnt, part-reads.Asked, part-reads.Learnt, visit-below t, visit.Post)
 
 abbrev pub visit-define-calls : ℕ → visit-define-lts.Claims
-visit-define-calls t = (body-at-reads.Asked, body-at-reads.Learnt, before-define-reads.Asked, before-define-reads.Learnt, define-body-reads.Asked, define-body-reads.Learnt, visit-below t, visit.Post, after-define-reads.Asked, after-define-reads.Learnt)
+visit-define-calls t = (body-at-reads.Asked, body-at-reads.Learnt, before-define-reads.Asked, before-define-reads.Learnt, part-reads.Asked, part-reads.Learnt, visit-below t, visit.Post, after-define-reads.Asked, after-define-reads.Learnt)
 
 abbrev pub visit-if-calls : ℕ → visit-if-lts.Claims
-visit-if-calls t = (not-tail-reads.Asked, not-tail-reads.Learnt, visit-below t, visit.Post, same-tail-reads.Asked, same-tail-reads.Learnt)
+visit-if-calls t = (parts-reads.Asked, parts-reads.Learnt, visit-below t, visit.Post)
 
 abbrev pub visit-lambda-function-calls : ℕ → visit-lambda-function-lts.Claims
-visit-lambda-function-calls t = (count-reads.Asked, count-reads.Learnt, wide-reads.Asked, wide-reads.Learnt, enter-lambda-reads.Asked, enter-lambda-reads.Learnt, id-reads.Asked, id-reads.Learnt, body-reads.Asked, body-reads.Learnt, visit-below t, visit.Post, holds-lambda-reads.Asked, holds-lambda-reads.Learnt, leave-lambda-reads.Asked, leave-lambda-reads.Learnt)
+visit-lambda-function-calls t = (count-reads.Asked, count-reads.Learnt, wide-reads.Asked, wide-reads.Learnt, enter-lambda-reads.Asked, enter-lambda-reads.Learnt, id-reads.Asked, id-reads.Learnt, part-reads.Asked, part-reads.Learnt, visit-below t, visit.Post, holds-lambda-reads.Asked, holds-lambda-reads.Learnt, leave-lambda-reads.Asked, leave-lambda-reads.Learnt)
 
 abbrev pub visit-let-calls : ℕ → visit-let-lts.Claims
-visit-let-calls t = (count-reads.Asked, count-reads.Learnt, wide-reads.Asked, wide-reads.Learnt, depth-reads.Asked, depth-reads.Learnt, not-tail-reads.Asked, not-tail-reads.Learnt, with-context-reads.Asked, with-context-reads.Learnt, visit-arguments-below t, visit-arguments.Post, enter-let-reads.Asked, enter-let-reads.Learnt, let-body-reads.Asked, let-body-reads.Learnt, visit-below t, visit.Post, leave-let-reads.Asked, leave-let-reads.Learnt)
+visit-let-calls t = (count-reads.Asked, count-reads.Learnt, wide-reads.Asked, wide-reads.Learnt, depth-reads.Asked, depth-reads.Learnt, parts-reads.Asked, parts-reads.Learnt, with-context-reads.Asked, with-context-reads.Learnt, visit-arguments-below t, visit-arguments.Post, enter-let-reads.Asked, enter-let-reads.Learnt, visit-below t, visit.Post, leave-let-reads.Asked, leave-let-reads.Learnt)
 
 abbrev pub visit-list-calls : ℕ → visit-list-lts.Claims
-visit-list-calls t = (count-reads.Asked, count-reads.Learnt, wide-reads.Asked, wide-reads.Learnt, extent-at-reads.Asked, extent-at-reads.Learnt, argument-reads.Asked, argument-reads.Learnt, visit-arguments-below t, visit-arguments.Post, form-reads.Asked, form-reads.Learnt, narrow-reads.Asked, narrow-reads.Learnt, head-reads.Asked, head-reads.Learnt, visit-below t, visit.Post, end-call-reads.Asked, end-call-reads.Learnt)
+visit-list-calls t = (count-reads.Asked, count-reads.Learnt, wide-reads.Asked, wide-reads.Learnt, extent-at-reads.Asked, extent-at-reads.Learnt, form-reads.Asked, form-reads.Learnt, narrow-reads.Asked, narrow-reads.Learnt, parts-reads.Asked, parts-reads.Learnt, visit-arguments-below t, visit-arguments.Post, visit-below t, visit.Post, end-call-reads.Asked, end-call-reads.Learnt)
 
 abbrev pub visit-set-calls : ℕ → visit-set-lts.Claims
-visit-set-calls t = (clear-context-reads.Asked, clear-context-reads.Learnt, not-tail-reads.Asked, not-tail-reads.Learnt, visit-below t, visit.Post, name-reads.Asked, name-reads.Learnt, mutate-reads.Asked, mutate-reads.Learnt, read-reads.Asked, read-reads.Learnt)
+visit-set-calls t = (clear-context-reads.Asked, clear-context-reads.Learnt, part-reads.Asked, part-reads.Learnt, visit-below t, visit.Post, name-reads.Asked, name-reads.Learnt, mutate-reads.Asked, mutate-reads.Learnt, read-reads.Asked, read-reads.Learnt)

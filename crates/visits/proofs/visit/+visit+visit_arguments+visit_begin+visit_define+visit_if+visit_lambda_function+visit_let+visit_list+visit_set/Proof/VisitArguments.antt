@@ -75,8 +75,8 @@ module _ (t : ℕ) where
         .before .before .before .before .before .before .before .before .visit) .ensures),
   )
 
-  pub pushed-requires : lts.Need-pushed-requires (visit-arguments-calls t) (visit-arguments-at t) reads.Post Inv-loop μ-loop
-  pushed-requires c κs = next-height (here (c .before .before .before .before .before .before .before .before .before .before .before .before .before .before
+  pub part-requires : lts.Need-part-requires (visit-arguments-calls t) (visit-arguments-at t) reads.Post Inv-loop μ-loop
+  part-requires c κs = next-height (here (c .before .before .before .before .before .before .before .before .before .before .before .before .before .before
       .before .before))
 
   pub add-i : lts.Need-add-i (visit-arguments-calls t) (visit-arguments-at t) reads.Post Inv-loop μ-loop
@@ -118,7 +118,7 @@ module _ (t : ℕ) where
               .before .before .before .before .before .before .loop-test) .taken,
         ))) (part ((c .before .before .before .before .before .before .before .before .before
             .before .before .before .before .before .before .before .before .before .before .before .before .before .before .before .before .before) .args .rs
-            .now) (6 * l .used)) ((c .before .before .before .before .before .before .before .before .before .before .before .visit) .ensures) ((c .pushed)
+            .now) (6 * l .used)) ((c .before .before .before .before .before .before .before .before .before .before .before .visit) .ensures) ((c .part)
             .ensures)),
       )
 

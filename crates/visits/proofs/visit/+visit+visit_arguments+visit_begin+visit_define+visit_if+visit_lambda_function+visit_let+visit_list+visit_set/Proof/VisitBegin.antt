@@ -74,7 +74,7 @@ module _ (t : ℕ) where
       let b = turning c in
       let e = last-of (b .loop .i) (counted b .wide .result) (testing c .loop-test .taken) in
       let d = part (begun b .args .rs .now) (6 * b .loop .used) in
-      one-less (next l (more (testing c))) d e (c .before .before .before .before .before .child .ensures) (c .visit .ensures)
+      one-less (next l (more (testing c))) d e (c .before .before .before .before .before .part .ensures) (c .visit .ensures)
 
   room : (c : lts.In-loop (visit-begin-calls t) (visit-begin-at t) reads.Post Inv-loop μ-loop) → let b = c .before in let a = begun b .args in
       Room (a .rs .now) (a .at) (b .loop .used)
@@ -100,6 +100,9 @@ module _ (t : ℕ) where
   pub mul-start : lts.Need-mul-start (visit-begin-calls t) (visit-begin-at t) reads.Post Inv-loop μ-loop
   mul-start c = omega (arith, room c)
 
+  pub add-last : lts.Need-add-last (visit-begin-calls t) (visit-begin-at t) reads.Post Inv-loop μ-loop
+  add-last c = search needs
+
   pub mul-visit : lts.Need-mul-visit (visit-begin-calls t) (visit-begin-at t) reads.Post Inv-loop μ-loop
   mul-visit c = omega (arith, room c)
 
@@ -115,11 +118,8 @@ module _ (t : ℕ) where
   pub add-visit : lts.Need-add-visit (visit-begin-calls t) (visit-begin-at t) reads.Post Inv-loop μ-loop
   add-visit c = omega (arith, room (c .before))
 
-  pub add-child : lts.Need-add-child (visit-begin-calls t) (visit-begin-at t) reads.Post Inv-loop μ-loop
-  add-child c = search needs
-
-  pub child-requires : lts.Need-child-requires (visit-begin-calls t) (visit-begin-at t) reads.Post Inv-loop μ-loop
-  child-requires c κs = search needs
+  pub part-requires : lts.Need-part-requires (visit-begin-calls t) (visit-begin-at t) reads.Post Inv-loop μ-loop
+  part-requires c κs = search needs
 
   pub visit-requires : lts.Need-visit-requires (visit-begin-calls t) (visit-begin-at t) reads.Post Inv-loop μ-loop
   visit-requires c κs =
@@ -130,7 +130,7 @@ module _ (t : ℕ) where
       let m = more (c .before .before .before .before .before .before) in
       let e = last-of (b .loop .i) (counted b .wide .result) (c .before .before .before .before .before .before .loop-test .taken) in (
         omega (arith, o .pre .0, b .loop .inv .1, room (c .before .before .before .before .before .before), part-length rs (6 * u)),
-        next-fits (next (now b (o .pre .1 .0)) m) (part rs (6 * u)) e (c .before .before .before .before .child .ensures),
+        next-fits (next (now b (o .pre .1 .0)) m) (part rs (6 * u)) e (c .before .before .before .before .part .ensures),
       )
 
   pub add-used : lts.Need-add-used (visit-begin-calls t) (visit-begin-at t) reads.Post Inv-loop μ-loop

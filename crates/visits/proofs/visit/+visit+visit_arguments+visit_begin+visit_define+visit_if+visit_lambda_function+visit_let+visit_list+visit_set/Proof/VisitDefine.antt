@@ -25,13 +25,13 @@ module _ (t : ℕ) where
   to-body-at c = c .before .before .before
 
   abbrev to-before-define :
-      lts.After-define-body (visit-define-calls t) (visit-define-at t) reads.Post →
+      lts.After-part (visit-define-calls t) (visit-define-at t) reads.Post →
       lts.After-before-define (visit-define-calls t) (visit-define-at t) reads.Post
   to-before-define c = c .before .before .before .before .before .before
 
   abbrev to-define-body :
       lts.After-visit (visit-define-calls t) (visit-define-at t) reads.Post →
-      lts.After-define-body (visit-define-calls t) (visit-define-at t) reads.Post
+      lts.After-part (visit-define-calls t) (visit-define-at t) reads.Post
   to-define-body c = c .before .before .before .before .before
 
   abbrev to-visit :
@@ -59,7 +59,7 @@ module _ (t : ℕ) where
       let before-define = to-before-define define-body in
       let body-at = to-body-at before-define in
       let start = to-start body-at in
-      define-done (start .pre .1 .1) (body-at .body-at .ensures) (before-define .before-define .ensures) (define-body .define-body .ensures)
+      define-done (start .pre .1 .1) (body-at .body-at .ensures) (before-define .before-define .ensures) (define-body .part .ensures)
       (part (start .args .rs .now) 12) (visit .visit .ensures) (c .after-define .ensures)
 
   pub add-body-at : lts.Need-add-body-at (visit-define-calls t) (visit-define-at t) reads.Post
@@ -100,8 +100,8 @@ module _ (t : ℕ) where
       let start = to-start body-at in
       omega (arith, first start, bounds.whole (start .pre .1 .0))
 
-  pub define-body-requires : lts.Need-define-body-requires (visit-define-calls t) (visit-define-at t) reads.Post
-  define-body-requires c κs = search needs
+  pub part-requires : lts.Need-part-requires (visit-define-calls t) (visit-define-at t) reads.Post
+  part-requires c κs = search needs
 
   pub visit-requires : lts.Need-visit-requires (visit-define-calls t) (visit-define-at t) reads.Post
   visit-requires c κs =
@@ -112,7 +112,7 @@ module _ (t : ℕ) where
       let rs = start .args .rs .now in
       let x = start .pre .1 .0 in (
         omega (arith, start .pre .0, first start, bounds.whole x, part-length rs 12),
-        body-fits (start .pre .1 .1) (body-at .body-at .ensures) (before-define .before-define .ensures) (define-body .define-body .ensures) (part rs 12) x,
+        body-fits (start .pre .1 .1) (body-at .body-at .ensures) (before-define .before-define .ensures) (define-body .part .ensures) (part rs 12) x,
       )
 
   pub after-define-requires : lts.Need-after-define-requires (visit-define-calls t) (visit-define-at t) reads.Post
@@ -122,7 +122,7 @@ module _ (t : ℕ) where
       let before-define = to-before-define define-body in
       let body-at = to-body-at before-define in
       let start = to-start body-at in
-      ends-fit (start .pre .1 .1) (body-at .body-at .ensures) (before-define .before-define .ensures) (define-body .define-body .ensures)
+      ends-fit (start .pre .1 .1) (body-at .body-at .ensures) (before-define .before-define .ensures) (define-body .part .ensures)
       (part (start .args .rs .now) 12) (visit .visit .ensures) (start .pre .1 .0)
 
   pub add-t15 : lts.Need-add-t15 (visit-define-calls t) (visit-define-at t) reads.Post

@@ -9,8 +9,8 @@ use Rattle.tree.specs.Tree.{size}
 use Rattle.tree.specs.StandsLaws.{tree-few}
 use Rattle.table.specs.Part.{part-is, part-length}
 use Rattle.work.specs.Tied.{raw}
-use Rattle.forms.specs.Flags.{HandsBody}
-use Rattle.forms.specs.declared.flags.Flags.{Flags as Coded}
+use Rattle.flags.specs.Flags.{HandsBody}
+use Rattle.flags.specs.declared.Flags.{Flags as Coded}
 use Rattle.visits.specs.Contract.{Done}
 use Rattle.visits.proofs.Bounds as bounds
 use Rattle.visits.proofs.LambdaCase.{lambda-long, lambda-fits, body-fits, body-stands, end-fit, lambda-done}
@@ -42,13 +42,13 @@ module _ (t : ℕ) where
   to-enter-lambda c = c .before .before .before .before .before .before .before .before
 
   abbrev to-id :
-      lts.After-body (visit-lambda-function-calls t) (visit-lambda-function-at t) reads.Post →
+      lts.After-part (visit-lambda-function-calls t) (visit-lambda-function-at t) reads.Post →
       lts.After-id (visit-lambda-function-calls t) (visit-lambda-function-at t) reads.Post
   to-id c = c .before
 
   abbrev to-body :
       lts.After-visit (visit-lambda-function-calls t) (visit-lambda-function-at t) reads.Post →
-      lts.After-body (visit-lambda-function-calls t) (visit-lambda-function-at t) reads.Post
+      lts.After-part (visit-lambda-function-calls t) (visit-lambda-function-at t) reads.Post
   to-body c = c .before .before .before .before .before
 
   abbrev to-visit :
@@ -85,18 +85,18 @@ module _ (t : ℕ) where
       let start = to-start count in
       lambda-long (start .pre .1 .1) (tells c) (start .pre .1 .0)
 
-  handed : (c : lts.After-body (visit-lambda-function-calls t) (visit-lambda-function-at t) reads.Post) →
+  handed : (c : lts.After-part (visit-lambda-function-calls t) (visit-lambda-function-at t) reads.Post) →
       let id = to-id c in
       let enter-lambda = to-enter-lambda id in
       let wide = to-wide enter-lambda in
       let count = to-count wide in
       let start = to-start count in
-      HandsBody (start .args .f) (start .args .at) (nth (start .args .all .now) (start .args .at) .id) (wide .wide .result) (c .body .result)
+      HandsBody (start .args .f) (start .args .at) (nth (start .args .all .now) (start .args .at) .id) (wide .wide .result) (c .part .result)
   handed c =
       let id = to-id c in
       let enter-lambda = to-enter-lambda id in
       let wide = to-wide enter-lambda in
-      hands (id .id .ensures) (wide .wide .ensures) (c .body .ensures)
+      hands (id .id .ensures) (wide .wide .ensures) (c .part .ensures)
 
   done : (c : lts.After-leave-lambda (visit-lambda-function-calls t) (visit-lambda-function-at t) reads.Post) →
       let holds-lambda = to-holds-lambda c in
@@ -195,8 +195,8 @@ module _ (t : ℕ) where
       let start = to-start count in
       omega (arith, bounds.whole (start .pre .1 .0), bounds.some (start .pre .1 .0))
 
-  pub body-requires : lts.Need-body-requires (visit-lambda-function-calls t) (visit-lambda-function-at t) reads.Post
-  body-requires c κs =
+  pub part-requires : lts.Need-part-requires (visit-lambda-function-calls t) (visit-lambda-function-at t) reads.Post
+  part-requires c κs =
       let enter-lambda = to-enter-lambda c in
       let wide = to-wide enter-lambda in
       let count = to-count wide in

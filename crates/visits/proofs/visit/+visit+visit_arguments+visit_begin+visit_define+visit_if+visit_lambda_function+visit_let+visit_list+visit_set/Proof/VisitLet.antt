@@ -6,6 +6,7 @@ use Rattle.tree.specs.StandsLaws.{root}
 use Rattle.table.specs.Part.{part, part-length}
 use Rattle.visits.proofs.Bounds.{Span, used}
 use Rattle.visits.proofs.LetCalls as calls
+use Rattle.visits.proofs.LetCase.{let-long}
 use borrow.Author.Needs.{needs}
 use native.Mathlib.Omega.{arith}
 use Rattle.visits.proofs.visit.+visit+visit_arguments+visit_begin+visit_define+visit_if+visit_lambda_function+visit_let+visit_list+visit_set.Lts-visit_let as lts
@@ -27,6 +28,10 @@ module _ (t : ℕ) where
       → lts.After-depth (visit-let-calls t) (visit-let-at t) reads.Post
   deep c = c .before .before .before
 
+  abbrev handed : lts.After-with-context (visit-let-calls t) (visit-let-at t) reads.Post
+      → lts.After-parts (visit-let-calls t) (visit-let-at t) reads.Post
+  handed c = c .before .before
+
   abbrev cleared : lts.After-visit-arguments (visit-let-calls t) (visit-let-at t) reads.Post
       → lts.After-with-context (visit-let-calls t) (visit-let-at t) reads.Post
   cleared c = c .before .before .before .before .before
@@ -39,13 +44,9 @@ module _ (t : ℕ) where
       → lts.After-with-context2 (visit-let-calls t) (visit-let-at t) reads.Post
   restored c = c .before .before .before .before .before
 
-  abbrev entered : lts.After-let-body (visit-let-calls t) (visit-let-at t) reads.Post
+  abbrev entered : lts.After-visit (visit-let-calls t) (visit-let-at t) reads.Post
       → lts.After-enter-let (visit-let-calls t) (visit-let-at t) reads.Post
-  entered c = c .before .before .before .before .before .before .before
-
-  abbrev handed : lts.After-visit (visit-let-calls t) (visit-let-at t) reads.Post
-      → lts.After-let-body (visit-let-calls t) (visit-let-at t) reads.Post
-  handed c = c .before .before .before .before .before
+  entered c = c .before .before .before .before .before .before .before .before .before .before .before
 
   abbrev inside : lts.After-leave-let (visit-let-calls t) (visit-let-at t) reads.Post
       → lts.After-visit (visit-let-calls t) (visit-let-at t) reads.Post
@@ -58,12 +59,12 @@ module _ (t : ℕ) where
       → let o = start c .args in
       let k = counted (deep c) .wide .result in
       calls.Begins (o .all .now) (o .rs .now) (take (length (o .rs .now) - (6 + 6 * k)) (drop (6 + 6 * k) (o .rs .now))) (o .at)
-      (counted (deep c) .before .count .result) k (o .f) (c .before .not-tail .result) (o .p) (c .with-context .result)
+      (counted (deep c) .before .count .result) k (o .f) (handed c .parts .result .first) (o .p) (c .with-context .result)
   begins c = record {
     form = start c .pre .1 .1;
     count = counted (deep c) .before .count .ensures;
     wide = counted (deep c) .wide .ensures;
-    flags = c .before .not-tail .ensures;
+    flags = handed c .parts .ensures .0;
     cut = calls.initials-part (start c .args .rs .now) (counted (deep c) .wide .result);
     pass = c .with-context .ensures;
   }
@@ -89,6 +90,13 @@ module _ (t : ℕ) where
   pub depth-requires : lts.Need-depth-requires (visit-let-calls t) (visit-let-at t) reads.Post
   depth-requires c κs = search needs
 
+  pub parts-requires : lts.Need-parts-requires (visit-let-calls t) (visit-let-at t) reads.Post
+  parts-requires c κs = let w = counted c in
+      let o = entry w in
+      let x = o .pre .1 .0 in
+      let long = let-long (o .pre .1 .1) (w .wide .ensures ∙ w .before .count .ensures) x in
+      (tt, omega (arith, w .wide .ensures, long, x .flags .height, x .fits .ample .height))
+
   pub mul-start : lts.Need-mul-start (visit-let-calls t) (visit-let-at t) reads.Post
   mul-start c = search needs
 
@@ -99,22 +107,19 @@ module _ (t : ℕ) where
   mul-visit-arguments c = search needs
 
   pub sub-visit-arguments : lts.Need-sub-visit-arguments (visit-let-calls t) (visit-let-at t) reads.Post
-  sub-visit-arguments c = omega (arith, names-span (counted c))
+  sub-visit-arguments c = omega (arith, names-span (counted (c .before)))
 
   pub part-visit-arguments-start : lts.Need-part-visit-arguments-start (visit-let-calls t) (visit-let-at t) reads.Post
-  part-visit-arguments-start c = omega (arith, names-span (counted c))
+  part-visit-arguments-start c = omega (arith, names-span (counted (c .before)))
 
   pub part-visit-arguments-end : lts.Need-part-visit-arguments-end (visit-let-calls t) (visit-let-at t) reads.Post
   part-visit-arguments-end c = search needs
 
   pub add-visit-arguments : lts.Need-add-visit-arguments (visit-let-calls t) (visit-let-at t) reads.Post
-  add-visit-arguments c = search needs
+  add-visit-arguments c = omega (arith, names-span (counted (c .before .before)))
 
   pub add-visit-arguments-2 : lts.Need-add-visit-arguments-2 (visit-let-calls t) (visit-let-at t) reads.Post
-  add-visit-arguments-2 c = search needs
-
-  pub not-tail-requires : lts.Need-not-tail-requires (visit-let-calls t) (visit-let-at t) reads.Post
-  not-tail-requires c κs = search needs
+  add-visit-arguments-2 c = omega (arith, names-span (counted (c .before .before)))
 
   pub with-context-requires : lts.Need-with-context-requires (visit-let-calls t) (visit-let-at t) reads.Post
   with-context-requires c κs = search needs
@@ -158,54 +163,45 @@ module _ (t : ℕ) where
   pub add-visit : lts.Need-add-visit (visit-let-calls t) (visit-let-at t) reads.Post
   add-visit c = omega (arith, body-span (visited (restored (c .before .before .before .before .before .before))))
 
-  pub let-body-requires : lts.Need-let-body-requires (visit-let-calls t) (visit-let-at t) reads.Post
-  let-body-requires c κs = let d = restored (c .before .before .before .before .before .before) in
-      let a = visited d in
-      let n = calls.names (begins (cleared a)) (a .visit-arguments .ensures) (d .with-context2 .ensures) (start (cleared a) .pre .1 .0) in
-      omega (arith, n .slots, counted (deep (cleared a)) .wide .ensures)
-
   pub visit-requires : lts.Need-visit-requires (visit-let-calls t) (visit-let-at t) reads.Post
-  visit-requires c κs = let f = c .before .before .before .before in
-      let n = entered f in
+  visit-requires c κs = let n = c .before .before .before .before .before .before .before .before .before .before in
       let d = restored n in
       let a = visited d in
       let b = cleared a in
       let rs = start b .args .rs .now in
       let i = 1 + counted (deep b) .wide .result + a .visit-arguments .result .used in (
         omega (arith, start b .pre .0, body-span a, part-length rs (6 * i)),
-        calls.body (begins b) (a .visit-arguments .ensures) (d .with-context2 .ensures) (n .enter-let .ensures) (f .let-body .ensures) (part rs (6 * i))
+        calls.body (begins b) (a .visit-arguments .ensures) (d .with-context2 .ensures) (n .enter-let .ensures) (handed b .parts .ensures .1) (part rs (6 * i))
             (start b .pre .1 .0),
       )
 
   pub leave-let-requires : lts.Need-leave-let-requires (visit-let-calls t) (visit-let-at t) reads.Post
   leave-let-requires c κs = let v = c .before .before .before .before .before .before .before .before .before .before .before in
-      let f = handed v in
-      let n = entered f in
+      let n = entered v in
       let d = restored n in
       let a = visited d in
       let b = cleared a in
       let rs = start b .args .rs .now in
       let i = 1 + counted (deep b) .wide .result + a .visit-arguments .result .used in
-      calls.ends (begins b) (a .visit-arguments .ensures) (d .with-context2 .ensures) (n .enter-let .ensures) (f .let-body .ensures) (part rs (6 * i))
+      calls.ends (begins b) (a .visit-arguments .ensures) (d .with-context2 .ensures) (n .enter-let .ensures) (handed b .parts .ensures .1) (part rs (6 * i))
       (v .visit .ensures) (start b .pre .1 .0)
 
-  pub add-t31 : lts.Need-add-t31 (visit-let-calls t) (visit-let-at t) reads.Post
-  add-t31 c = let v = inside (c .before .before .before .before .before .before .before) in
-      let f = handed v in
-      let n = entered f in
+  pub add-t33 : lts.Need-add-t33 (visit-let-calls t) (visit-let-at t) reads.Post
+  add-t33 c = let v = inside (c .before .before .before .before .before .before .before) in
+      let n = entered v in
       let d = restored n in
       let a = visited d in
       let b = cleared a in
       let rs = start b .args .rs .now in
       let i = 1 + counted (deep b) .wide .result + a .visit-arguments .result .used in
-      let x = calls.body (begins b) (a .visit-arguments .ensures) (d .with-context2 .ensures) (n .enter-let .ensures) (f .let-body .ensures) (part rs (6 * i))
+      let x = calls.body (begins b) (a .visit-arguments .ensures) (d .with-context2 .ensures) (n .enter-let .ensures) (handed b .parts .ensures .1) (part rs (6 * i))
       (start b .pre .1 .0) in
       omega (arith, used x (v .visit .ensures))
 
   pub same-length : lts.Need-same-length (visit-let-calls t) (visit-let-at t) reads.Post
   same-length c = let l = c .before .before .before .before .before .before .before in
       let v = inside l in
-      let n = entered (handed v) in
+      let n = entered v in
       let a = visited (restored n) in
       l .leave-let .kept .1 .1 .1 .1 .1 .1 .1 .0
       ∙ v .visit .kept .1 .1 .1 .1 .1 .1 .0
@@ -214,14 +210,14 @@ module _ (t : ℕ) where
 
   pub same-length-2 : lts.Need-same-length-2 (visit-let-calls t) (visit-let-at t) reads.Post
   same-length-2 c = let v = inside (c .before .before .before .before .before .before .before) in
-      let a = visited (restored (entered (handed v))) in
+      let a = visited (restored (entered v)) in
       v .visit .kept .1 .1 .1 .1 .1 .1 .1 .0
       ∙ a .visit-arguments .kept .1 .1 .1 .1 .1 .1 .1 .1 .0
 
   pub same-length-3 : lts.Need-same-length-3 (visit-let-calls t) (visit-let-at t) reads.Post
   same-length-3 c = let l = c .before .before .before .before .before .before .before in
       let v = inside l in
-      let a = visited (restored (entered (handed v))) in
+      let a = visited (restored (entered v)) in
       l .leave-let .kept .1 .1 .1 .1 .1 .1 .1 .1 .0
       ∙ v .visit .kept .1 .1 .1 .1 .1 .1 .1 .1 .0
       ∙ a .visit-arguments .kept .1 .1 .1 .1 .1 .1 .1 .1 .1 .0
@@ -229,7 +225,7 @@ module _ (t : ℕ) where
   pub same-length-4 : lts.Need-same-length-4 (visit-let-calls t) (visit-let-at t) reads.Post
   same-length-4 c = let l = c .before .before .before .before .before .before .before in
       let v = inside l in
-      let n = entered (handed v) in
+      let n = entered v in
       let a = visited (restored n) in
       l .leave-let .kept .1 .1 .1 .1 .1 .1 .1 .1 .1 .0
       ∙ v .visit .kept .1 .1 .1 .1 .1 .1 .1 .1 .1 .0
@@ -239,12 +235,11 @@ module _ (t : ℕ) where
   pub returns : lts.Need-returns (visit-let-calls t) (visit-let-at t) reads.Post
   returns c = let l = c .before .before .before .before .before .before .before in
       let v = inside l in
-      let f = handed v in
-      let n = entered f in
+      let n = entered v in
       let d = restored n in
       let a = visited d in
       let b = cleared a in
       let rs = start b .args .rs .now in
       let i = 1 + counted (deep b) .wide .result + a .visit-arguments .result .used in
-      calls.done (begins b) (a .visit-arguments .ensures) (d .with-context2 .ensures) (n .enter-let .ensures) (f .let-body .ensures) (part rs (6 * i))
+      calls.done (begins b) (a .visit-arguments .ensures) (d .with-context2 .ensures) (n .enter-let .ensures) (handed b .parts .ensures .1) (part rs (6 * i))
       (v .visit .ensures) (deep b .depth .ensures) (l .leave-let .ensures)

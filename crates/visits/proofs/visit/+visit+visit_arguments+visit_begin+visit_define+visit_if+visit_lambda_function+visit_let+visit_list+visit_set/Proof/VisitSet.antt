@@ -59,15 +59,15 @@ module _ (t : ℕ) where
   pub add-visit : lts.Need-add-visit (visit-set-calls t) (visit-set-at t) reads.Post
   add-visit c = search needs
 
-  pub not-tail-requires : lts.Need-not-tail-requires (visit-set-calls t) (visit-set-at t) reads.Post
-  not-tail-requires c κs = search needs
+  pub part-requires : lts.Need-part-requires (visit-set-calls t) (visit-set-at t) reads.Post
+  part-requires c κs = search needs
 
   pub visit-requires : lts.Need-visit-requires (visit-set-calls t) (visit-set-at t) reads.Post
   visit-requires c κs = let o = (c .before .before .before .before .before .before .before .before .before .before .before .before .before .before .before) in
       let rs = o .args .rs .now in
       let x = o .pre .1 .0 in (
         omega (arith, o .pre .0, long o, bounds.whole x, part-length rs 12),
-        expression-fits (o .pre .1 .1) ((c .before .before .before .before .not-tail)
+        expression-fits (o .pre .1 .1) ((c .before .before .before .before .part)
             .ensures) ((c .before .before .before .before .before .before .clear-context) .ensures) (part rs 12) x,
       )
 
@@ -90,7 +90,7 @@ module _ (t : ℕ) where
   pub mutate-requires : lts.Need-mutate-requires (visit-set-calls t) (visit-set-at t) reads.Post
   mutate-requires c κs = let o = (from-visit (c .before .before .before .before .before .before .before .before .before .before .before .before)) in
       target-sets (o .pre .1 .1) ((c .before .before .before .before .before .before .before .before .before .before .before .before .before .before .before
-      .before .before .not-tail) .ensures) ((c .before .before .before .before .before .before .before .before .before .before .before .before .before
+      .before .before .part) .ensures) ((c .before .before .before .before .before .before .before .before .before .before .before .before .before
       .before .before .before .before .before .before .clear-context) .ensures) (part (o .args .rs .now) 12) ((c .before .before .before .before .before
       .before .before .before .before .before .before .before .visit) .ensures) (o .pre .1 .0)
 
@@ -105,7 +105,7 @@ module _ (t : ℕ) where
   pub read-requires : lts.Need-read-requires (visit-set-calls t) (visit-set-at t) reads.Post
   read-requires c κs = let o = (from-visit (from-mutate (c .before .before .before .before .before .before .before))) in
       target-reads (o .pre .1 .1) ((from-mutate (c .before .before .before .before .before .before .before) .before .before .before .before .before
-      .not-tail) .ensures) ((from-mutate (c .before .before .before .before .before .before .before) .before .before .before .before .before .before .before
+      .part) .ensures) ((from-mutate (c .before .before .before .before .before .before .before) .before .before .before .before .before .before .before
       .clear-context) .ensures) (part (o .args .rs .now) 12) ((from-mutate (c .before .before .before .before .before .before .before) .visit) .ensures) ((c
       .before .before .before .before .before .before .before .before .before .before .name) .ensures) ((c .before .before .before .before .before .before
       .before .mutate) .ensures) (o .pre .1 .0)
@@ -116,7 +116,7 @@ module _ (t : ℕ) where
       omega (
         arith,
         bounds.used (expression-fits (o .pre .1 .1) ((from-mutate (c .before .before .before .before .before .before .before .before .before
-            .before .before .before .before) .before .before .before .before .before .not-tail) .ensures) ((from-mutate (c .before .before .before .before .before
+            .before .before .before .before) .before .before .before .before .before .part) .ensures) ((from-mutate (c .before .before .before .before .before
             .before .before .before .before .before .before .before .before) .before .before .before .before .before .before .before .clear-context) .ensures)
             (part (o .args .rs .now) 12) (o .pre .1 .0)) ((from-mutate (c .before .before .before .before .before .before .before .before .before .before .before
             .before .before) .visit) .ensures),
@@ -144,7 +144,7 @@ module _ (t : ℕ) where
   returns c = let o = (from-visit (from-mutate (c .before .before .before .before .before .before .before .before .before .before .before .before .before)))
       in
       set-done (o .pre .1 .1) ((from-mutate (c .before .before .before .before .before .before .before .before .before .before .before .before .before)
-      .before .before .before .before .before .not-tail) .ensures) ((from-mutate (c .before .before .before .before .before .before .before .before .before
+      .before .before .before .before .before .part) .ensures) ((from-mutate (c .before .before .before .before .before .before .before .before .before
       .before .before .before .before) .before .before .before .before .before .before .before .clear-context) .ensures) (part (o .args .rs .now) 12)
       ((from-mutate (c .before .before .before .before .before .before .before .before .before .before .before .before .before) .visit) .ensures) ((c .before
       .before .before .before .before .before .before .before .before .before .before .before .before .before .before .before .name) .ensures) ((c .before

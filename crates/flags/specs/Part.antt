@@ -1,0 +1,45 @@
+-- What each part of an expression is handed.
+use Prim.Native.Nat.{_+_, _<_}
+use mathlib.Core.Bool.{true, false, cond, not, _&&_}
+use Rattle.pass.specs.Visit.{notTail, sameTail, pushed, letBodyFlags, argumentFlags, childFlags, defineFlags}
+use Rattle.flags.specs.Flags.{Most, Handed, HandsBody, HandsHead}
+use Rattle.flags.specs.declared.Flags.{Flags as Coded}
+use Rattle.flags.specs.declared.Around.the-variants.{Lambda}
+use Rattle.flags.specs.declared.Part.{Part}
+use Rattle.flags.specs.declared.Part.the-variants.{NotTail, SameTail, LetBody, Body, Argument, Next, Head, Child, DefineBody}
+
+-- no number outgrows its type
+abbrev pub Room : Part → Coded → Type 0
+Room NotTail g = Unit {0}
+Room SameTail g = Unit {0}
+Room (LetBody k) g = g .height + k < Most
+Room (Body at id k) g = g .counter + 1 < Most
+Room Argument g = Unit {0}
+Room Next g = g .height + 1 < Most
+Room (Head lambda k) g = g .height + k < Most
+Room (Child last) g = Unit {0}
+Room DefineBody g = Unit {0}
+
+-- as the code holds it
+abbrev pub atPart : Part → Coded → Coded
+atPart NotTail g = record { tail = false; escape = g .escape; height = g .height; counter = g .counter; function = g .function; direct = false }
+atPart SameTail g = record { tail = g .tail; escape = g .escape; height = g .height; counter = g .counter; function = g .function; direct = false }
+atPart (LetBody k) g = record { tail = g .tail; escape = g .escape; height = g .height + k; counter = g .counter; function = g .function; direct = false }
+atPart (Body at id k) g = record { tail = true; escape = g .escape; height = k; counter = g .counter + 1; function = Lambda at id; direct = false }
+atPart Argument g = record { tail = false; escape = true; height = g .height; counter = g .counter; function = g .function; direct = false }
+atPart Next g = record { tail = g .tail; escape = g .escape; height = g .height + 1; counter = g .counter; function = g .function; direct = g .direct }
+atPart (Head lambda k) g = record { tail = false; escape = g .tail && not lambda; height = g .height + k; counter = g .counter; function = g .function; direct = false }
+atPart (Child last) g = record { tail = g .tail && last; escape = g .escape; height = g .height; counter = g .counter; function = g .function; direct = true }
+atPart DefineBody g = record { tail = false; escape = g .escape; height = g .height; counter = cond (g .direct) 0 (g .counter); function = g .function; direct = false }
+
+-- as the pass has it
+abbrev pub Hands : Part → Coded → Coded → Type 0
+Hands NotTail g r = Handed g notTail r
+Hands SameTail g r = Handed g sameTail r
+Hands (LetBody k) g r = Handed g (letBodyFlags k) r
+Hands (Body at id k) g r = HandsBody g at id k r
+Hands Argument g r = Handed g argumentFlags r
+Hands Next g r = Handed g pushed r
+Hands (Head lambda k) g r = HandsHead g lambda k r
+Hands (Child last) g r = Handed g (childFlags last) r
+Hands DefineBody g r = Handed g defineFlags r

@@ -1,0 +1,172 @@
+// What a visit inherits, and what it hands to the parts of its expression.
+pub mod by_value;
+pub mod in_place;
+
+ghost use mathlib.Core.Path.{_≡_};
+ghost use Prim.Native.Nat.{_+_, _<_};
+ghost use Rattle.flags.specs.Flags.{Most, FlagsAre};
+ghost use Rattle.flags.specs.Part.{Room, atPart};
+ghost use Rattle.flags.specs.declared.Part.the-variants.{NotTail, SameTail, LetBody, Body, Argument, Next, Head, Child, DefineBody};
+ghost use Rattle.pass.specs.Visit.{topFlags};
+
+// `function_context`: the record and the id of the innermost lambda.
+pub enum Around {
+    Lambda(usize, u32),
+    Nothing,
+}
+
+pub struct Flags {
+    // `tail_call_eligible`
+    pub tail: bool,
+    // `escape_analysis`
+    pub escape: bool,
+    // `stack_offset`
+    pub height: u32,
+    // `defining_context_depth`
+    pub counter: u32,
+    pub function: Around,
+    // the expression stands directly in an inner begin
+    pub direct: bool,
+}
+
+// A part of an expression, with what its flags depend on.
+pub enum Part {
+    // no tail position: the test of an if, an initial expression, the expression of a set!
+    NotTail,
+    // a tail position where the whole is one: a branch of an if
+    SameTail,
+    // of a let with so many names
+    LetBody(u32),
+    // of the lambda with this record, this id and so many parameters
+    Body(usize, u32, u32),
+    Argument,
+    // what comes after an argument or initial expression: one value more is on the stack
+    Next,
+    // of a call: whether it is a lambda, and how many arguments there are
+    Head(bool, u32),
+    // of an inner begin: whether it is the last
+    Child(bool),
+    DefineBody,
+}
+
+// The core: each part by value.
+impl Flags {
+    pub fn top() -> Self
+        ensures { λ r. ⌜ FlagsAre r topFlags ⌝ }
+    {
+        Flags {
+            tail: false,
+            escape: false,
+            height: 0,
+            counter: 0,
+            function: Around::Nothing,
+            direct: false,
+        }
+    }
+
+    fn not_tail(mut self) -> Self
+        ensures { λ r. ⌜ r ≡ atPart NotTail self ⌝ }
+    {
+        self.tail = false;
+        self.direct = false;
+        self
+    }
+
+    fn same_tail(mut self) -> Self
+        ensures { λ r. ⌜ r ≡ atPart SameTail self ⌝ }
+    {
+        self.direct = false;
+        self
+    }
+
+    fn let_body(mut self, k: u32) -> Self
+        requires { ⌜ self .height + k < Most ⌝ }
+        ensures { λ r. ⌜ r ≡ atPart (LetBody k) self ⌝ }
+    {
+        self.height = self.height + k;
+        self.direct = false;
+        self
+    }
+
+    fn body(self, at: usize, id: u32, k: u32) -> Self
+        requires { ⌜ self .counter + 1 < Most ⌝ }
+        ensures { λ r. ⌜ r ≡ atPart (Body at id k) self ⌝ }
+    {
+        Flags {
+            tail: true,
+            escape: self.escape,
+            height: k,
+            counter: self.counter + 1,
+            function: Around::Lambda(at, id),
+            direct: false,
+        }
+    }
+
+    fn argument(mut self) -> Self
+        ensures { λ r. ⌜ r ≡ atPart Argument self ⌝ }
+    {
+        self.tail = false;
+        self.escape = true;
+        self.direct = false;
+        self
+    }
+
+    fn next(mut self) -> Self
+        requires { ⌜ self .height + 1 < Most ⌝ }
+        ensures { λ r. ⌜ r ≡ atPart Next self ⌝ }
+    {
+        self.height = self.height + 1;
+        self
+    }
+
+    fn head(self, lambda: bool, k: u32) -> Self
+        requires { ⌜ self .height + k < Most ⌝ }
+        ensures { λ r. ⌜ r ≡ atPart (Head lambda k) self ⌝ }
+    {
+        let function = self.function;
+        Flags {
+            tail: false,
+            escape: self.tail && !lambda,
+            height: self.height + k,
+            counter: self.counter,
+            function,
+            direct: false,
+        }
+    }
+
+    fn child(mut self, last: bool) -> Self
+        ensures { λ r. ⌜ r ≡ atPart (Child last) self ⌝ }
+    {
+        self.tail = self.tail && last;
+        self.direct = true;
+        self
+    }
+
+    fn define_body(mut self) -> Self
+        ensures { λ r. ⌜ r ≡ atPart DefineBody self ⌝ }
+    {
+        self.tail = false;
+        if self.direct {
+            self.counter = 0;
+        }
+        self.direct = false;
+        self
+    }
+
+    pub fn at_part(self, p: Part) -> Self
+        requires { ⌜ Room p self ⌝ }
+        ensures { λ r. ⌜ r ≡ atPart p self ⌝ }
+    {
+        match p {
+            Part::NotTail => self.not_tail(),
+            Part::SameTail => self.same_tail(),
+            Part::LetBody(k) => self.let_body(k),
+            Part::Body(at, id, k) => self.body(at, id, k),
+            Part::Argument => self.argument(),
+            Part::Next => self.next(),
+            Part::Head(lambda, k) => self.head(lambda, k),
+            Part::Child(last) => self.child(last),
+            Part::DefineBody => self.define_body(),
+        }
+    }
+}

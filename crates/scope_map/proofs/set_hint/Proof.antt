@@ -1,0 +1,40 @@
+-- `set_hint`: a name has a hint, or none.
+use Prim.Native.Nat.{ℕ, _+_}
+use mathlib.Core.Path.{ap}
+use borrow.Author.Tests.{lt-ltb, le-ltb}
+use lib.ListN.{set}
+use borrow.Author.Needs.{needs}
+use Rattle.scope_map.specs.Hints.{rowsLength}
+use Rattle.scope_map.proofs.set_hint.Statement.{statement}
+use Rattle.scope_map.proofs.set_hint.Tie as tie
+
+cast-t : tie.Need-cast-t
+cast-t c = search needs
+
+wide-requires : tie.Need-wide-requires
+wide-requires c κs = search needs
+
+add-t : tie.Need-add-t
+add-t c = search needs
+
+mul-t : tie.Need-mul-t
+mul-t c = search needs
+
+slice-write-t : tie.Need-slice-write-t
+slice-write-t c = search needs
+
+same-length : tie.Need-same-length
+same-length c = search needs
+
+returns : tie.Need-returns
+returns c =
+    let a = c .before .before .before .args in
+    rw (lt-ltb _ _ (c .before .if1 .taken)) (ap (λ (i : ℕ). set (a .t .now) (rowsLength + i) (a .n)) (c .wide .ensures))
+
+returns-2 : tie.Need-returns-2
+returns-2 c = rw (le-ltb _ _ (c .if1 .left))
+
+pub set-hint-spec : {M : Type 1} → statement M
+set-hint-spec =
+    tie.close
+    (tie.spec cast-t wide-requires add-t mul-t slice-write-t same-length returns returns-2)
