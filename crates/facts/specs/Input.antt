@@ -1,0 +1,38 @@
+-- No contract can say which bytes a call of C's reads. So each of these is of some bytes.
+use Prim.Native.Nat.{ℕ, _≤_}
+use mathlib.Core.Bool.{Bool, true}
+use mathlib.Core.List.{List, _++_}
+use mathlib.Core.Path.{_≡_, subst}
+use lib.ListN.{length, take}
+use Rattle.reading.specs.Held.{Holds, Fed}
+use Rattle.reading.specs.declared.reader.Reading.{Reading}
+use Rattle.pass.specs.Run.{Tables}
+use Rattle.listing.specs.Listing.{outLength, allFit, Prints}
+use Rattle.listing.specs.Answered.{Answered}
+
+-- some bytes more were read
+pub record More (r : Reading) (L T R : List ℕ) (r′ : Reading) (L′ T′ R′ : List ℕ) : Type 0 where
+  pub bytes : List ℕ
+  pub fed : Fed bytes r L T R r′ L′ T′ R′
+
+-- some bytes were read
+pub record Read (r : Reading) (L T R : List ℕ) : Type 0 where
+  pub bytes : List ℕ
+  pub holds : Holds r bytes L T R
+
+-- the text of some bytes
+pub record Printed (d : List ℕ) (n : ℕ) : Type 0 where
+  pub bytes : List ℕ
+  pub is : Prints true bytes (take n d)
+  pub inside : n ≤ length d
+
+pub read-on : {r r′ : Reading} {L T R L′ T′ R′ : List ℕ} → Read r L T R → More r L T R r′ L′ T′ R′ → Read r′ L′ T′ R′
+read-on v w = record { bytes = v .bytes ++ w .bytes; holds = w .fed .is (v .bytes) (v .holds) }
+
+pub printed-of : {r : Reading} {L T R d d′ : List ℕ} {t : Tables} {n : ℕ} → Read r L T R → Answered r T R t d d′ n → outLength ≤ length d → allFit T R t ≡ true
+    → Printed d′ n
+printed-of {L = L} {d′ = d′} {n = n} v w h e = record {
+  bytes = v .bytes;
+  is = subst (λ (fit : Bool). Prints fit (v .bytes) (take n d′)) e (w .is h (v .bytes) L (v .holds));
+  inside = w .inside;
+}

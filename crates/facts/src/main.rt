@@ -1,0 +1,92 @@
+// Reads the records of a script from standard input, and prints the facts of a fresh run.
+use analysis::FACTS;
+use analysis::ITEMS;
+use listing::CLASS_TABLE;
+use listing::RECORD_TABLE;
+use listing::TEXT;
+use listing::answer;
+use reading::reader::Reading;
+use reading::reader::feed;
+use reading::reader::start;
+use work::WORK;
+ghost use mathlib.Core.Bool.{true};
+ghost use mathlib.Core.Path.{_≡_};
+ghost use Prim.Native.Nat.{_≤_};
+ghost use lib.ListN.{length};
+ghost use Rattle.analysis.specs.Answer.{tables};
+ghost use Rattle.listing.specs.Listing.{outLength, allFit};
+ghost use Rattle.facts.specs.Input.{More, Read, Printed};
+
+// What was read, and how many bytes came last.
+struct Turn {
+    read: Reading,
+    bytes: usize,
+}
+
+fn read_chunk(line: &mut [u8], classes: &mut [u8], records: &mut [u32], r: Reading) -> Turn
+    ensures { λ t. ⌜ More r (now (line .entry)) (now (classes .entry)) (now (records .entry))
+        (t .read) (now (line .exit)) (now (classes .exit)) (now (records .exit)) ⌝ }
+{
+    let mut chunk = io::large_buffer();
+    let bytes = io::read_full(0, &mut chunk);
+    let read = feed(&chunk[..bytes], line, classes, records, r);
+    Turn { read, bytes }
+}
+
+// A proved loop has to end, and nothing says that the input does. So the loop counts its turns down, from a number that no run uses up.
+fn read_all(line: &mut [u8], classes: &mut [u8], records: &mut [u32]) -> Reading
+    requires { ⌜ 92 ≤ length (now line) ⌝ }
+    ensures { λ r. ⌜ Read r (now (line .exit)) (now (classes .exit)) (now (records .exit)) ⌝ }
+{
+    let mut r = start();
+    let mut turns = u64::MAX;
+    while turns > 0 {
+        let t = read_chunk(line, classes, records, r);
+        r = t.read;
+        if t.bytes == 0 {
+            return r;
+        }
+        turns -= 1;
+    }
+    r
+}
+
+fn text_of_input(
+    line: &mut [u8],
+    classes: &mut [u8],
+    records: &mut [u32],
+    facts: &mut [u32],
+    captured: &mut [u32],
+    arguments: &mut [u32],
+    work: &mut [u32],
+    out: &mut [u8],
+) -> usize
+    requires { ⌜ (92 ≤ length (now line)) × (outLength ≤ length (now out)) ⌝ }
+    requires { ⌜ allFit (now classes) (now records) (tables (now facts) (now captured) (now arguments) (now work)) ≡ true ⌝ }
+    ensures { λ n. ⌜ Printed (now (out .exit)) n ⌝ }
+{
+    let r = read_all(line, classes, records);
+    answer(r, classes, records, facts, captured, arguments, work, out)
+}
+
+fn main() {
+    let mut line = [0u8; 92];
+    let mut classes = [0u8; CLASS_TABLE];
+    let mut records = [0u32; RECORD_TABLE];
+    let mut facts = [0u32; FACTS];
+    let mut captured = [0u32; ITEMS];
+    let mut arguments = [0u32; ITEMS];
+    let mut work = [0u32; WORK];
+    let mut out = [0u8; TEXT];
+    let n = text_of_input(
+        &mut line,
+        &mut classes,
+        &mut records,
+        &mut facts,
+        &mut captured,
+        &mut arguments,
+        &mut work,
+        &mut out,
+    );
+    io::write_all(1, &out[..n]);
+}

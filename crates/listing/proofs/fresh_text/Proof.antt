@@ -1,0 +1,66 @@
+-- `fresh_text`: the run of what was read, and the text of its answer.
+use mathlib.Core.Path.{sym, _∙_}
+use lib.Seq.{length-take-le}
+use Rattle.listing.proofs.Tables.{class-room, part-long, part-fits, facts-long}
+use Rattle.listing.proofs.Runs.{fresh-in}
+use borrow.Author.Needs.{needs}
+use Rattle.listing.proofs.fresh_text.Statement.{statement}
+use Rattle.listing.proofs.fresh_text.Tie as tie
+
+mul-numbers : tie.Need-mul-numbers
+mul-numbers c = search needs
+
+slice-aggregate-fresh : tie.Need-slice-aggregate-fresh
+slice-aggregate-fresh c = let o = c .before .before .before .before .before .before .before .before in sym (part-long (o .args .classes .now) (o .args .records .now) _ (o .args .names) (o .args .many) (o .pre .0))
+
+slice-aggregate-fresh-2 : tie.Need-slice-aggregate-fresh-2
+slice-aggregate-fresh-2 c =
+    let o = c .before .before .before .before .before .before .before .before .before in
+    sym (length-take-le (o .args .names) (o .args .classes .now) (class-room (o .args .classes .now) (o .args .records .now) _ (o .args .names) (o .args .many) (o .pre .0)))
+
+fresh-requires : tie.Need-fresh-requires
+fresh-requires c κs = search needs
+
+outcome-text-requires : tie.Need-outcome-text-requires
+outcome-text-requires c κs =
+    let f = c .before .before .before .before .before .before .before .before .before .before in
+    let o = f .before .before .before .before .before .before .before .before .before .before .before .before .before .before in
+    (f .fresh .kept .1 .1 .0 ∙ facts-long (o .args .classes .now) (o .args .records .now) _ (o .args .names) (o .args .many) (o .pre .0), o .pre .0 .records, o .pre .1)
+
+same-length : tie.Need-same-length
+same-length c = search needs
+
+same-length-2 : tie.Need-same-length-2
+same-length-2 c = search needs
+
+same-length-3 : tie.Need-same-length-3
+same-length-3 c = search needs
+
+same-length-4 : tie.Need-same-length-4
+same-length-4 c = search needs
+
+same-length-5 : tie.Need-same-length-5
+same-length-5 c = search needs
+
+returns : tie.Need-returns
+returns c =
+    let t = c .before .before in
+    let f = t .before .before .before .before .before .before .before .before .before .before .before in
+    let o = f .before .before .before .before .before .before .before .before .before .before .before .before .before .before in
+    fresh-in (part-fits (o .args .classes .now) (o .args .records .now) _ (o .args .names) (o .args .many) (o .pre .0)) (part-long (o .args .classes .now) (o .args .records .now) _ (o .args .names) (o .args .many) (o .pre .0)) (f .fresh .ensures) (t .outcome-text .ensures)
+
+pub fresh-text-spec : {M : Type 1} → statement M
+fresh-text-spec =
+    tie.close
+    (tie.spec
+    mul-numbers
+    slice-aggregate-fresh
+    slice-aggregate-fresh-2
+    fresh-requires
+    outcome-text-requires
+    same-length
+    same-length-2
+    same-length-3
+    same-length-4
+    same-length-5
+    returns)

@@ -1,0 +1,4 @@
+pub mod Listing
+pub mod Printed
+pub mod Fits
+pub mod Answered

@@ -1,0 +1,200 @@
+// What `facts` prints for an input, as one text. A text is made at the start of a buffer; the answer is how many bytes it takes.
+use analysis::Answer;
+use analysis::fit;
+use analysis::fresh;
+use printing::refusals::bad_line;
+use printing::refusals::refused_line;
+use printing::rows::row_line;
+use printing::summary::summary;
+use reading::reader::Input;
+use reading::reader::Reading;
+use reading::reader::finish;
+ghost use mathlib.Core.Path.{_≡_};
+ghost use Prim.Native.Nat.{_+_, _*_, _≤_};
+ghost use lib.ListN.{length, take};
+ghost use Rattle.tree.specs.Record.{width};
+ghost use Rattle.semantic.specs.Rows.{rowWidth};
+ghost use Rattle.pass.specs.Run.{factsLength};
+ghost use Rattle.analysis.specs.Answer.{tables};
+ghost use Rattle.listing.specs.Listing.{recordsMost, outLength, allFit};
+ghost use Rattle.listing.specs.Answered.{RowAfter, RowsIn, FactsIn, OutcomeIn, FreshIn, Before, Few, InputIn, Answered};
+
+// The most records of an input.
+pub const RECORDS: usize = 512;
+
+// How long the lent tables are: for the classes and the records of an input, and for its text.
+pub const CLASS_TABLE: usize = 1024;
+
+pub const RECORD_TABLE: usize = 6 * RECORDS;
+
+pub const TEXT: usize = 128 * RECORDS + 128;
+
+fn row_after(facts: &[u32], at: usize, out: &mut [u8], end: usize) -> usize
+    requires { ⌜ (rowWidth * at + rowWidth ≤ length (now facts)) × (end + 128 ≤ length (now out)) ⌝ }
+    ensures { λ r. ⌜ RowAfter (now (facts .entry)) at (now (out .entry)) end (now (out .exit)) r ⌝ }
+{
+    let line = row_line(facts, at, &mut out[end..]);
+    end + line
+}
+
+fn rows_text(facts: &[u32], rows: usize, out: &mut [u8]) -> usize
+    requires { ⌜ (rowWidth * rows ≤ length (now facts)) × (128 * rows ≤ length (now out)) ⌝ }
+    ensures { λ r. ⌜ RowsIn (now (facts .entry)) rows (now (out .exit)) r ⌝ }
+{
+    let mut end = 0;
+    let mut i = 0;
+    while i < rows {
+        end = row_after(facts, i, out, end);
+        i += 1;
+    }
+    end
+}
+
+fn facts_text(facts: &[u32], rows: usize, out: &mut [u8]) -> usize
+    requires { ⌜ (length (now facts) ≡ factsLength) × (rows ≤ recordsMost) × (outLength ≤ length (now out)) ⌝ }
+    ensures { λ r. ⌜ FactsIn (now (facts .entry)) rows (now (out .exit)) r ⌝ }
+{
+    let end = rows_text(facts, rows, out);
+    let last = summary(facts, &mut out[end..]);
+    end + last
+}
+
+fn outcome_text(a: Answer, facts: &[u32], rows: usize, out: &mut [u8]) -> usize
+    requires { ⌜ (length (now facts) ≡ factsLength) × (rows ≤ recordsMost) × (outLength ≤ length (now out)) ⌝ }
+    ensures { λ r. ⌜ OutcomeIn a (now (facts .entry)) rows (now (out .exit)) r ⌝ }
+{
+    match a {
+        Answer::Accepted => facts_text(facts, rows, out),
+        Answer::Refused(number, at) => refused_line(number as u64, at as u64, out),
+    }
+}
+
+// The first `names` classes and `many` records are analysed.
+fn fresh_text(
+    names: usize,
+    many: usize,
+    classes: &[u8],
+    records: &[u32],
+    facts: &mut [u32],
+    captured: &mut [u32],
+    arguments: &mut [u32],
+    work: &mut [u32],
+    out: &mut [u8],
+) -> usize
+    requires { ⌜ Few (allFit (now classes) (now records) (tables (now facts) (now captured) (now arguments) (now work))) names many ⌝ }
+    requires { ⌜ outLength ≤ length (now out) ⌝ }
+    ensures { λ r. ⌜ FreshIn (take names (now (classes .entry))) (take (width * many) (now (records .entry))) (now (out .exit)) r ⌝ }
+{
+    let numbers = 6 * many;
+    let a = fresh(
+        &records[..numbers],
+        &classes[..names],
+        facts,
+        captured,
+        arguments,
+        work,
+    );
+    outcome_text(a, facts, many, out)
+}
+
+// Check 1: every lent table of its set length.
+fn all_fit(
+    classes: &[u8],
+    records: &[u32],
+    facts: &[u32],
+    captured: &[u32],
+    arguments: &[u32],
+    work: &[u32],
+) -> bool
+    ensures { λ r. ⌜ r ≡ allFit (now (classes .entry)) (now (records .entry)) (tables (now (facts .entry)) (now (captured .entry)) (now (arguments .entry)) (now (work .entry))) ⌝ }
+{
+    if classes.len() != CLASS_TABLE {
+        return false;
+    }
+    if records.len() != RECORD_TABLE {
+        return false;
+    }
+    fit(records, facts, captured, arguments, work)
+}
+
+// The refusal that needs no run, or 0.
+fn refused_before(fits: bool, names: u64, many: u64) -> u64
+    ensures { λ r. ⌜ Before fits names many r ⌝ }
+{
+    if !fits {
+        return 1;
+    }
+    if many > RECORDS as u64 {
+        return 2;
+    }
+    if names > CLASS_TABLE as u64 {
+        return 2;
+    }
+    0
+}
+
+// A good input of so many names and records.
+fn input_text(
+    names: u64,
+    many: u64,
+    classes: &[u8],
+    records: &[u32],
+    facts: &mut [u32],
+    captured: &mut [u32],
+    arguments: &mut [u32],
+    work: &mut [u32],
+    out: &mut [u8],
+) -> usize
+    requires { ⌜ outLength ≤ length (now out) ⌝ }
+    ensures { λ r. ⌜ InputIn names many (now (classes .entry)) (now (records .entry)) (tables (now (facts .entry)) (now (captured .entry)) (now (arguments .entry)) (now (work .entry))) (now (out .exit)) r ⌝ }
+{
+    let fits = all_fit(classes, records, facts, captured, arguments, work);
+    let number = refused_before(fits, names, many);
+    if number != 0 {
+        return refused_line(number, 0, out);
+    }
+    fresh_text(
+        names as usize,
+        many as usize,
+        classes,
+        records,
+        facts,
+        captured,
+        arguments,
+        work,
+        out,
+    )
+}
+
+// The text for the bytes that were read.
+pub fn answer(
+    r: Reading,
+    classes: &[u8],
+    records: &[u32],
+    facts: &mut [u32],
+    captured: &mut [u32],
+    arguments: &mut [u32],
+    work: &mut [u32],
+    out: &mut [u8],
+) -> usize
+    ensures { λ n. ⌜ Answered r (now (classes .entry)) (now (records .entry)) (tables (now (facts .entry)) (now (captured .entry)) (now (arguments .entry)) (now (work .entry))) (now (out .entry)) (now (out .exit)) n ⌝ }
+{
+    if out.len() < TEXT {
+        return 0;
+    }
+    let input = finish(r);
+    match input {
+        Input::Bad(line) => bad_line(line, out),
+        Input::Good(names, many) => input_text(
+            names,
+            many,
+            classes,
+            records,
+            facts,
+            captured,
+            arguments,
+            work,
+            out,
+        ),
+    }
+}
