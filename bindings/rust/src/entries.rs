@@ -1,0 +1,181 @@
+//! Typed views of the captured and argument lists.
+
+use crate::{optional, ENTRY_WIDTH};
+
+/// The numbers of an entry.
+pub(crate) type Entry = [u32; ENTRY_WIDTH];
+
+/// A captured or an argument list.
+#[derive(Clone, Copy, Debug)]
+pub struct Entries<'t>(&'t [Entry]);
+
+impl<'t> Entries<'t> {
+    pub(crate) fn of(table: &'t [Entry], first: u32, length: u32) -> Self {
+        Entries(&table[first as usize..][..length as usize])
+    }
+
+    /// How many entries it has.
+    pub fn len(&self) -> usize {
+        self.0.len()
+    }
+
+    /// Whether it has none.
+    pub fn is_empty(&self) -> bool {
+        self.0.is_empty()
+    }
+
+    /// The entry at a place, counted from 0.
+    pub fn get(&self, place: usize) -> Option<ScopeInfo<'t>> {
+        self.0.get(place).map(ScopeInfo)
+    }
+
+    /// The entries in order.
+    pub fn iter(self) -> impl ExactSizeIterator<Item = ScopeInfo<'t>> {
+        self.0.iter().map(ScopeInfo)
+    }
+}
+
+/// An entry of a list: a binder, and what the scope knew of it when the list was made.
+///
+/// The settled run numbers each captured list: the entries that are not mutated from 0
+/// ([`read_capture_offset`](Self::read_capture_offset)), then the mutated ones from 0
+/// ([`read_heap_offset`](Self::read_heap_offset), [`local_heap_offset`](Self::local_heap_offset)). The other three offsets say
+/// where the lambda around has the value or its cell (docs/RULES.md, 10). There are none after a fresh run, and never any in an
+/// argument list.
+#[derive(Clone, Copy, Debug)]
+pub struct ScopeInfo<'t>(&'t Entry);
+
+impl ScopeInfo<'_> {
+    fn mark(&self, bit: u32) -> bool {
+        self.0[2] & bit != 0
+    }
+
+    /// The name's number.
+    pub fn name(&self) -> u32 {
+        self.0[0]
+    }
+
+    /// The binder's id.
+    pub fn id(&self) -> u32 {
+        self.0[1]
+    }
+
+    /// Whether an inner lambda mentions it.
+    pub fn captured(&self) -> bool {
+        self.mark(1)
+    }
+
+    /// Never.
+    pub fn escapes(&self) -> bool {
+        self.mark(2)
+    }
+
+    /// Whether the next lambda around captures it too.
+    pub fn captured_from_enclosing(&self) -> bool {
+        self.mark(4)
+    }
+
+    /// Whether a set! sets it.
+    pub fn mutated(&self) -> bool {
+        self.mark(8)
+    }
+
+    /// How often it is used.
+    pub fn usage_count(&self) -> u32 {
+        self.0[3]
+    }
+
+    /// The id of its last reference.
+    pub fn last_used(&self) -> Option<u32> {
+        optional(self.0[4])
+    }
+
+    /// Its slot.
+    pub fn stack_offset(&self) -> Option<u32> {
+        optional(self.0[5])
+    }
+
+    /// Where the lambda around has the value.
+    pub fn capture_offset(&self) -> Option<u32> {
+        optional(self.0[6])
+    }
+
+    /// Where the lambda around has the cell.
+    pub fn heap_offset(&self) -> Option<u32> {
+        optional(self.0[7])
+    }
+
+    /// The value's number in this lambda.
+    pub fn read_capture_offset(&self) -> Option<u32> {
+        optional(self.0[8])
+    }
+
+    /// The cell's number in this lambda.
+    pub fn read_heap_offset(&self) -> Option<u32> {
+        optional(self.0[9])
+    }
+
+    /// The cell's number in the lambda around, or its slot.
+    pub fn parent_heap_offset(&self) -> Option<u32> {
+        optional(self.0[10])
+    }
+
+    /// The cell's number in this lambda.
+    pub fn local_heap_offset(&self) -> Option<u32> {
+        optional(self.0[11])
+    }
+
+    /// Its depth; 1 of a define.
+    pub fn depth(&self) -> u32 {
+        self.0[12]
+    }
+}
+
+#[cfg(test)]
+pub(crate) mod tests {
+    use super::*;
+
+    /// Each place of an entry holds its own number, but for the marks.
+    pub(crate) fn entry(first: u32, marks: u32) -> Entry {
+        let mut entry = [0; ENTRY_WIDTH];
+        for (place, number) in (first..).zip(&mut entry) {
+            *number = place;
+        }
+        entry[2] = marks;
+        entry
+    }
+
+    #[test]
+    fn an_entry_has_its_fields_at_their_places() {
+        let numbers = entry(50, 0);
+        let e = ScopeInfo(&numbers);
+        assert_eq!((e.name(), e.id(), e.usage_count(), e.depth()), (50, 51, 53, 62));
+        assert_eq!((e.last_used(), e.stack_offset()), (Some(54), Some(55)));
+        assert_eq!((e.capture_offset(), e.heap_offset()), (Some(56), Some(57)));
+        assert_eq!((e.read_capture_offset(), e.read_heap_offset()), (Some(58), Some(59)));
+        assert_eq!((e.parent_heap_offset(), e.local_heap_offset()), (Some(60), Some(61)));
+    }
+
+    #[test]
+    fn each_mark_of_an_entry_is_its_own() {
+        for mark in [1, 2, 4, 8] {
+            let numbers = entry(50, mark);
+            let e = ScopeInfo(&numbers);
+            assert_eq!(e.captured(), mark == 1);
+            assert_eq!(e.escapes(), mark == 2);
+            assert_eq!(e.captured_from_enclosing(), mark == 4);
+            assert_eq!(e.mutated(), mark == 8);
+        }
+    }
+
+    #[test]
+    fn a_list_has_its_entries() {
+        let table = [entry(10, 0), entry(20, 0), entry(30, 0)];
+        let list = Entries::of(&table, 1, 2);
+        assert_eq!((list.len(), list.is_empty()), (2, false));
+        assert_eq!(list.get(0).map(|entry| entry.name()), Some(20));
+        assert_eq!(list.get(1).map(|entry| entry.name()), Some(30));
+        assert!(list.get(2).is_none());
+        assert!(Entries::of(&table, 3, 0).is_empty());
+    }
+}

@@ -1,0 +1,132 @@
+use core::error::Error;
+use core::fmt;
+
+/// Why a script is refused. The number of a reason is the library's answer.
+///
+/// Each check from 1 to 10 covers the whole script before the next.
+#[derive(Clone, Copy, Debug, PartialEq, Eq, Hash)]
+#[repr(u32)]
+#[non_exhaustive]
+pub enum Reason {
+    /// The records are not a multiple of six numbers, or a table is not of its length. The tables are unchanged.
+    Length = 1,
+    /// There are more than [`MOST_RECORDS`](crate::MOST_RECORDS) records or [`MOST_NAMES`](crate::MOST_NAMES) names.
+    TooMany = 2,
+    /// A field is not as the table of records says, but for a call's count of 0.
+    Field = 3,
+    /// Children are missing at the end; the record is the number of records.
+    Missing = 4,
+    /// A nesting of 65, where a top-level expression counts 1.
+    Deep = 5,
+    /// Another form stands where a name should.
+    NotAName = 6,
+    /// A call has count 0.
+    EmptyCall = 7,
+    /// An earlier record has the same id.
+    RepeatedId = 8,
+    /// A name is bound where it is live in the same scope. A lambda opens a scope, and so does a let outside all scopes. Any other
+    /// let, and an inner define, binds its names in the scope around it. At the top level a name may be defined again.
+    LiveName = 9,
+    /// The captured lists have more than 4,096 entries; the record is the lambda whose list passes that.
+    TooManyCaptured = 10,
+    /// A let outside all lambdas has a name that is captured and mutated. Only of [`settled`](crate::settled).
+    HeapLet = 11,
+    /// A captured name is read, and its capture has only a read offset. Only of [`settled`](crate::settled).
+    NoCaptureOffset = 12,
+}
+
+impl Reason {
+    /// All of them, by number from 1.
+    pub const ALL: [Reason; 12] = [
+        Reason::Length,
+        Reason::TooMany,
+        Reason::Field,
+        Reason::Missing,
+        Reason::Deep,
+        Reason::NotAName,
+        Reason::EmptyCall,
+        Reason::RepeatedId,
+        Reason::LiveName,
+        Reason::TooManyCaptured,
+        Reason::HeapLet,
+        Reason::NoCaptureOffset,
+    ];
+
+    /// The library's number of it.
+    pub const fn number(self) -> u32 {
+        self as u32
+    }
+}
+
+impl fmt::Display for Reason {
+    fn fmt(&self, f: &mut fmt::Formatter<'_>) -> fmt::Result {
+        f.write_str(match self {
+            Reason::Length => "the records or a table have a wrong length",
+            Reason::TooMany => "too many records or names",
+            Reason::Field => "a field is out of range",
+            Reason::Missing => "children are missing at the end",
+            Reason::Deep => "nested too deep",
+            Reason::NotAName => "not a name, where a name should stand",
+            Reason::EmptyCall => "a call of nothing",
+            Reason::RepeatedId => "the id is used before",
+            Reason::LiveName => "the name is live in the same scope",
+            Reason::TooManyCaptured => "too many captured entries",
+            Reason::HeapLet => "a let name outside all lambdas is captured and mutated",
+            Reason::NoCaptureOffset => "the capture has no capture offset",
+        })
+    }
+}
+
+/// A script that is refused: why, and the first record that this applies to.
+#[derive(Clone, Copy, Debug, PartialEq, Eq, Hash)]
+pub struct Refusal {
+    /// Why.
+    pub reason: Reason,
+    /// The record, counted from 0; 0 after [`Reason::Length`] and [`Reason::TooMany`], which name none.
+    pub record: usize,
+}
+
+impl Refusal {
+    /// What the library's answer says: `None` where it accepted.
+    ///
+    /// # Panics
+    ///
+    /// On a number that the library does not answer, as one of another version would.
+    pub(crate) fn of(number: u32, at: usize) -> Option<Refusal> {
+        let before = number.checked_sub(1)? as usize;
+        let reason = *Reason::ALL.get(before).expect("a library of the version that this crate is for");
+        Some(Refusal { reason, record: at })
+    }
+}
+
+impl fmt::Display for Refusal {
+    fn fmt(&self, f: &mut fmt::Formatter<'_>) -> fmt::Result {
+        write!(f, "refused {} at record {}: {}", self.reason.number(), self.record, self.reason)
+    }
+}
+
+impl Error for Refusal {}
+
+#[cfg(test)]
+mod tests {
+    use super::Refusal;
+
+    #[test]
+    fn every_reason_stands_at_its_number() {
+        for number in 1..=12 {
+            let refusal = Refusal::of(number, 7).unwrap();
+            assert_eq!((refusal.reason.number(), refusal.record), (number, 7));
+        }
+    }
+
+    #[test]
+    fn no_number_is_no_refusal() {
+        assert_eq!(Refusal::of(0, 0), None);
+    }
+
+    #[test]
+    #[should_panic(expected = "a library of the version")]
+    fn an_unknown_number_is_another_version() {
+        let _ = Refusal::of(13, 0);
+    }
+}

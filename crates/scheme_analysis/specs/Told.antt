@@ -1,0 +1,38 @@
+-- A refusal in two numbers, as C is told it.
+use Prim.Native.Nat.{ℕ}
+use mathlib.Core.List.{List}
+use mathlib.Core.Option.{Option, none, some}
+use mathlib.Core.Path.{_≡_, refl, sym, _∙_}
+use native.Mathlib.Omega.{arith}
+use Rattle.tree.specs.Check.{Refusal}
+use Rattle.pass.specs.Run.{Tables, Outcome, Fresh, Settled}
+use Rattle.pass.specs.Laws.Numbers.{Between, fresh-numbers, settled-numbers}
+
+-- 0 where nothing is refused
+abbrev pub numberTold : Option Refusal → ℕ
+numberTold none = 0
+numberTold (some r) = r .number
+
+abbrev pub recordTold : Option Refusal → ℕ
+recordTold none = 0
+recordTold (some r) = r .at
+
+-- what an operation with this contract tells, and the tables that it leaves
+pub record Tells (Contract : List ℕ → List ℕ → Tables → Outcome → Type 0) (classes rs : List ℕ) (t : Tables) (n i : ℕ) (t′ : Tables) : Type 0 where
+  pub refused : Option Refusal
+  pub answers : Contract classes rs t (record { refused = refused; tables = t′ })
+  pub number : n ≡ numberTold refused
+  pub at : i ≡ recordTold refused
+
+-- 0 is told only there
+
+told-none : {b : ℕ} (o : Option Refusal) → Between 1 b o → 0 ≡ numberTold o → o ≡ none
+told-none none h e = refl
+told-none (some r) h e = absurd (omega (arith, h r refl .0, e))
+
+module _ {classes rs : List ℕ} {t t′ : Tables} {i : ℕ} where
+  pub fresh-zero : (x : Tells Fresh classes rs t 0 i t′) → x .refused ≡ none
+  fresh-zero x = told-none (x .refused) (fresh-numbers (x .answers)) (x .number)
+
+  pub settled-zero : (x : Tells Settled classes rs t 0 i t′) → x .refused ≡ none
+  settled-zero x = told-none (x .refused) (settled-numbers (x .answers)) (x .number)

@@ -1,0 +1,58 @@
+// The C interface: both runs under plain names. To C a slice is a pointer and a length.
+use analysis::Answer;
+ghost use mathlib.Core.Path.{_≡_};
+ghost use Rattle.pass.specs.Run.{Fresh, Settled};
+ghost use Rattle.analysis.specs.Answer.{tables, refusalIn};
+ghost use Rattle.scheme_analysis.specs.Told.{Tells, numberTold, recordTold};
+
+fn number_told(a: Answer) -> u32
+    ensures { λ r. ⌜ r ≡ numberTold (refusalIn a) ⌝ }
+{
+    match a {
+        Answer::Accepted => 0,
+        Answer::Refused(n, _) => n,
+    }
+}
+
+fn record_told(a: Answer) -> usize
+    ensures { λ r. ⌜ r ≡ recordTold (refusalIn a) ⌝ }
+{
+    match a {
+        Answer::Accepted => 0,
+        Answer::Refused(_, i) => i,
+    }
+}
+
+#[no_mangle]
+pub extern "C" fn scheme_analysis_fresh(
+    records: &[u32],
+    classes: &[u8],
+    facts: &mut [u32],
+    captured: &mut [u32],
+    arguments: &mut [u32],
+    work: &mut [u32],
+    at: &mut usize,
+) -> u32
+    ensures { λ r. ⌜ Tells Fresh (now (classes .entry)) (now (records .entry)) (tables (now (facts .entry)) (now (captured .entry)) (now (arguments .entry)) (now (work .entry))) r (now (at .exit)) (tables (now (facts .exit)) (now (captured .exit)) (now (arguments .exit)) (now (work .exit))) ⌝ }
+{
+    let a = analysis::fresh(records, classes, facts, captured, arguments, work);
+    *at = record_told(a);
+    number_told(a)
+}
+
+#[no_mangle]
+pub extern "C" fn scheme_analysis_settled(
+    records: &[u32],
+    classes: &[u8],
+    facts: &mut [u32],
+    captured: &mut [u32],
+    arguments: &mut [u32],
+    work: &mut [u32],
+    at: &mut usize,
+) -> u32
+    ensures { λ r. ⌜ Tells Settled (now (classes .entry)) (now (records .entry)) (tables (now (facts .entry)) (now (captured .entry)) (now (arguments .entry)) (now (work .entry))) r (now (at .exit)) (tables (now (facts .exit)) (now (captured .exit)) (now (arguments .exit)) (now (work .exit))) ⌝ }
+{
+    let a = analysis::settled(records, classes, facts, captured, arguments, work);
+    *at = record_told(a);
+    number_told(a)
+}
