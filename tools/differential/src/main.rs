@@ -1,0 +1,103 @@
+//! The original and the port on the same trees. See docs/DIFFERENTIAL.md.
+
+mod bench;
+mod case;
+mod compare;
+mod expected;
+mod expression;
+mod generate;
+mod layers;
+mod node;
+mod options;
+mod port;
+mod random;
+mod record;
+mod refusals;
+mod report;
+mod rows;
+mod stage;
+mod summary;
+mod syntax;
+mod tables;
+mod tally;
+
+use case::Case;
+use generate::exhaustive::Exhaustive;
+use generate::{damaged_case, exhaustive_case, limits::limits, random_case, scripts::scripts};
+use options::Options;
+use stage::{Differing, Stage};
+use std::process::ExitCode;
+use std::time::Instant;
+use tally::Tally;
+
+const SMALL: (usize, usize) = (1, 60);
+const LARGE: (usize, usize) = (61, 4096);
+
+fn main() -> ExitCode {
+    let options = Options::read();
+    if options.bench {
+        bench::bench(options.seed, options.before)
+    } else {
+        compare_all(&options)
+    }
+}
+
+fn compare_all(options: &Options) -> ExitCode {
+    let all = Exhaustive::new(options.exhaustive, 2);
+    let fixed: Vec<_> = scripts().into_iter().chain(limits()).map(Case::new).collect();
+    let start = Instant::now();
+    let (mut told, mut total) = (Vec::new(), Tally::default());
+    let (mut differing, mut smallest) = (0, None);
+    for stage in stages(options, &all, &fixed) {
+        let outcome = stage.run(options.seed, options.threads);
+        differing += outcome.differing;
+        total += &outcome.tally;
+        told.push((stage.name, outcome.tally));
+        let size = |d: &Differing| d.case.input.numbers.len();
+        smallest = smallest.into_iter().chain(outcome.smallest).min_by_key(size);
+    }
+    print!("{}{}", summary::answers(&told), summary::held(&total));
+    print!("listed in docs/DIFFERENCES.md:\n{}", summary::listed(&total));
+    println!("{} inputs, {} records, {} seconds", total.inputs, total.records, start.elapsed().as_secs());
+    smallest.iter().for_each(|d| print!("{}", report::differing(d)));
+    println!("{differing} differences");
+    if differing == 0 {
+        ExitCode::SUCCESS
+    } else {
+        ExitCode::FAILURE
+    }
+}
+
+fn stages<'a>(options: &Options, all: &'a Exhaustive, fixed: &'a [Case]) -> Vec<Stage<'a>> {
+    let seed = options.seed;
+    vec![
+        Stage {
+            name: "fixed",
+            count: fixed.len() as u64,
+            case: Box::new(|number| fixed[number as usize].clone()),
+        },
+        Stage {
+            name: "exhaustive",
+            count: 2 * all.count(),
+            case: Box::new(|number| exhaustive_case(all, number)),
+        },
+        Stage {
+            name: "random",
+            count: options.random,
+            case: Box::new(move |number| random_case(seed, number, SMALL.0, SMALL.1).0),
+        },
+        Stage {
+            name: "large",
+            count: options.large,
+            case: Box::new(move |number| random_case(seed, number, LARGE.0, LARGE.1).0),
+        },
+        Stage {
+            name: "damaged",
+            count: options.damaged,
+            case: Box::new(move |number| {
+                let (least, most) = if number % 50 == 0 { LARGE } else { SMALL };
+                damaged_case(seed, number, least, most)
+            }),
+        },
+    ]
+}
