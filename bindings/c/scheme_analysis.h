@@ -46,7 +46,7 @@ enum {
     SCHEME_ANALYSIS_ARGUMENTS_LENGTH = 53248,
     SCHEME_ANALYSIS_WORK_LENGTH = 59392,
 
-    /* bytes; measured: the worst case, lets nested 64 deep, takes 214,000 */
+    /* bytes, not proved; the most seen, lets or calls nested 64 deep, was 171,192 */
     SCHEME_ANALYSIS_STACK = 262144
 };
 
