@@ -7,7 +7,7 @@ use lib.ListN.{length, take}
 use Rattle.reading.specs.Held.{Holds, Fed}
 use Rattle.reading.specs.declared.reader.Reading.{Reading}
 use Rattle.pass.specs.Run.{Tables}
-use Rattle.listing.specs.Listing.{outLength, allFit, Prints}
+use Rattle.listing.specs.Listing.{textLength, allFit, Prints}
 use Rattle.listing.specs.Answered.{Answered}
 
 -- some bytes more were read
@@ -29,7 +29,7 @@ pub record Printed (d : List ℕ) (n : ℕ) : Type 0 where
 pub read-on : {r r′ : Reading} {L T R L′ T′ R′ : List ℕ} → Read r L T R → More r L T R r′ L′ T′ R′ → Read r′ L′ T′ R′
 read-on v w = record { bytes = v .bytes ++ w .bytes; holds = w .fed .is (v .bytes) (v .holds) }
 
-pub printed-of : {r : Reading} {L T R d d′ : List ℕ} {t : Tables} {n : ℕ} → Read r L T R → Answered r T R t d d′ n → outLength ≤ length d → allFit T R t ≡ true
+pub printed-of : {r : Reading} {L T R d d′ : List ℕ} {t : Tables} {n : ℕ} → Read r L T R → Answered r T R t d d′ n → textLength ≤ length d → allFit T R t ≡ true
     → Printed d′ n
 printed-of {L = L} {d′ = d′} {n = n} v w h e = record {
   bytes = v .bytes;

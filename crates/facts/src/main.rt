@@ -14,7 +14,7 @@ ghost use mathlib.Core.Path.{_≡_};
 ghost use Prim.Native.Nat.{_≤_};
 ghost use lib.ListN.{length};
 ghost use Rattle.analysis.specs.Answer.{tables};
-ghost use Rattle.listing.specs.Listing.{outLength, allFit};
+ghost use Rattle.listing.specs.Listing.{textLength, allFit};
 ghost use Rattle.facts.specs.Input.{More, Read, Printed};
 
 // What was read, and how many bytes came last.
@@ -61,7 +61,7 @@ fn text_of_input(
     work: &mut [u32],
     out: &mut [u8],
 ) -> usize
-    requires { ⌜ (92 ≤ length (now line)) × (outLength ≤ length (now out)) ⌝ }
+    requires { ⌜ (92 ≤ length (now line)) × (textLength ≤ length (now out)) ⌝ }
     requires { ⌜ allFit (now classes) (now records) (tables (now facts) (now captured) (now arguments) (now work)) ≡ true ⌝ }
     ensures { λ n. ⌜ Printed (now (out .exit)) n ⌝ }
 {

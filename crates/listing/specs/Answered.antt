@@ -18,7 +18,7 @@ use Rattle.analysis.specs.declared.Answer.{Answer}
 use Rattle.printing.specs.Text.{rowText, rowsText, factsText}
 use Rattle.reading.specs.Held.{shown, Kept, Holds}
 use Rattle.reading.specs.declared.reader.Reading.{Reading}
-use Rattle.listing.specs.Listing.{recordsMost, classesLength, outLength, allFit, refusalText, outcomeText, freshText, Tells, Prints}
+use Rattle.listing.specs.Listing.{recordsMost, classesLength, textLength, allFit, refusalText, outcomeText, freshText, Shows, Prints}
 
 -- the line of row i stands behind what stood in front of `end`
 pub record RowAfter (F : List ℕ) (i : ℕ) (d : List ℕ) (end : ℕ) (d′ : List ℕ) (n : ℕ) : Type 0 where
@@ -56,18 +56,18 @@ pub data Before (fit : Bool) (names many : ℕ) : ℕ → Type 0 where
   none-yet : fit ≡ true → many ≤ recordsMost → names ≤ classesLength → Before fit names many 0
 
 -- there is none: what was read fits the tables
-pub record Few (fit : Bool) (i j : ℕ) : Type 0 where
-  pub is : fit ≡ true
+pub record Few (T R : List ℕ) (t : Tables) (i j : ℕ) : Type 0 where
+  pub fit : allFit T R t ≡ true
   pub names : i ≤ classesLength
   pub records : j ≤ recordsMost
 
 -- the text of so many classes and records, which the tables T and R hold
 pub record InputIn (names many : ℕ) (T R : List ℕ) (t : Tables) (d : List ℕ) (n : ℕ) : Type 0 where
-  pub is : (cs : List ℕ) (rs : List Record) → names ≡ length cs → many ≡ shown (length rs) → Kept cs rs T R → Tells (allFit T R t) cs rs (take n d)
+  pub is : (cs : List ℕ) (rs : List Record) → names ≡ length cs → many ≡ shown (length rs) → Kept cs rs T R → Shows (allFit T R t) cs rs (take n d)
   pub inside : n ≤ length d
 
 -- the whole text, if there is room for any; else none
 pub record Answered (r : Reading) (T R : List ℕ) (t : Tables) (d d′ : List ℕ) (n : ℕ) : Type 0 where
-  pub is : outLength ≤ length d → (b L : List ℕ) → Holds r b L T R → Prints (allFit T R t) b (take n d′)
-  pub cramped : length d < outLength → n ≡ 0
+  pub is : textLength ≤ length d → (b L : List ℕ) → Holds r b L T R → Prints (allFit T R t) b (take n d′)
+  pub cramped : length d < textLength → n ≡ 0
   pub inside : n ≤ length d′

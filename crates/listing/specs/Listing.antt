@@ -28,8 +28,8 @@ classesLength = 1024
 abbrev pub recordsLength : ℕ
 recordsLength = width * recordsMost
 
-abbrev pub outLength : ℕ
-outLength = 128 * recordsMost + 128
+abbrev pub textLength : ℕ
+textLength = 128 * recordsMost + 128
 
 unfoldable pub allFit : List ℕ → List ℕ → Tables → Bool
 allFit T R t = eqb (length T) classesLength && (eqb (length R) recordsLength && lengthsFit t)
@@ -47,13 +47,13 @@ unfoldable pub freshText : List ℕ → Trees → List ℕ
 freshText classes ts = outcomeText (refusedFirst (fresh classes ts .noted)) (fresh classes ts .facts .rows)
 
 -- The text for these classes and records. That the tables are of their lengths, as the program's are, is check 1.
-pub data Tells (fit : Bool) (cs : List ℕ) (rs : List Record) : List ℕ → Type 0 where
-  unfit : fit ≡ false → Tells fit cs rs (refusedText 1 0)
-  too-many : fit ≡ true → recordsMost < length rs → Tells fit cs rs (refusedText 2 0)
-  refused : {r : Refusal} → fit ≡ true → length rs ≤ recordsMost → refusal (length cs) (numbers rs) ≡ some r → Tells fit cs rs (refusalText r)
-  accepted : {ts : Trees} → fit ≡ true → length rs ≤ recordsMost → Accepted (length cs) (numbers rs) ts → Tells fit cs rs (freshText cs ts)
+pub data Shows (fit : Bool) (cs : List ℕ) (rs : List Record) : List ℕ → Type 0 where
+  unfit : fit ≡ false → Shows fit cs rs (refusedText 1 0)
+  too-many : fit ≡ true → recordsMost < length rs → Shows fit cs rs (refusedText 2 0)
+  refused : {r : Refusal} → fit ≡ true → length rs ≤ recordsMost → refusal (length cs) (numbers rs) ≡ some r → Shows fit cs rs (refusalText r)
+  accepted : {ts : Trees} → fit ≡ true → length rs ≤ recordsMost → Accepted (length cs) (numbers rs) ts → Shows fit cs rs (freshText cs ts)
 
 -- The text for the bytes b: a bad line goes before any refusal
 pub data Prints (fit : Bool) (b : List ℕ) : List ℕ → Type 0 where
   bad-line : {n : ℕ} → read b ≡ bad n → Prints fit b (badText (shown n))
-  tells : {cs : List ℕ} {rs : List Record} {t : List ℕ} → read b ≡ good cs rs → Tells fit cs rs t → Prints fit b t
+  shows : {cs : List ℕ} {rs : List Record} {t : List ℕ} → read b ≡ good cs rs → Shows fit cs rs t → Prints fit b t

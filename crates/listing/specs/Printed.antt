@@ -14,7 +14,7 @@ use Rattle.printing.specs.Numeral.{below-or}
 use Rattle.printing.specs.Text.{badText}
 use Rattle.reading.specs.Reading.{Answer, bad, good, read}
 use Rattle.reading.specs.Held.{shown}
-use Rattle.listing.specs.Listing.{recordsMost, refusalText, freshText, Tells, too-many, refused, accepted, Prints, bad-line, unfit, tells}
+use Rattle.listing.specs.Listing.{recordsMost, refusalText, freshText, Shows, too-many, refused, accepted, Prints, bad-line, unfit, shows}
 
 pub record Text (P : List ℕ → Type 0) : Type 0 where
   pub text : List ℕ
@@ -22,12 +22,12 @@ pub record Text (P : List ℕ → Type 0) : Type 0 where
 
 -- there is one
 
-told : (fit : Bool) (cs : List ℕ) (rs : List Record) → Text (Tells fit cs rs)
+told : (fit : Bool) (cs : List ℕ) (rs : List Record) → Text (Shows fit cs rs)
 told false cs rs = record { text = _; is = unfit refl }
 told true cs rs =
     ⊎-elim (λ h. record { text = _; is = too-many refl h }) (λ h. by-refusal h (refusal (length cs) (numbers rs)) refl) (below-or recordsMost (length rs))
   where
-    by-refusal : length rs ≤ recordsMost → (o : Option Refusal) → refusal (length cs) (numbers rs) ≡ o → Text (Tells true cs rs)
+    by-refusal : length rs ≤ recordsMost → (o : Option Refusal) → refusal (length cs) (numbers rs) ≡ o → Text (Shows true cs rs)
     by-refusal h (some r) e = record { text = refusalText r; is = refused refl h e }
     by-refusal h none e = let (ts, a) = acceptance (length cs) (numbers rs) e in record { text = freshText cs ts; is = accepted refl h a }
 
@@ -36,11 +36,11 @@ printed fit b = go (read b) refl
   where
     go : (a : Answer) → read b ≡ a → Text (Prints fit b)
     go (bad n) e = record { text = badText (shown n); is = bad-line e }
-    go (good cs rs) e = let w = told fit cs rs in record { text = w .text; is = tells e (w .is) }
+    go (good cs rs) e = let w = told fit cs rs in record { text = w .text; is = shows e (w .is) }
 
 -- and no other
 
-told-once : {fit : Bool} {cs : List ℕ} {rs : List Record} {t u : List ℕ} → Tells fit cs rs t → Tells fit cs rs u → t ≡ u
+told-once : {fit : Bool} {cs : List ℕ} {rs : List Record} {t u : List ℕ} → Shows fit cs rs t → Shows fit cs rs u → t ≡ u
 told-once (unfit p) (unfit q) = refl
 told-once (unfit p) (too-many q h) = absurd (true≢false (sym q ∙ p))
 told-once (unfit p) (refused q h e) = absurd (true≢false (sym q ∙ p))
@@ -63,9 +63,9 @@ never e = let z : _≡_ {A = ℕ} 0 1 = cc in absurd (omega arith)
 
 pub printed-once : {fit : Bool} {b t u : List ℕ} → Prints fit b t → Prints fit b u → t ≡ u
 printed-once (bad-line {n} e) (bad-line {n = m} f) = let p : n ≡ m = cc in ap (λ (i : ℕ). badText (shown i)) p
-printed-once (bad-line e) (tells f w) = never (sym e ∙ f)
-printed-once (tells f w) (bad-line e) = never (sym e ∙ f)
-printed-once (tells {cs} {rs} e w) (tells {cs = ds} {rs = qs} f v) =
+printed-once (bad-line e) (shows f w) = never (sym e ∙ f)
+printed-once (shows f w) (bad-line e) = never (sym e ∙ f)
+printed-once (shows {cs} {rs} e w) (shows {cs = ds} {rs = qs} f v) =
     let c : cs ≡ ds = cc in
     let r : rs ≡ qs = cc in
     told-once (rw (c, r) at w) v

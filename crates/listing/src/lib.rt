@@ -16,7 +16,7 @@ ghost use Rattle.tree.specs.Record.{width};
 ghost use Rattle.semantic.specs.Rows.{rowWidth};
 ghost use Rattle.pass.specs.Run.{factsLength};
 ghost use Rattle.analysis.specs.Answer.{tables};
-ghost use Rattle.listing.specs.Listing.{recordsMost, outLength, allFit};
+ghost use Rattle.listing.specs.Listing.{recordsMost, textLength, allFit};
 ghost use Rattle.listing.specs.Answered.{RowAfter, RowsIn, FactsIn, OutcomeIn, FreshIn, Before, Few, InputIn, Answered};
 
 // The most records of an input.
@@ -29,6 +29,7 @@ pub const RECORD_TABLE: usize = 6 * RECORDS;
 
 pub const TEXT: usize = 128 * RECORDS + 128;
 
+// The line of a row, behind the first `end` bytes; answers where it ends.
 fn row_after(facts: &[u32], at: usize, out: &mut [u8], end: usize) -> usize
     requires { ⌜ (rowWidth * at + rowWidth ≤ length (now facts)) × (end + 128 ≤ length (now out)) ⌝ }
     ensures { λ r. ⌜ RowAfter (now (facts .entry)) at (now (out .entry)) end (now (out .exit)) r ⌝ }
@@ -37,6 +38,7 @@ fn row_after(facts: &[u32], at: usize, out: &mut [u8], end: usize) -> usize
     end + line
 }
 
+// The lines of the first rows.
 fn rows_text(facts: &[u32], rows: usize, out: &mut [u8]) -> usize
     requires { ⌜ (rowWidth * rows ≤ length (now facts)) × (128 * rows ≤ length (now out)) ⌝ }
     ensures { λ r. ⌜ RowsIn (now (facts .entry)) rows (now (out .exit)) r ⌝ }
@@ -50,8 +52,9 @@ fn rows_text(facts: &[u32], rows: usize, out: &mut [u8]) -> usize
     end
 }
 
+// Rows behind the first ones have no fact.
 fn facts_text(facts: &[u32], rows: usize, out: &mut [u8]) -> usize
-    requires { ⌜ (length (now facts) ≡ factsLength) × (rows ≤ recordsMost) × (outLength ≤ length (now out)) ⌝ }
+    requires { ⌜ (length (now facts) ≡ factsLength) × (rows ≤ recordsMost) × (textLength ≤ length (now out)) ⌝ }
     ensures { λ r. ⌜ FactsIn (now (facts .entry)) rows (now (out .exit)) r ⌝ }
 {
     let end = rows_text(facts, rows, out);
@@ -60,7 +63,7 @@ fn facts_text(facts: &[u32], rows: usize, out: &mut [u8]) -> usize
 }
 
 fn outcome_text(a: Answer, facts: &[u32], rows: usize, out: &mut [u8]) -> usize
-    requires { ⌜ (length (now facts) ≡ factsLength) × (rows ≤ recordsMost) × (outLength ≤ length (now out)) ⌝ }
+    requires { ⌜ (length (now facts) ≡ factsLength) × (rows ≤ recordsMost) × (textLength ≤ length (now out)) ⌝ }
     ensures { λ r. ⌜ OutcomeIn a (now (facts .entry)) rows (now (out .exit)) r ⌝ }
 {
     match a {
@@ -81,8 +84,8 @@ fn fresh_text(
     work: &mut [u32],
     out: &mut [u8],
 ) -> usize
-    requires { ⌜ Few (allFit (now classes) (now records) (tables (now facts) (now captured) (now arguments) (now work))) names many ⌝ }
-    requires { ⌜ outLength ≤ length (now out) ⌝ }
+    requires { ⌜ Few (now classes) (now records) (tables (now facts) (now captured) (now arguments) (now work)) names many ⌝ }
+    requires { ⌜ textLength ≤ length (now out) ⌝ }
     ensures { λ r. ⌜ FreshIn (take names (now (classes .entry))) (take (width * many) (now (records .entry))) (now (out .exit)) r ⌝ }
 {
     let numbers = 6 * many;
@@ -145,7 +148,7 @@ fn input_text(
     work: &mut [u32],
     out: &mut [u8],
 ) -> usize
-    requires { ⌜ outLength ≤ length (now out) ⌝ }
+    requires { ⌜ textLength ≤ length (now out) ⌝ }
     ensures { λ r. ⌜ InputIn names many (now (classes .entry)) (now (records .entry)) (tables (now (facts .entry)) (now (captured .entry)) (now (arguments .entry)) (now (work .entry))) (now (out .exit)) r ⌝ }
 {
     let fits = all_fit(classes, records, facts, captured, arguments, work);

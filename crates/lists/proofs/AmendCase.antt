@@ -1,7 +1,7 @@
 -- The list that a second run keeps, row by row in its place. No place of the code stands here.
 use Prim.Native.Nat.{ℕ, _+_, _-_, _≤_, _<_}
 use mathlib.Core.List.{List, [], _∷_, _++_, map}
-use mathlib.Core.Bool.{Bool, true, false, cond, not, _||_}
+use mathlib.Core.Bool.{Bool, true, false, cond, _||_}
 use mathlib.Core.Path.{_≡_, refl, ap, sym, subst, _∙_}
 use native.Mathlib.Omega.{arith}
 use native.Mathlib.Numerals.{add-one}
@@ -9,11 +9,12 @@ use lib.ListN.{length, getD, set, take, drop, replicate, length-append, length-d
 use lib.Seq.{sets, length-take-le, take-suc, getD-drop}
 use lib.Dec.{eqb}
 use Rattle.tree.specs.Tree.{Ident, Tree}
+use Rattle.tree.specs.Check.{member}
 use Rattle.scope_map.specs.ScopeMap.{ScopeMap, Live}
 use Rattle.semantic.specs.Rows.{Item, noItem}
 use Rattle.semantic.specs.declared.Entries.{Entries}
 use Rattle.pass.specs.State.{State, Capture, itemAt, withCaptured}
-use Rattle.pass.specs.Lists.{capturedIn, capturedVars, nameOf, keep, amendList, rewriteCaptured}
+use Rattle.pass.specs.Lists.{capturedIn, capturedVars, nameOf, namesOf, keep, amendList, rewriteCaptured}
 use Rattle.pass.specs.Lambda.{nameIn, holdsLambda, nowUsed}
 use Rattle.pass.specs.Run.{itemsMost}
 use Rattle.pass.specs.Sound.{Property, Lawful, Each}
@@ -22,59 +23,28 @@ use Rattle.pass.specs.Laws.Sound.Each.{Fine, fine, each-lists}
 use Rattle.pass.specs.Laws.Sound.Items.{kept-items, amended-items}
 use Rattle.pass.specs.Laws.Sound.Known.{knowing}
 use Rattle.pass.specs.Laws.Sound.Counted.{asking-nothing}
+use Rattle.work.specs.Works.{Works}
 use Rattle.work.specs.WorksLaws.{captured-many}
 use Rattle.work.specs.Tied.{raw, Tied, Good}
 use Rattle.work.specs.declared.Pass.{Pass}
-use Rattle.lists.specs.declared.rows.Item.{Item as Coded}
+use Rattle.walk.specs.Marks.{Unmarked}
 use Rattle.lists.specs.declared.amend.Ending.{Ending}
-use Rattle.lists.specs.Contract.{Named, Told, Body, Ended, Held, HeldNamed, LoadsItem, StoresItem, amendedList, AmendsList}
+use Rattle.lists.specs.Contract.{Named, Told, Body, Ended, Held, HeldNamed, amendedList, AmendsList}
 use Rattle.lists.specs.Rewrites.{Rewrites, cleared}
+use Rattle.lists.specs.Index.{Indexed}
 use Rattle.lists.specs.Given.{given, withGiven, captured-step, rowsUpTo}
-use Rattle.lists.specs.Kept.{nowOf, CountsUsed, keptAfter, isKept, keptRow, KeepsItem, KeepHeld, KeepsRow}
+use Rattle.lists.specs.Counts.{nowOf, Counts, CountsNames}
+use Rattle.lists.specs.Kept.{Marks, keptAfter, isKept, keptRow, keptNames, KeepHeld, Right, Seen, KeepsRow, AllRight}
 use Rattle.lists.proofs.Sets.{sets-append, sets-back, getD-after}
-use Rattle.lists.proofs.Amended.{kept-is, keep-snoc, amend-snoc, amended-length, keep-fewer}
-
--- One row
-
-module _ {rs : List ℕ} {d : Ending} {p : Pass} {r : ℕ} {C w : List ℕ} {x : Coded} {n : ℕ} {k : Bool}
-    (l : LoadsItem C w r x) (c : CountsUsed rs d p w (x .name) n) (q : k ≡ (d .holds || not (eqb n 0))) where
-  told : {F A : List ℕ} (s : State) (xs : List Ident) (b : Tree) → Told rs (d .names) xs → Body rs d b → Named s → Tied (raw p F C A w) s
-      → k ≡ isKept (d .holds) (nowOf xs b s) (nameOf (itemAt s r))
-  told s xs b h y m t =
-      q
-      ∙ ap (λ (j : ℕ). d .holds || not (eqb j 0)) (c .is xs b s h y m (t .works))
-      ∙ ap (λ (z : ℕ). isKept (d .holds) (nowOf xs b s) z) (l .is _ _ _ _ t .name)
-
-  pub row-gone : {first to : ℕ} → k ≡ false → KeepsRow rs d p first to r C w false C w
-  row-gone {first} {to} e = record {
-    is = λ F A s xs b h y g m t.
-        let z : isKept (d .holds) (nowOf xs b s) (nameOf (itemAt s r)) ≡ false = sym (told s xs b h y m t) ∙ e in
-        subst
-        (λ (v : Bool). Tied (raw p F C A w) (withCaptured (cond v
-        (set (s .facts .captured) to (keptAfter (nowOf xs b s) (s .captures) (rowsUpTo first to (s .facts .captured)) (itemAt s r))) (s .facts .captured)) s))
-        (sym z) t;
-    kept = λ F A s xs b h y g m t. sym e ∙ told s xs b h y m t;
-  }
-
-  pub row-kept : {first to : ℕ} → k ≡ true → {v : Coded} {C′ w′ : List ℕ} → KeepsItem C first to n x p w v → StoresItem C w to v C′ w′
-      → KeepsRow rs d p first to r C w true C′ w′
-  row-kept {first} {to} e {C′ = C′} {w′} i u = record {
-    is = λ F A s xs b h y g m t.
-        let z : isKept (d .holds) (nowOf xs b s) (nameOf (itemAt s r)) ≡ true = sym (told s xs b h y m t) ∙ e in
-        let item = i .is rs F A s xs b (itemAt s r) m t (c .is xs b s h y m (t .works)) (l .is _ _ _ _ t) in
-        subst
-        (λ (v : Bool). Tied (raw p F C′ A w′) (withCaptured (cond v
-        (set (s .facts .captured) to (keptAfter (nowOf xs b s) (s .captures) (rowsUpTo first to (s .facts .captured)) (itemAt s r))) (s .facts .captured)) s))
-        (sym z) (u .is p F A s _ item t);
-    kept = λ F A s xs b h y g m t. sym e ∙ told s xs b h y m t;
-  }
-
-pub keep-small : {rs : List ℕ} {d : Ending} {p : Pass} {first to r : ℕ} {C w : List ℕ} {x : Coded} {n : ℕ} → KeepHeld rs d p first to r C w
-    → LoadsItem C w r x
-    → n ≡ x .binder → n < 4294967296
-keep-small {r = r} h l e = omega (arith, l .is _ _ _ _ (h .held .tied) .binder, h .held .good .sound .items r .1)
+use Rattle.lists.proofs.Amended.{kept-is, keep-snoc, amend-snoc, amended-length, keep-fewer, snoc-member, kept-after-name}
 
 -- The rows before k
+
+-- as they stand in the table
+rows-kept : (first to : ℕ) (l K : List Item) → first + length K ≤ length l → to ≡ first + length K → rowsUpTo first to (sets l first K) ≡ K
+rows-kept first to l K h e =
+    let z : to - first ≡ length K = omega arith in
+    ap (λ (j : ℕ). take j (drop first (sets l first K))) z ∙ sets-back l first K h
 
 module _ (holds : Bool) (now : List Item) (m : ScopeMap Capture) where
   abbrev pub keptRows : ℕ → ℕ → List Item → List Item
@@ -115,12 +85,16 @@ module _ (holds : Bool) (now : List Item) (m : ScopeMap Capture) where
   more-length true x K = length-append K (keptAfter now m K x ∷ [])
   more-length false x K = omega arith
 
+  -- their names, of which one may be one more
+  names-step : (x : Item) (K : List Item) (b : Bool) (y : ℕ) → member y (cond b (nameOf x ∷ namesOf K) (namesOf K)) ≡ member y (namesOf (oneMore b x K))
+  names-step x K true y =
+      ap (λ (z : ℕ). eqb y z || member y (namesOf K)) (sym (kept-after-name now m K x)) ∙ sym (snoc-member y K (keptAfter now m K x))
+  names-step x K false y = refl
+
   row-step : (first to : ℕ) (x : Item) (l K : List Item) → first + length K < length l → to ≡ first + length K → (b : Bool)
       → cond b (set (sets l first K) to (keptAfter now m (rowsUpTo first to (sets l first K)) x)) (sets l first K) ≡ sets l first (oneMore b x K)
   row-step first to x l K h e true =
-      let z : to - first ≡ length K = omega arith in
-      let back : rowsUpTo first to (sets l first K) ≡ K = ap (λ (j : ℕ). take j (drop first (sets l first K))) z ∙ sets-back l first K (omega arith) in
-      ap (λ (t : List Item). set (sets l first K) to (keptAfter now m t x)) back
+      ap (λ (t : List Item). set (sets l first K) to (keptAfter now m t x)) (rows-kept first to l K (omega arith) e)
       ∙ ap (λ (j : ℕ). set (sets l first K) j (keptAfter now m K x)) e
       ∙ sym (sets-append l first K (keptAfter now m K x ∷ []))
   row-step first to x l K h e false = refl
@@ -161,93 +135,175 @@ now-beside : (xs : List Ident) (b : Tree) (c : List Item) (s : State) → nowOf 
 unfolding capturedVars
 now-beside xs b c s = ap (nowUsed b) (captured-beside (map nameIn xs) c s (s .scope .names .live))
 
+-- The index and the counts are right in the states on the way
+
+right-kept : {rs : List ℕ} {d : Ending} {index counts : List ℕ} {xs : List Ident} {b : Tree} {s : State} (holds : Bool) (first k : ℕ)
+    → Right rs d index counts xs b s
+    → Right rs d index counts xs b (withCaptured (sets (s .facts .captured) first (keptRows holds (nowOf xs b s) (s .captures) first k (s .facts .captured))) s)
+right-kept {counts = counts} {xs} {b} {s} holds first k h =
+    let l = sets (s .facts .captured) first (keptRows holds (nowOf xs b s) (s .captures) first k (s .facts .captured)) in
+    record {
+      told = h .told;
+      body = h .body;
+      good = kept-good holds (nowOf xs b s) (s .captures) first k s (h .good);
+      named = h .named;
+      indexes = h .indexes;
+      counted = subst (Counts counts) (sym (now-beside xs b l s)) (h .counted);
+    }
+
+pub all-right : {rs : List ℕ} {d : Ending} {p : Pass} {w index counts : List ℕ} → Indexed rs (d .names) p w index → CountsNames rs d p w index counts
+    → AllRight rs d p w index counts
+all-right i c = record { indexes = i .is; counted = λ xs b s h y m works. c .is xs b s h y m works (i .is xs s h works) }
+
+right-first : {rs : List ℕ} {d : Ending} {p : Pass} {w index counts : List ℕ} {xs : List Ident} {b : Tree} {s : State} → AllRight rs d p w index counts
+    → Told rs (d .names) xs → Body rs d b → Good rs s → Named s → Works p w s → Right rs d index counts xs b s
+right-first {xs = xs} {b} {s} a h y g m works = record {
+  told = h;
+  body = y;
+  good = g;
+  named = m;
+  indexes = a .indexes xs s h works;
+  counted = a .counted xs b s h y m works;
+}
+
 -- The loop
 
 abbrev keptTo : Ending → ℕ → ℕ → List Ident → Tree → State → List Item
 keptTo d first k xs b s = keptRows (d .holds) (nowOf xs b s) (s .captures) first k (s .facts .captured)
 
-pub record Keeping (rs : List ℕ) (d : Ending) (p : Pass) (first : ℕ) (C w : List ℕ) (k to : ℕ) (C′ w′ : List ℕ) : Type 0 where
-  pub is : (F A : List ℕ) (s : State) (xs : List Ident) (b : Tree) → Told rs (d .names) xs → Body rs d b → Good rs s → Named s → Tied (raw p F C A w) s
+pub record Keeping (rs : List ℕ) (d : Ending) (p : Pass) (index counts : List ℕ) (first : ℕ) (C w : List ℕ) (k to : ℕ) (m C′ w′ : List ℕ) : Type 0 where
+  pub is : (F A : List ℕ) (s : State) (xs : List Ident) (b : Tree) → Right rs d index counts xs b s → Tied (raw p F C A w) s
       → Tied (raw p F C′ A w′) (withCaptured (sets (s .facts .captured) first (keptTo d first k xs b s)) s)
-  pub ends : (F A : List ℕ) (s : State) (xs : List Ident) (b : Tree) → Told rs (d .names) xs → Body rs d b → Good rs s → Named s → Tied (raw p F C A w) s
+  pub ends : (F A : List ℕ) (s : State) (xs : List Ident) (b : Tree) → Right rs d index counts xs b s → Tied (raw p F C A w) s
       → to ≡ first + length (keptTo d first k xs b s)
+  pub seen : (F A : List ℕ) (s : State) (xs : List Ident) (b : Tree) → Right rs d index counts xs b s → Tied (raw p F C A w) s
+      → Marks m (namesOf (keptTo d first k xs b s))
 
-module _ {rs : List ℕ} {d : Ending} {p : Pass} {first : ℕ} {C w : List ℕ} where
-  pub keep-start : Keeping rs d p first C w 0 first C w
+module _ {rs : List ℕ} {d : Ending} {p : Pass} {index counts : List ℕ} {first : ℕ} {C w : List ℕ} where
+  pub keep-start : {m : List ℕ} → Unmarked m → Keeping rs d p index counts first C w 0 first m C w
   unfolding keep amendList
-  keep-start = record { is = λ F A s xs b h y g m t. t; ends = λ F A s xs b h y g m t. omega arith }
+  keep-start u = record { is = λ F A s xs b h t. t; ends = λ F A s xs b h t. omega arith; seen = λ F A s xs b h t x q. u x }
 
-  module _ {k to : ℕ} {C′ w′ : List ℕ} (f : Keeping rs d p first C w k to C′ w′) where
-    -- the tables then hold a state
-    pub keep-held : Ended rs d → HeldNamed rs p C w → Held rs p C′ w′
-    keep-held a h =
-        let s = h .held .s in
+  module _ {k to : ℕ} {m C′ w′ : List ℕ} (f : Keeping rs d p index counts first C w k to m C′ w′) (a : Ended rs d) (h : HeldNamed rs p C w)
+      (all : AllRight rs d p w index counts)
+    where
+      first-right : Right rs d index counts (a .xs) (a .b) (h .held .s)
+      first-right = right-first all (a .names) (a .body) (h .held .good) (h .named) (h .held .tied .works)
+
+      -- the tables then hold a state
+      pub keep-held : Held rs p C′ w′
+      keep-held =
+          let s = h .held .s in
+          record {
+            facts = h .held .facts;
+            arguments = h .held .arguments;
+            s = withCaptured (sets (s .facts .captured) first (keptTo d first k (a .xs) (a .b) s)) s;
+            good = kept-good (d .holds) (nowOf (a .xs) (a .b) s) (s .captures) first k s (h .held .good);
+            tied = f .is (h .held .facts) (h .held .arguments) s (a .xs) (a .b) first-right (h .held .tied);
+          }
+
+      pub keep-row : first + k < itemsMost → KeepHeld rs d p index first to (first + k) C′ w′
+      unfolding keep-held
+      keep-row room =
+          let s = h .held .s in
+          let t = h .held .tied in
+          let ends = f .ends (h .held .facts) (h .held .arguments) s (a .xs) (a .b) first-right t in
+          let few = rows-fewer (d .holds) (nowOf (a .xs) (a .b) s) (s .captures) first k (s .facts .captured) (omega (arith, captured-many (t .works))) in
+          record {
+            ended = a;
+            held = keep-held;
+            indexes = first-right .indexes;
+            order = omega (arith, ends);
+            most = omega (arith, ends, few);
+            inside = room;
+          }
+
+  module _ {k to : ℕ} {m C′ w′ : List ℕ} (f : Keeping rs d p index counts first C w k to m C′ w′) (room : first + k < itemsMost) where
+    -- what is known where row k is at hand
+    record Turn (F A : List ℕ) (s : State) (xs : List Ident) (b : Tree) : Type 0 where
+      few : length (keptTo d first k xs b s) ≤ k
+      inside : first + k < length (s .facts .captured)
+      right : Right rs d index counts xs b (withCaptured (sets (s .facts .captured) first (keptTo d first k xs b s)) s)
+      tied : Tied (raw p F C′ A w′) (withCaptured (sets (s .facts .captured) first (keptTo d first k xs b s)) s)
+      rows : rowsUpTo first to (sets (s .facts .captured) first (keptTo d first k xs b s)) ≡ keptTo d first k xs b s
+      seen : Seen m first to (withCaptured (sets (s .facts .captured) first (keptTo d first k xs b s)) s)
+      item : getD (sets (s .facts .captured) first (keptTo d first k xs b s)) (first + k) noItem ≡ getD (s .facts .captured) (first + k) noItem
+
+    turn : (F A : List ℕ) (s : State) (xs : List Ident) (b : Tree) → Right rs d index counts xs b s → Tied (raw p F C A w) s → Turn F A s xs b
+    turn F A s xs b h t =
+        let l = s .facts .captured in
+        let K = keptTo d first k xs b s in
+        let long = captured-many (t .works) in
+        let few = rows-fewer (d .holds) (nowOf xs b s) (s .captures) first k l (omega arith) in
+        let rows : rowsUpTo first to (sets l first K) ≡ K = rows-kept first to l K (omega arith) (f .ends F A s xs b h t) in
         record {
-          facts = h .held .facts;
-          arguments = h .held .arguments;
-          s = withCaptured (sets (s .facts .captured) first (keptTo d first k (a .xs) (a .b) s)) s;
-          good = kept-good (d .holds) (nowOf (a .xs) (a .b) s) (s .captures) first k s (h .held .good);
-          tied = f .is (h .held .facts) (h .held .arguments) s (a .xs) (a .b) (a .names) (a .body) (h .held .good) (h .named) (h .held .tied);
+          few = few;
+          inside = omega arith;
+          right = right-kept (d .holds) first k h;
+          tied = f .is F A s xs b h t;
+          rows = rows;
+          seen = subst (λ (r : List Item). Marks m (namesOf r)) (sym rows) (f .seen F A s xs b h t);
+          item = getD-after l (first + k) first noItem K (omega arith);
         }
 
-  module _ {k to : ℕ} {C′ w′ : List ℕ} (f : Keeping rs d p first C w k to C′ w′) (room : first + k < itemsMost) where
-    pub keep-row : Ended rs d → HeldNamed rs p C w → KeepHeld rs d p first to (first + k) C′ w′
-    keep-row a h =
-        let s = h .held .s in
-        let t = h .held .tied in
-        let ends = f .ends (h .held .facts) (h .held .arguments) s (a .xs) (a .b) (a .names) (a .body) (h .held .good) (h .named) t in
-        let few = rows-fewer (d .holds) (nowOf (a .xs) (a .b) s) (s .captures) first k (s .facts .captured) (omega (arith, captured-many (t .works))) in
-        record { ended = a; held = keep-held f a h; order = omega (arith, ends); most = omega (arith, ends, few); inside = room }
-
-    pub keep-next : {q : Bool} {C″ w″ : List ℕ} → KeepsRow rs d p first to (first + k) C′ w′ q C″ w″ → {to′ : ℕ} → to′ ≡ to + cond q 1 0
-        → Keeping rs d p first C w (k + 1) to′ C″ w″
-    keep-next {q} {C″} {w″} r {to′} e = record {
-      is = λ F A s xs b h y g m t.
+    pub keep-next : {q : Bool} {m′ C″ w″ : List ℕ} → KeepsRow rs d p index counts m first to (first + k) C′ w′ q m′ C″ w″ → {to′ : ℕ} → to′ ≡ to + cond q 1 0
+        → Keeping rs d p index counts first C w (k + 1) to′ m′ C″ w″
+    keep-next {q} {m′} {C″} {w″} r {to′} e = record {
+      is = λ F A s xs b h t.
           let l = s .facts .captured in
           let now = nowOf xs b s in
           let K = keptTo d first k xs b s in
           let u = withCaptured (sets l first K) s in
-          let long = captured-many (t .works) in
-          let few = rows-fewer (d .holds) now (s .captures) first k l (omega arith) in
-          let ends = f .ends F A s xs b h y g m t in
+          let v = turn F A s xs b h t in
           let x = getD l (first + k) noItem in
-          let same : itemAt u (first + k) ≡ x = getD-after l (first + k) first noItem K (omega arith) in
-          let after = r .is F A u xs b h y (kept-good (d .holds) now (s .captures) first k s g) m (f .is F A s xs b h y g m t) in
+          let after = r .is F A u xs b (v .right) (v .seen) (v .tied) in
           let step : keptRow (d .holds) (nowOf xs b u) (s .captures) first to (itemAt u (first + k)) (sets l first K)
           ≡ sets l first (keptTo d first (k + 1) xs b s) =
-          ap (λ (v : List Item). keptRow (d .holds) v (s .captures) first to (itemAt u (first + k)) (sets l first K)) (now-beside xs b (sets l first K) s)
-          ∙ ap (λ (v : Item). keptRow (d .holds) now (s .captures) first to v (sets l first K)) same
-          ∙ row-step (d .holds) now (s .captures) first to x l K (omega arith) ends (isKept (d .holds) now (nameOf x))
-          ∙ ap (sets l first) (sym (rows-more (d .holds) now (s .captures) first k l (omega arith))) in
-          subst (λ (v : List Item). Tied (raw p F C″ A w″) (withCaptured v s)) step after;
-      ends = λ F A s xs b h y g m t.
+          ap (λ (j : List Item). keptRow (d .holds) j (s .captures) first to (itemAt u (first + k)) (sets l first K)) (now-beside xs b (sets l first K) s)
+          ∙ ap (λ (j : Item). keptRow (d .holds) now (s .captures) first to j (sets l first K)) (v .item)
+          ∙ row-step (d .holds) now (s .captures) first to x l K (omega (arith, v .few, v .inside)) (f .ends F A s xs b h t)
+          (isKept (d .holds) now (nameOf x))
+          ∙ ap (sets l first) (sym (rows-more (d .holds) now (s .captures) first k l (v .inside))) in
+          subst (λ (j : List Item). Tied (raw p F C″ A w″) (withCaptured j s)) step after;
+      ends = λ F A s xs b h t.
           let l = s .facts .captured in
           let now = nowOf xs b s in
           let K = keptTo d first k xs b s in
           let u = withCaptured (sets l first K) s in
-          let long = captured-many (t .works) in
-          let few = rows-fewer (d .holds) now (s .captures) first k l (omega arith) in
+          let v = turn F A s xs b h t in
           let x = getD l (first + k) noItem in
-          let same : itemAt u (first + k) ≡ x = getD-after l (first + k) first noItem K (omega arith) in
           let told : q ≡ isKept (d .holds) now (nameOf x) =
-          r .kept F A u xs b h y (kept-good (d .holds) now (s .captures) first k s g) m (f .is F A s xs b h y g m t)
-          ∙ ap (λ (v : List Item). isKept (d .holds) v (nameOf (itemAt u (first + k)))) (now-beside xs b (sets l first K) s)
-          ∙ ap (λ (v : Item). isKept (d .holds) now (nameOf v)) same in
+          r .kept F A u xs b (v .right) (v .seen) (v .tied)
+          ∙ ap (λ (j : List Item). isKept (d .holds) j (nameOf (itemAt u (first + k)))) (now-beside xs b (sets l first K) s)
+          ∙ ap (λ (j : Item). isKept (d .holds) now (nameOf j)) (v .item) in
           omega (
             arith,
             e,
-            f .ends F A s xs b h y g m t,
-            ap {B = ℕ} (λ (v : Bool). cond v 1 0) told,
-            ap length (rows-more (d .holds) now (s .captures) first k l (omega arith)),
+            f .ends F A s xs b h t,
+            ap {B = ℕ} (λ (j : Bool). cond j 1 0) told,
+            ap length (rows-more (d .holds) now (s .captures) first k l (v .inside)),
             more-length (d .holds) now (s .captures) (isKept (d .holds) now (nameOf x)) x K,
           );
+      seen = λ F A s xs b h t y g.
+          let l = s .facts .captured in
+          let now = nowOf xs b s in
+          let K = keptTo d first k xs b s in
+          let u = withCaptured (sets l first K) s in
+          let v = turn F A s xs b h t in
+          let x = getD l (first + k) noItem in
+          r .seen F A u xs b (v .right) (v .seen) (v .tied) y g
+          ∙ ap (λ (j : List Item). member y (keptNames (d .holds) j (nameOf (itemAt u (first + k))) (namesOf (rowsUpTo first to (sets l first K)))))
+          (now-beside xs b (sets l first K) s)
+          ∙ ap (λ (j : Item). member y (keptNames (d .holds) now (nameOf j) (namesOf (rowsUpTo first to (sets l first K))))) (v .item)
+          ∙ ap (λ (j : List Item). member y (keptNames (d .holds) now (nameOf x) (namesOf j))) (v .rows)
+          ∙ names-step (d .holds) now (s .captures) x K (isKept (d .holds) now (nameOf x)) y
+          ∙ sym (ap (λ (j : List Item). member y (namesOf j)) (rows-more (d .holds) now (s .captures) first k l (v .inside)));
     }
 
-pub keep-ended : {rs : List ℕ} {d : Ending} {p : Pass} {first : ℕ} {C w : List ℕ} {n k to : ℕ} {C′ w′ : List ℕ} → Keeping rs d p first C w k to C′ w′ → k ≤ n
-    → n ≤ k
-    → Keeping rs d p first C w n to C′ w′
-keep-ended {rs} {d} {p} {first} {C} {w} {n} {k} {to} {C′} {w′} f h g = let z : k
-    ≡ n = omega arith in subst (λ (j : ℕ). Keeping rs d p first C w j to C′ w′) z f
+pub keep-ended : {rs : List ℕ} {d : Ending} {p : Pass} {index counts : List ℕ} {first : ℕ} {C w : List ℕ} {n k to : ℕ} {m C′ w′ : List ℕ}
+    → Keeping rs d p index counts first C w k to m C′ w′ → k ≤ n → n ≤ k → Keeping rs d p index counts first C w n to m C′ w′
+keep-ended {rs} {d} {p} {index} {counts} {first} {C} {w} {n} {k} {to} {m} {C′} {w′} f h g =
+    let z : k ≡ n = omega arith in subst (λ (j : ℕ). Keeping rs d p index counts first C w j to m C′ w′) z f
 
 -- The whole, and zeros in the rows that are left
 
@@ -262,26 +318,30 @@ kept-whole {first = first} e {n} a c xs b s y =
     ∙ ap (λ (j : ℕ). amendList now (s .captures) [] (keep (isKept (holdsLambda b) now) (take (e .length) (drop j l)))) a
     ∙ sym (ap (amendList now (s .captures) []) (kept-is b now (take (e .length) (drop (e .first) l))))
 
-module _ {rs : List ℕ} {d : Ending} {p : Pass} {first : ℕ} {C w : List ℕ} (e : Entries) {n : ℕ} (a : first ≡ e .first) (c : n ≡ e .length) where
-  pub amends : {to : ℕ} {C′ w′ : List ℕ} → Keeping rs d p first C w n to C′ w′ → {C″ w″ : List ℕ} → Rewrites C′ w′ (cleared to (first + n)) C″ w″
-      → AmendsList rs d e p C w (to - first) C″ w″
-  unfolding rewriteCaptured
-  amends {to} f {C″} {w″} r = record {
-    many = λ F A s xs b h y g m t. omega (arith, f .ends F A s xs b h y g m t, ap length (kept-whole e a c xs b s y));
-    is = λ F A s xs b h y g m t.
-        let l = s .facts .captured in
-        let K = keptTo d first n xs b s in
-        let L = amendedList xs b e s in
-        let ends = f .ends F A s xs b h y g m t in
-        let z : first + n - to ≡ n - length K = omega arith in
-        let whole = kept-whole e a c xs b s y in
-        let after = r .is p F A (withCaptured (sets l first K) s) (f .is F A s xs b h y g m t) in
-        let step : cleared to (first + n) (sets l first K) ≡ sets l (e .first) (L ++ replicate (e .length - length L) noItem) =
-        ap (λ (j : ℕ). sets (sets l first K) to (replicate j noItem)) z
-        ∙ ap (λ (j : ℕ). sets (sets l first K) j (replicate (n - length K) noItem)) ends
-        ∙ sym (sets-append l first K (replicate (n - length K) noItem))
-        ∙ ap (λ (k : List Item). sets l first (k ++ replicate (n - length k) noItem)) whole
-        ∙ ap (λ (j : ℕ). sets l first (L ++ replicate (j - length L) noItem)) c
-        ∙ ap (λ (j : ℕ). sets l j (L ++ replicate (e .length - length L) noItem)) a in
-        subst (λ (v : List Item). Tied (raw p F C″ A w″) (withCaptured v s)) step after;
-  }
+module _ {rs : List ℕ} {d : Ending} {p : Pass} {index counts : List ℕ} {first : ℕ} {C w : List ℕ} (e : Entries) {n : ℕ} (a : first ≡ e .first)
+    (c : n ≡ e .length) (all : AllRight rs d p w index counts)
+  where
+    pub amends : {to : ℕ} {m C′ w′ : List ℕ} → Keeping rs d p index counts first C w n to m C′ w′ → {C″ w″ : List ℕ}
+        → Rewrites C′ w′ (cleared to (first + n)) C″ w″ → AmendsList rs d e p C w (to - first) C″ w″
+    unfolding rewriteCaptured
+    amends {to} f {C″} {w″} r = record {
+      many = λ F A s xs b h y g m t.
+          omega (arith, f .ends F A s xs b (right-first all h y g m (t .works)) t, ap length (kept-whole e a c xs b s y));
+      is = λ F A s xs b h y g m t.
+          let l = s .facts .captured in
+          let K = keptTo d first n xs b s in
+          let L = amendedList xs b e s in
+          let right = right-first all h y g m (t .works) in
+          let ends = f .ends F A s xs b right t in
+          let z : first + n - to ≡ n - length K = omega arith in
+          let whole = kept-whole e a c xs b s y in
+          let after = r .is p F A (withCaptured (sets l first K) s) (f .is F A s xs b right t) in
+          let step : cleared to (first + n) (sets l first K) ≡ sets l (e .first) (L ++ replicate (e .length - length L) noItem) =
+          ap (λ (j : ℕ). sets (sets l first K) to (replicate j noItem)) z
+          ∙ ap (λ (j : ℕ). sets (sets l first K) j (replicate (n - length K) noItem)) ends
+          ∙ sym (sets-append l first K (replicate (n - length K) noItem))
+          ∙ ap (λ (k : List Item). sets l first (k ++ replicate (n - length k) noItem)) whole
+          ∙ ap (λ (j : ℕ). sets l first (L ++ replicate (j - length L) noItem)) c
+          ∙ ap (λ (j : ℕ). sets l j (L ++ replicate (e .length - length L) noItem)) a in
+          subst (λ (v : List Item). Tied (raw p F C″ A w″) (withCaptured v s)) step after;
+    }

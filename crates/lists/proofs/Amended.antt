@@ -114,6 +114,9 @@ module _ (now : List Item) (m : ScopeMap Capture) where
       same : member (nameOf x) (seenAfter [] l) ≡ member (nameOf x) (namesOf (amendList now m [] l))
       same = seen-member (nameOf x) [] l ∙ or-none (member (nameOf x) (namesOf l)) ∙ sym (ap (member (nameOf x)) (amended-names [] l))
 
+  pub kept-after-name : (l : List Item) (x : Item) → nameOf (keptAfter now m l x) ≡ nameOf x
+  kept-after-name l x = kept-name (member (nameOf x) (namesOf l)) x
+
   pub amended-length : (seen : List ℕ) (l : List Item) → length (amendList now m seen l) ≡ length l
   unfolding amendList
   amended-length seen [] = refl
@@ -127,3 +130,13 @@ keep-fewer f (i ∷ l) = go (f (nameOf i)) (keep-fewer f l)
     go : (b : Bool) → length (keep f l) ≤ length l → length (cond b (i ∷ keep f l) (keep f l)) ≤ suc (length l)
     go true h = omega arith
     go false h = omega arith
+
+pub snoc-member : (y : ℕ) (l : List Item) (x : Item) → member y (namesOf (l ++ (x ∷ []))) ≡ (eqb y (nameOf x) || member y (namesOf l))
+snoc-member y [] x = refl
+snoc-member y (i ∷ l) x = ap (λ (b : Bool). eqb y (nameOf i) || b) (snoc-member y l x) ∙ go (eqb y (nameOf i)) (eqb y (nameOf x))
+  where
+    go : (a b : Bool) → (a || (b || member y (namesOf l))) ≡ (b || (a || member y (namesOf l)))
+    go true true = refl
+    go true false = refl
+    go false true = refl
+    go false false = refl

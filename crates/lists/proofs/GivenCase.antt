@@ -118,19 +118,29 @@ module _ {rs : List ℕ} {n : Names} {p : Pass} {w a : List ℕ} {i : ℕ} {r : 
         ∙ sym (ap (λ (q : Bool). recordIn (cond q (offered (map nameIn xs) (s .scope) (e .name)) none)) z);
   }
 
--- what is given is a newest binder
-pub given-newest : (ps : List ℕ) (c : Scope) (e : Live Ident) (b : Ident) → given ps c e ≡ some b → binderIn (get (c .names) (e .name)) ≡ some b
-given-newest ps c e b = go (ltb 1 (e .layer)) (not (member (e .name) ps)) (binderIn (get (c .names) (e .name)))
+-- what is given is what the name gives, a newest binder
+
+pub given-offered : (ps : List ℕ) (c : Scope) (e : Live Ident) (b : Ident) → given ps c e ≡ some b → offered ps c (e .name) ≡ some b
+given-offered ps c e b = go (ltb 1 (e .layer))
+  where
+    go : (q : Bool) → cond q (offered ps c (e .name)) none ≡ some b → offered ps c (e .name) ≡ some b
+    go false k = absurd (let z : _≡_ {A = ℕ} 0 1 = cc in omega arith)
+    go true k = k
+
+pub offered-newest : (ps : List ℕ) (c : Scope) (x : ℕ) (b : Ident) → offered ps c x ≡ some b → binderIn (get (c .names) x) ≡ some b
+offered-newest ps c x b = go (not (member x ps)) (binderIn (get (c .names) x))
   where
     picked : (y : Ident) (q : Bool) → cond q (some y) none ≡ some b → some y ≡ some b
     picked y true k = k
     picked y false k = absurd (let z : _≡_ {A = ℕ} 0 1 = cc in omega arith)
 
-    go : (q r : Bool) (o : Option Ident) → cond q (cond r (whereCaptured c o) none) none ≡ some b → o ≡ some b
-    go false r o k = absurd (let z : _≡_ {A = ℕ} 0 1 = cc in omega arith)
-    go true false o k = absurd (let z : _≡_ {A = ℕ} 0 1 = cc in omega arith)
-    go true true none k = k
-    go true true (some y) k = picked y (entryIn c (y .at) .captured) k
+    go : (r : Bool) (o : Option Ident) → cond r (whereCaptured c o) none ≡ some b → o ≡ some b
+    go false o k = absurd (let z : _≡_ {A = ℕ} 0 1 = cc in omega arith)
+    go true none k = k
+    go true (some y) k = picked y (entryIn c (y .at) .captured) k
+
+pub given-newest : (ps : List ℕ) (c : Scope) (e : Live Ident) (b : Ident) → given ps c e ≡ some b → binderIn (get (c .names) (e .name)) ≡ some b
+given-newest ps c e b q = offered-newest ps c (e .name) b (given-offered ps c e b q)
 
 -- One name more
 

@@ -1,6 +1,6 @@
 -- An entry as a second run keeps it. No place of the code stands here.
 use Prim.Native.Nat.{ℕ, _+_, _≤_, _<_}
-use mathlib.Core.List.{List}
+use mathlib.Core.List.{List, [], map}
 use mathlib.Core.Bool.{Bool, true, false, cond, _&&_, _||_}
 use mathlib.Core.Option.{Option, none, some}
 use mathlib.Core.Path.{_≡_, refl, ap, sym, subst, _∙_}
@@ -18,29 +18,33 @@ use Rattle.semantic.specs.Rows.{Item, noItem, putItem}
 use Rattle.semantic.specs.Items.{withEnclosing, withHeap}
 use Rattle.semantic.specs.Leaves.{Tells as TellsRow}
 use Rattle.semantic.specs.declared.ScopeInfo.{ScopeInfo}
-use Rattle.pass.specs.State.{State, Scope, newest}
+use Rattle.pass.specs.State.{Scope}
 use Rattle.pass.specs.Lists.{nameOf, namesOf, enclosingOf, countOf, find, keptItem}
-use Rattle.pass.specs.Run.{itemsMost}
+use Rattle.pass.specs.Lambda.{nameIn}
+use Rattle.pass.specs.Run.{rowsMost, itemsMost}
+use Rattle.pass.specs.Laws.Sound.Known.{sound-newest}
 use Rattle.work.specs.Coded.{recordIn, recordOf}
 use Rattle.work.specs.Leaves.{Tells, LoadsEntry}
 use Rattle.work.specs.Scope.{KnownHere}
-use Rattle.work.specs.WorksLaws.{captured-many}
 use Rattle.work.specs.Captures.{GetsCapture, LoadsTaken}
 use Rattle.work.specs.CapturesLaws.{found-below, captures-few}
-use Rattle.work.specs.Tied.{raw, Tied}
 use Rattle.work.specs.declared.Pass.{Pass}
 use Rattle.work.specs.declared.captures.Taken.{Taken}
 use Rattle.work.specs.declared.entries.Entry.{Entry as Coded}
 use Rattle.work.specs.declared.scope.Binder.{Binder}
 use Rattle.work.specs.declared.scope.Binder.the-variants as binder
+use Rattle.walk.specs.Marks.{isMarked}
+use Rattle.walk.specs.declared.uses.Names.{Names}
 use Rattle.lists.specs.declared.rows.Item.{Item as Coded·Item}
 use Rattle.lists.specs.Contract.{ItemIs}
-use Rattle.lists.specs.Index.{entryIn}
+use Rattle.lists.specs.Index.{entryIn, offered, Offers}
 use Rattle.lists.specs.Given.{rowsUpTo}
-use Rattle.lists.specs.Kept.{StandsBefore, itemIn, newestItem, amendedInfo, AmendsInfo, nowOf, keptAfter, KeepsItem}
+use Rattle.lists.specs.Counts.{nowOf}
+use Rattle.lists.specs.Kept.{StandsBefore, itemIn, amendedInfo, SomeBinder, AmendsInfo, IndexHeld, KeepsItem}
 use Rattle.lists.proofs.Sets.{rows-next, rows-none}
 use Rattle.lists.proofs.NearCase.{no-capture-at, capture-at}
-use Rattle.lists.proofs.NowCase.{Newest, used-newest, find-some, find-none}
+use Rattle.lists.proofs.GivenCase.{offered-newest}
+use Rattle.lists.proofs.NowCase.{Offered, used-offered, find-some, find-none}
 
 -- Whether a name stands in the rows from i on
 
@@ -58,18 +62,27 @@ module _ {C : List ℕ} {first end name i : ℕ} (f : StandsFrom C first end nam
         ∙ ap (λ (n : ℕ). eqb name n || member name (namesOf (rowsUpTo (i + 1) end l))) (sym (t .is l e (omega arith)))
         ∙ ap (λ (c : Bool). c || member name (namesOf (rowsUpTo (i + 1) end l))) q
 
-    pub stands-here : v ≡ name → StandsBefore C first end name true
-    stands-here q = record { is = λ l e m. sym (turn true (eq-eqb name v (sym q)) l e m) }
+    pub stands-here : v ≡ name → StandsBefore C first end [] name true
+    stands-here q = record { is = λ l e m k. sym (turn true (eq-eqb name v (sym q)) l e m) }
 
     pub stands-later : (v ≡ name → ⊥) → StandsFrom C first end name (i + 1)
     stands-later q = record { is = turn false (ne-eqb name v (λ z. q (sym z))) }
 
-  pub stands-last : i ≤ end → end ≤ i → StandsBefore C first end name false
+  pub stands-last : i ≤ end → end ≤ i → StandsBefore C first end [] name false
   stands-last h g = record {
-    is = λ l e m.
+    is = λ l e m k.
         let z : i ≡ end = omega arith in
         sym (f .is l e m ∙ ap (λ (j : ℕ). member name (namesOf (rowsUpTo j end l))) z ∙ ap (λ (r : List Item). member name (namesOf r)) (rows-none l end));
   }
+
+-- by the marks
+
+module _ {C : List ℕ} {first end : ℕ} {m : List ℕ} {name : ℕ} where
+  pub stands-marked : {x : ℕ} → x ≡ name → x < length m → StandsBefore C first end m name (isMarked m x)
+  stands-marked e h = record { is = λ l q k z. ap (isMarked m) e ∙ z name (omega arith) }
+
+  pub stands-searched : {r : Bool} → StandsBefore C first end [] name r → StandsBefore C first end m name r
+  stands-searched t = record { is = λ l q k z. t .is l q k (λ x h. absurd (omega arith)) }
 
 -- Whether a name's newest capture comes from the enclosing lambda
 
@@ -100,31 +113,37 @@ module _ {p : Pass} {w : List ℕ} (x n : ℕ) where
   pub once-yes : n ≡ 1 → {r : Bool} → Tells p w (λ s. enclosingOf (get (s .captures) x)) r → Tells p w (λ s. eqb n 1 && enclosingOf (get (s .captures) x)) r
   once-yes h t = record { is = λ s k. t .is s k ∙ sym (ap (λ (b : Bool). b && enclosingOf (get (s .captures) x)) (eq-eqb n 1 h)) }
 
--- What an entry takes from its name's newest binder
+-- What an entry takes from the binder that its name gives
 
-module _ {p : Pass} {w : List ℕ} (x n : ℕ) (v : ScopeInfo) (o : Binder) (t : Tells p w (λ s. recordIn (newest s x)) (recordOf o)) where
-  pub amended-none : o ≡ binder.Nothing → AmendsInfo p w x n v v
-  amended-none e = record { is = λ s k. go (s .scope) (newest s x) (eqb n 1 && enclosingOf (get (s .captures) x)) (ap recordOf (sym e) ∙ t .is s k) }
+module _ {p : Pass} {w : List ℕ} (x n : ℕ) (v : ScopeInfo) {found : Binder} where
+  pub amended-none : found ≡ binder.Nothing → AmendsInfo found p w x n v v
+  amended-none e = record { is = λ s o k q. go (s .scope) o (eqb n 1 && enclosingOf (get (s .captures) x)) (ap recordOf (sym e) ∙ q) }
     where
-      go : (c : Scope) (u : Option Ident) (q : Bool) → none ≡ recordIn u → v ≡ amendedInfo (itemIn c u) q v
+      go : (c : Scope) (o : Option Ident) (q : Bool) → none ≡ recordIn o → v ≡ amendedInfo (itemIn c o) q v
       go c none q e = refl
       go c (some b) q e = absurd (let z : _≡_ {A = ℕ} 0 1 = cc in omega arith)
 
-  pub amended-some : {b : ℕ} → o ≡ binder.At b → {d : Coded} → LoadsEntry w b d → {q : Bool} → Tells p w (λ s. eqb n 1 && enclosingOf (get (s .captures) x)) q
-      → AmendsInfo p w x n v (withHeap (d .heap) (withEnclosing q v))
+  pub amended-some : {b : ℕ} → found ≡ binder.At b → {d : Coded} → LoadsEntry w b d
+      → {q : Bool} → Tells p w (λ s. eqb n 1 && enclosingOf (get (s .captures) x)) q → AmendsInfo found p w x n v (withHeap (d .heap) (withEnclosing q v))
   amended-some {b} e {d} l {q} u = record {
-    is = λ s k.
-        go (s .scope) (newest s x) (eqb n 1 && enclosingOf (get (s .captures) x)) (u .is s k) (ap recordOf (sym e) ∙ t .is s k)
-        (ap (λ (y : Coded). y .heap) (l .is p s k));
+    is = λ s o k c.
+        go (s .scope) o (eqb n 1 && enclosingOf (get (s .captures) x)) (u .is s k) (ap recordOf (sym e) ∙ c) (ap (λ (y : Coded). y .heap) (l .is p s k));
   }
     where
-      go : (c : Scope) (y : Option Ident) (r : Bool) → q ≡ r → some b ≡ recordIn y → d .heap ≡ entryIn c b .heapOffset
-          → withHeap (d .heap) (withEnclosing q v) ≡ amendedInfo (itemIn c y) r v
+      go : (c : Scope) (o : Option Ident) (r : Bool) → q ≡ r → some b ≡ recordIn o → d .heap ≡ entryIn c b .heapOffset
+          → withHeap (d .heap) (withEnclosing q v) ≡ amendedInfo (itemIn c o) r v
       go c none r e f h = absurd (let z : _≡_ {A = ℕ} 0 1 = cc in omega arith)
       go c (some y) r e f h =
           let at : b ≡ y .at = cc in
           let heap : d .heap ≡ entryIn c (y .at) .heapOffset = h ∙ ap (λ (j : ℕ). entryIn c j .heapOffset) at in
           rw (e, heap)
+
+pub amended-inside : {found : Binder} {b : ℕ} → found ≡ binder.At b → SomeBinder found → b < rowsMost
+amended-inside {b = b} e h = go (h .o) refl (ap recordOf (sym e) ∙ h .code)
+  where
+    go : (o : Option Ident) → h .o ≡ o → some b ≡ recordIn o → b < rowsMost
+    go none k q = absurd (let z : _≡_ {A = ℕ} 0 1 = cc in omega arith)
+    go (some y) k q = let z : b ≡ y .at = cc in omega (arith, h .few y k)
 
 -- The entry that is kept
 
@@ -132,53 +151,58 @@ same-item : (b : Bool) (y : Item) → cond b y y ≡ y
 same-item true y = refl
 same-item false y = refl
 
-stands : {C : List ℕ} {first to : ℕ} {x : Coded·Item} {r : Bool} {p : Pass} {F A w : List ℕ} (s : State) (y : Item) → StandsBefore C first to (x .name) r
-    → Tied (raw p F C A w) s → ItemIs x y → r ≡ member (nameOf y) (namesOf (rowsUpTo first to (s .facts .captured)))
-stands {first = first} {to} s y f t e =
-    f .is (s .facts .captured) (t .captured) (captured-many (t .works))
-    ∙ ap (λ (z : ℕ). member z (namesOf (rowsUpTo first to (s .facts .captured)))) (e .name)
+pub offer-here : {rs : List ℕ} {names : Names} {p : Pass} {w index : List ℕ} → IndexHeld rs names p w index → KnownHere rs p w
+offer-here h = record { s = h .s; works = h .works; binders = h .good .sound .binders }
 
-module _ {C : List ℕ} {first to n : ℕ} {x : Coded·Item} {p : Pass} {w : List ℕ} where
-  pub kept-absent : n ≡ 0 → KeepsItem C first to n x p w x
+-- what the name gives is a binder of the tree
+pub offer-binder : {rs : List ℕ} {names : Names} {p : Pass} {w index : List ℕ} {x : ℕ} {found : Binder} → IndexHeld rs names p w index
+    → Offers rs names p w index x found → SomeBinder found
+offer-binder {x = x} h t = record {
+  o = offered (map nameIn (h .xs)) (h .s .scope) x;
+  code = t .is (h .xs) (h .s) (h .told) (h .works) (h .indexes);
+  few = λ b q. sound-newest (λ y k. k .few) x b (h .good .sound) (offered-newest (map nameIn (h .xs)) (h .s .scope) x b q) .few;
+}
+
+module _ {rs : List ℕ} {names : Names} {p : Pass} {w index : List ℕ} {n : ℕ} {seen : Bool} {x : Coded·Item} where
+  pub kept-absent : n ≡ 0 → KeepsItem rs names p w index n seen x x
   kept-absent h = record {
-    is = λ rs F A s xs b y m t c e.
+    is = λ xs b s y told m works idx c e.
         let now = nowOf xs b s in
         let none-of : find (nameOf y) now ≡ none = find-none (nameOf y) now (ap (λ (z : ℕ). countOf z now) (sym (e .name)) ∙ sym c ∙ h) in
-        let l = rowsUpTo first to (s .facts .captured) in
-        let q = member (nameOf y) (namesOf l) in
-        let same : y ≡ keptAfter now (s .captures) l y =
-        sym (ap (λ (o : Option Item). cond q y (keptItem now (s .captures) o y)) none-of ∙ same-item q y) in
+        let same : y ≡ cond seen y (keptItem now (s .captures) (find (nameOf y) now) y) =
+        sym (ap (λ (o : Option Item). cond seen y (keptItem now (s .captures) o y)) none-of ∙ same-item seen y) in
         subst (ItemIs x) same e;
   }
 
-  module _ {r : Bool} (f : StandsBefore C first to (x .name) r) where
-    pub kept-seen : r ≡ true → KeepsItem C first to n x p w x
-    kept-seen h = record {
-      is = λ rs F A s xs b y m t c e.
-          let now = nowOf xs b s in
-          let same : y ≡ keptAfter now (s .captures) (rowsUpTo first to (s .facts .captured)) y =
-          sym (ap (λ (q : Bool). cond q y (keptItem now (s .captures) (find (nameOf y) now) y)) (sym (stands s y f t e) ∙ h)) in
-          subst (ItemIs x) same e;
-    }
+  pub kept-seen : seen ≡ true → KeepsItem rs names p w index n seen x x
+  kept-seen h = record {
+    is = λ xs b s y told m works idx c e.
+        let now = nowOf xs b s in
+        subst (ItemIs x) (sym (ap (λ (q : Bool). cond q y (keptItem now (s .captures) (find (nameOf y) now) y)) h)) e;
+  }
 
-    pub kept-amended : r ≡ false → (n ≡ 0 → ⊥) → {v : ScopeInfo} → AmendsInfo p w (x .name) n (x .info) v
-        → KeepsItem C first to n x p w (record { name = x .name; binder = x .binder; info = v })
-    kept-amended h g {v} a = record {
-      is = λ rs F A s xs b y m t c e.
-          let now = nowOf xs b s in
-          let z = nameOf y in
-          let count : countOf z now ≡ n = ap (λ (i : ℕ). countOf i now) (sym (e .name)) ∙ sym c in
-          let k = find-some (Newest (s .scope)) z now (used-newest xs b s m) (λ q. g (sym count ∙ q)) in
-          let item : newestItem (s .scope) (x .name) ≡ some (k .v) = ap (newestItem (s .scope)) (e .name ∙ sym (k .named)) ∙ k .holds in
-          let kept : keptAfter now (s .captures) (rowsUpTo first to (s .facts .captured)) y ≡ keptItem now (s .captures) (some (k .v)) y =
-          ap (λ (q : Bool). cond q y (keptItem now (s .captures) (find z now) y)) (sym (stands s y f t e) ∙ h)
-          ∙ ap (λ (o : Option Item). keptItem now (s .captures) o y) (k .is) in
-          let heap = k .v .info .«heap_offset» in
-          let info : v ≡ keptItem now (s .captures) (some (k .v)) y .info =
-          a .is s (t .works)
-          ∙ ap (λ (o : Option Item). amendedInfo o (eqb n 1 && enclosingOf (get (s .captures) (x .name))) (x .info)) item
-          ∙ ap (λ (j : ℕ). withHeap heap (withEnclosing (eqb j 1 && enclosingOf (get (s .captures) (x .name))) (x .info))) (sym count)
-          ∙ ap (λ (j : ℕ). withHeap heap (withEnclosing (eqb (countOf z now) 1 && enclosingOf (get (s .captures) j)) (x .info))) (e .name)
-          ∙ ap (λ (u : ScopeInfo). withHeap heap (withEnclosing (eqb (countOf z now) 1 && enclosingOf (get (s .captures) z)) u)) (e .info) in
-          subst (ItemIs (record { name = x .name; binder = x .binder; info = v })) (sym kept) (record { name = e .name; binder = e .binder; info = info });
-    }
+  pub kept-amended : (n ≡ 0 → ⊥) → seen ≡ false → {found : Binder} → Offers rs names p w index (x .name) found
+      → {v : ScopeInfo} → AmendsInfo found p w (x .name) n (x .info) v
+      → KeepsItem rs names p w index n seen x (record { name = x .name; binder = x .binder; info = v })
+  kept-amended g h {found} t {v} a = record {
+    is = λ xs b s y told m works idx c e.
+        let now = nowOf xs b s in
+        let ps = map nameIn xs in
+        let z = nameOf y in
+        let count : countOf z now ≡ n = ap (λ (i : ℕ). countOf i now) (sym (e .name)) ∙ sym c in
+        let k = find-some (Offered ps (s .scope)) z now (used-offered xs b s m) (λ q. g (sym count ∙ q)) in
+        let o = offered ps (s .scope) (x .name) in
+        let item : itemIn (s .scope) o ≡ some (k .v) =
+        ap (λ (j : ℕ). itemIn (s .scope) (offered ps (s .scope) j)) (e .name ∙ sym (k .named)) ∙ k .holds in
+        let kept : cond seen y (keptItem now (s .captures) (find z now) y) ≡ keptItem now (s .captures) (some (k .v)) y =
+        ap (λ (q : Bool). cond q y (keptItem now (s .captures) (find z now) y)) h
+        ∙ ap (λ (u : Option Item). keptItem now (s .captures) u y) (k .is) in
+        let heap = k .v .info .«heap_offset» in
+        let info : v ≡ keptItem now (s .captures) (some (k .v)) y .info =
+        a .is s o works (t .is xs s told works idx)
+        ∙ ap (λ (u : Option Item). amendedInfo u (eqb n 1 && enclosingOf (get (s .captures) (x .name))) (x .info)) item
+        ∙ ap (λ (j : ℕ). withHeap heap (withEnclosing (eqb j 1 && enclosingOf (get (s .captures) (x .name))) (x .info))) (sym count)
+        ∙ ap (λ (j : ℕ). withHeap heap (withEnclosing (eqb (countOf z now) 1 && enclosingOf (get (s .captures) j)) (x .info))) (e .name)
+        ∙ ap (λ (u : ScopeInfo). withHeap heap (withEnclosing (eqb (countOf z now) 1 && enclosingOf (get (s .captures) z)) u)) (e .info) in
+        subst (ItemIs (record { name = x .name; binder = x .binder; info = v })) (sym kept) (record { name = e .name; binder = e .binder; info = info });
+  }

@@ -14,6 +14,8 @@ pub mod InsertCase
 pub mod FillCase
 pub mod StoreCase
 pub mod NowCase
+pub mod TallyCase
 pub mod KeptCase
 pub mod Amended
+pub mod KeptRowCase
 pub mod AmendCase

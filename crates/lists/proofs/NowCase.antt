@@ -1,12 +1,12 @@
 -- How often a name stands in the list made anew, and the entry that it has there. No place of the code stands here.
 use Prim.Native.Nat.{ℕ, suc, _+_, _≤_, _<_}
 use mathlib.Core.List.{List, [], _∷_, map}
-use mathlib.Core.Bool.{Bool, true, false, cond, _&&_}
+use mathlib.Core.Bool.{Bool, true, false, cond, _&&_, _||_}
 use mathlib.Core.Option.{Option, none, some}
 use mathlib.Core.Path.{_≡_, refl, ap, sym, subst, _∙_}
 use native.Mathlib.Omega.{arith}
 use borrow.Author.Tests.{eqb-true, eq-eqb, ne-eqb}
-use lib.ListN.{length}
+use lib.ListN.{length, getD}
 use lib.Dec.{eqb}
 use Rattle.tree.specs.Tree.{Ident, Tree}
 use Rattle.tree.specs.Check.{member}
@@ -26,12 +26,15 @@ use Rattle.work.specs.Scope.{before, TellsLive}
 use Rattle.work.specs.declared.Pass.{Pass}
 use Rattle.work.specs.declared.scope.Binder.{Binder}
 use Rattle.walk.specs.Contract.{UsesName}
+use Rattle.walk.specs.Marks.{isMarked}
 use Rattle.walk.specs.declared.uses.Names.{Names}
 use Rattle.lists.specs.declared.amend.Ending.{Ending}
-use Rattle.lists.specs.Contract.{Named, Told, Body}
+use Rattle.lists.specs.Contract.{Named, Told}
+use Rattle.lists.specs.Index.{offered}
 use Rattle.lists.specs.Given.{given, withGiven, captured-step, isSome, Gives}
-use Rattle.lists.specs.Kept.{GivesName, CountsNow, nowOf, CountsUsed, itemIn, newestItem}
-use Rattle.lists.proofs.GivenCase.{next-live, before-none, before-all, live-is, given-newest, next-given}
+use Rattle.lists.specs.Counts.{GivesName, CountsNow, nowOf, usedIn, MarksBody, TellsUsed, CountsUsed}
+use Rattle.lists.specs.Kept.{itemIn}
+use Rattle.lists.proofs.GivenCase.{next-live, before-none, before-all, live-is, given-offered, given-newest, next-given}
 
 -- The newest binder of a name has the name
 
@@ -44,7 +47,7 @@ named-in (e ∷ l) a x b q = pick (eqb (e .name) x) refl q (named-in l (a .1) x 
     pick true k q r = let same : e .value ≡ b = cc in ap (λ (y : Ident). y .name) (sym same) ∙ a .0 ∙ eqb-true (e .name) x k
     pick false k q r = r q
 
-given-named : (ps : List ℕ) (s : State) → Named s → (e : Live Ident) (b : Ident) → given ps (s .scope) e ≡ some b → b .name ≡ e .name
+pub given-named : (ps : List ℕ) (s : State) → Named s → (e : Live Ident) (b : Ident) → given ps (s .scope) e ≡ some b → b .name ≡ e .name
 given-named ps s n e b q = named-in (s .scope .names .live) n (e .name) b (given-newest ps (s .scope) e b q)
 
 -- A name more
@@ -53,7 +56,7 @@ neither : (q : Bool) → _≡_ {A = ℕ} (cond (q && false) 1 0) 0
 neither true = refl
 neither false = refl
 
-count-with : (c : Scope) (o : Option Ident) (l : List Item) (x y : ℕ) → ((b : Ident) → o ≡ some b → b .name ≡ y)
+pub count-with : (c : Scope) (o : Option Ident) (l : List Item) (x y : ℕ) → ((b : Ident) → o ≡ some b → b .name ≡ y)
     → countOf x (withGiven c o l) ≡ countOf x l + cond (eqb y x && isSome (recordIn o)) 1 0
 unfolding countOf
 count-with c none l x y h = omega (arith, neither (eqb y x))
@@ -136,60 +139,85 @@ count-keep f x (i ∷ l) = go (f (nameOf i)) refl (eqb (nameOf i) x) refl (count
         ≡ true = ap f (sym (eqb-true (nameOf i) x k)) ∙ e in rw (k, z) (let y : countOf x K ≡ countOf x l = rw z at r in ap suc y)
     go false e true k r = let z : f x ≡ false = ap f (sym (eqb-true (nameOf i) x k)) ∙ e in rw z (rw z at r)
 
-used : {rs : List ℕ} {d : Ending} {name : ℕ} {u : Bool} {b : Tree} (l : List Item) → d .holds ≡ false → UsesName rs (d .first) (d .end) name u → Body rs d b
-    → countOf name (nowUsed b l) ≡ cond u (countOf name l) 0
-used {name = name} {b = b} l h t y =
-    let z : holdsLambda b ≡ false = sym (y .holds) ∙ h in
-    ap (λ (q : Bool). countOf name (cond q l (keep (λ x. member x (namesUsed b)) l))) z
-    ∙ count-keep (λ x. member x (namesUsed b)) name l
-    ∙ ap (λ (q : Bool). cond q (countOf name l) 0) (sym (t .is (y .many) b (y .stands) (y .ends)))
+pub count-used : (b : Tree) (x : ℕ) (l : List Item) → countOf x (nowUsed b l) ≡ cond (usedIn b x) (countOf x l) 0
+count-used b x l = go (holdsLambda b)
+  where
+    go : (h : Bool) → countOf x (cond h l (keep (λ y. member y (namesUsed b)) l)) ≡ cond (h || member x (namesUsed b)) (countOf x l) 0
+    go true = refl
+    go false = count-keep (λ y. member y (namesUsed b)) x l
+
+-- Whether the body uses a name
+
+module _ {rs : List ℕ} {d : Ending} {m : List ℕ} {name : ℕ} where
+  pub used-held : d .holds ≡ true → TellsUsed rs d m name true
+  used-held h = record { is = λ b y k. sym (ap (λ (q : Bool). q || member name (namesUsed b)) (sym (y .holds) ∙ h)) }
+
+  module _ (h : d .holds ≡ false) where
+    pub used-searched : {r : Bool} → UsesName rs (d .first) (d .end) name r → TellsUsed rs d m name r
+    used-searched t = record {
+      is = λ b y k. t .is (y .many) b (y .stands) (y .ends) ∙ sym (ap (λ (q : Bool). q || member name (namesUsed b)) (sym (y .holds) ∙ h));
+    }
+
+    pub used-marked : {x : ℕ} → x ≡ name → x < length m → TellsUsed rs d m name (isMarked m x)
+    used-marked {x} e g = record {
+      is = λ b y k.
+          ap (isMarked m) e
+          ∙ k .is h .is name (omega arith) .is (y .many) b (y .stands) (y .ends)
+          ∙ sym (ap (λ (q : Bool). q || member name (namesUsed b)) (sym (y .holds) ∙ h));
+    }
+
+pub marks-none : {rs : List ℕ} {d : Ending} → MarksBody rs d []
+marks-none = record { is = λ e. record { is = λ x h. absurd (omega arith) } }
 
 module _ {rs : List ℕ} {d : Ending} {p : Pass} {w : List ℕ} {name : ℕ} where
-  pub used-holds : {n : ℕ} → d .holds ≡ true → CountsNow rs (d .names) p w name n → CountsUsed rs d p w name n
-  used-holds {n} h c = record {
-    is = λ xs b s k y m works.
-        let z : holdsLambda b ≡ true = sym (y .holds) ∙ h in
-        let l = capturedVars (map nameIn xs) s in
-        c .is xs s k m works
-        ∙ sym (ap (λ (q : Bool). countOf name (cond q l (keep (λ x. member x (namesUsed b)) l))) z);
-  }
-
-  module _ {u : Bool} (h : d .holds ≡ false) (t : UsesName rs (d .first) (d .end) name u) where
-    pub used-yes : {n : ℕ} → u ≡ true → CountsNow rs (d .names) p w name n → CountsUsed rs d p w name n
+  module _ {u : Bool} (t : TellsUsed rs d [] name u) where
+    pub used-yes : {n : ℕ} → u ≡ true → CountsNow rs (d .names) p w name n → CountsUsed rs d p w [] name n
     used-yes {n} e c = record {
-      is = λ xs b s k y m works.
+      is = λ xs b s k y m works z.
           let l = capturedVars (map nameIn xs) s in
-          c .is xs s k m works ∙ sym (used l h t y ∙ ap (λ (q : Bool). cond q (countOf name l) 0) e);
+          c .is xs s k m works ∙ sym (count-used b name l ∙ ap (λ (q : Bool). cond q (countOf name l) 0) (sym (t .is b y marks-none) ∙ e));
     }
 
-    pub used-no : u ≡ false → CountsUsed rs d p w name 0
+    pub used-no : u ≡ false → CountsUsed rs d p w [] name 0
     used-no e = record {
-      is = λ xs b s k y m works.
+      is = λ xs b s k y m works z.
           let l = capturedVars (map nameIn xs) s in
-          sym (used l h t y ∙ ap (λ (q : Bool). cond q (countOf name l) 0) e);
+          sym (count-used b name l ∙ ap (λ (q : Bool). cond q (countOf name l) 0) (sym (t .is b y marks-none) ∙ e));
     }
 
--- Every entry is that of its name's newest binder
+  -- by the counts
+  module _ {a : List ℕ} where
+    pub count-told : {x n : ℕ} → x ≡ name → x < length a → n ≡ getD a x 0 → CountsUsed rs d p w a name n
+    count-told {x} e h q = record { is = λ xs b s k y m works z. q ∙ ap (λ (i : ℕ). getD a i 0) e ∙ z name (omega arith) }
 
-abbrev pub Newest : Scope → Item → Type 0
-Newest c v = newestItem c (nameOf v) ≡ some v
+    pub count-searched : {n : ℕ} → CountsUsed rs d p w [] name n → CountsUsed rs d p w a name n
+    count-searched c = record { is = λ xs b s k y m works z. c .is xs b s k y m works (λ x h. absurd (omega arith)) }
 
-now-newest : (ps : List ℕ) (s : State) → Named s → (l : List (Live Ident)) → All (Newest (s .scope)) (capturedIn ps s l)
+-- Every entry is the one that its name gives
+
+abbrev pub Offered : List ℕ → Scope → Item → Type 0
+Offered ps c v = itemIn c (offered ps c (nameOf v)) ≡ some v
+
+now-offered : (ps : List ℕ) (s : State) → Named s → (l : List (Live Ident)) → All (Offered ps (s .scope)) (capturedIn ps s l)
 unfolding capturedIn
-now-newest ps s n [] = tt
-now-newest ps s n (e ∷ l) = subst (All (Newest (s .scope))) (sym (captured-step ps s e l)) (go (given ps (s .scope) e) refl (now-newest ps s n l))
+now-offered ps s n [] = tt
+now-offered ps s n (e ∷ l) = subst (All (Offered ps (s .scope))) (sym (captured-step ps s e l)) (go (given ps (s .scope) e) refl (now-offered ps s n l))
   where
-    go : (o : Option Ident) → given ps (s .scope) e ≡ o → All (Newest (s .scope)) (capturedIn ps s l)
-        → All (Newest (s .scope)) (withGiven (s .scope) o (capturedIn ps s l))
+    go : (o : Option Ident) → given ps (s .scope) e ≡ o → All (Offered ps (s .scope)) (capturedIn ps s l)
+        → All (Offered ps (s .scope)) (withGiven (s .scope) o (capturedIn ps s l))
     go none q r = r
-    go (some b) q r = (ap (newestItem (s .scope)) (given-named ps s n e b q) ∙ ap (itemIn (s .scope)) (given-newest ps (s .scope) e b q), r)
+    go (some b) q r =
+        let same = ap (λ (x : ℕ). itemIn (s .scope) (offered ps (s .scope) x)) (given-named ps s n e b q) in
+        (same ∙ ap (itemIn (s .scope)) (given-offered ps (s .scope) e b q), r)
 
-pub used-newest : (xs : List Ident) (b : Tree) (s : State) → Named s → All (Newest (s .scope)) (nowOf xs b s)
+pub used-offered : (xs : List Ident) (b : Tree) (s : State) → Named s → All (Offered (map nameIn xs) (s .scope)) (nowOf xs b s)
 unfolding capturedVars
-used-newest xs b s n =
-    let l = capturedIn (map nameIn xs) s (s .scope .names .live) in
-    let h = now-newest (map nameIn xs) s n (s .scope .names .live) in
-    all-either (Newest (s .scope)) (holdsLambda b) l _ h (kept-items (Newest (s .scope)) (λ x. member x (namesUsed b)) l h)
+used-offered xs b s n =
+    let ps = map nameIn xs in
+    let P = Offered ps (s .scope) in
+    let l = capturedIn ps s (s .scope .names .live) in
+    let h = now-offered ps s n (s .scope .names .live) in
+    all-either P (holdsLambda b) l _ h (kept-items P (λ x. member x (namesUsed b)) l h)
 
 -- The first entry of a name
 

@@ -19,6 +19,10 @@ use Rattle.work.specs.declared.scope.Binder.{Binder}
 use Rattle.walk.specs.declared.uses.Names.{Names}
 use Rattle.lists.specs.Contract.{Told}
 
+-- how many names an array by name has
+abbrev pub namesMost : ℕ
+namesMost = 1024
+
 abbrev pub entryIn : Scope → ℕ → Entry
 entryIn c i = getD (c .entries) i noEntry
 
@@ -38,13 +42,14 @@ offered ps c x = cond (not (member x ps)) (capturedNewest c x) none
 abbrev pub Indexes : List ℕ → List ℕ → Scope → Type 0
 Indexes a ps c = (x : ℕ) → x < length a → getD a x 0 ≡ lastCode (offered ps c x)
 
-abbrev pub decoded : ℕ → Option ℕ
-decoded zero = none
-decoded (suc b) = some b
-
 -- in every state held, for the parameters told
 pub record Indexed (rs : List ℕ) (n : Names) (p : Pass) (w a : List ℕ) : Type 0 where
   pub is : (xs : List Ident) (s : State) → Told rs n xs → Works p w s → Indexes a (map nameIn xs) (s .scope)
+
+-- the record that a number of it stands for
+abbrev pub decoded : ℕ → Option ℕ
+decoded zero = none
+decoded (suc b) = some b
 
 -- What the functions promise
 

@@ -1,6 +1,12 @@
-// The list that a second run keeps at a lambda's end.
-use crate::captured::captured_at;
-use crate::captured::is_at;
+// The list that a second run keeps at a lambda's end. For a long list three arrays by name are made: what a name gives (`index`), how
+// often it stands in the list made anew (`counts`), and whether an entry of it is kept already (`seen`). What they tell is looked for where
+// they do not have the name; for a short list they have none.
+use crate::counts::count_names;
+use crate::counts::count_used;
+use crate::index::FEW;
+use crate::index::NAMES;
+use crate::index::index_names;
+use crate::index::offered;
 use crate::rows::Item;
 use crate::rows::clear_items;
 use crate::rows::load_item;
@@ -10,16 +16,15 @@ use semantic::Entries;
 use semantic::ScopeInfo;
 use table::wide;
 use walk::uses::Names;
-use walk::uses::uses_name;
+use walk::uses::mark;
 use work::Pass;
 use work::captures::load_taken;
 use work::captures::newest_capture;
 use work::entries::load_entry;
 use work::scope::Binder;
-use work::scope::live_at;
-use work::scope::newest;
 ghost use mathlib.Core.Path.{_≡_};
 ghost use mathlib.Core.Bool.{_&&_, _||_, not};
+ghost use mathlib.Core.List.{[]};
 ghost use Prim.Native.Nat.{_≤_, _<_};
 ghost use lib.ListN.{length};
 ghost use lib.Dec.{eqb};
@@ -27,11 +32,10 @@ ghost use Rattle.scope_map.specs.ScopeMap.{get};
 ghost use Rattle.pass.specs.Lists.{enclosingOf};
 ghost use Rattle.pass.specs.Run.{itemsMost, itemsLength};
 ghost use Rattle.work.specs.Leaves.{Tells};
-ghost use Rattle.work.specs.Scope.{KnownHere};
-ghost use Rattle.walk.specs.Contract.{SomeNames};
+ghost use Rattle.walk.specs.Marks.{Unmarked};
 ghost use Rattle.lists.specs.Contract.{Inside, Ended, HeldNamed, AmendsList};
 ghost use Rattle.lists.specs.Index.{SomeHere};
-ghost use Rattle.lists.specs.Kept.{GivesName, CountsNow, CountsUsed, StandsBefore, AmendsInfo, KeepsItem, KeepHeld, KeepsRow};
+ghost use Rattle.lists.specs.Kept.{StandsBefore, SomeBinder, AmendsInfo, IndexHeld, KeepsItem, KeepHeld, KeepsRow, AllRight};
 
 // A lambda that ends: its parameters, the records of its body, and whether a lambda stands among them.
 pub struct Ending {
@@ -41,56 +45,10 @@ pub struct Ending {
     pub holds: bool,
 }
 
-// Whether live row i is of the name and gives an entry to the list.
-fn gives(all: &[u32], names: Names, p: Pass, work: &[u32], i: usize, name: u32) -> bool
-    requires { ⌜ SomeNames (now all) names × KnownHere (now all) p (now work) × (i < p .scope .length) ⌝ }
-    ensures { λ r. ⌜ GivesName (now (all .entry)) names p (now (work .entry)) i name r ⌝ }
-{
-    let r = live_at(p, work, i);
-    if r.name != name {
-        return false;
-    }
-    let none = [0; 0];
-    is_at(captured_at(&none, all, names, p, work, i))
-}
-
-// How often the name stands in the list made anew.
-fn count_now(all: &[u32], names: Names, p: Pass, work: &[u32], name: u32) -> usize
-    requires { ⌜ SomeNames (now all) names × KnownHere (now all) p (now work) ⌝ }
-    ensures { λ r. ⌜ CountsNow (now (all .entry)) names p (now (work .entry)) name r ⌝ }
-{
-    let scope = p.scope;
-    let end = scope.length;
-    let mut n = 0;
-    let mut i = 0;
-    while i < end {
-        if gives(all, names, p, work, i, name) {
-            n += 1;
-        }
-        i += 1;
-    }
-    n
-}
-
-// How often the name stands in the list made anew, if the body uses it or holds a lambda.
-fn count_used(all: &[u32], d: Ending, p: Pass, work: &[u32], name: u32) -> usize
-    requires { ⌜ Ended (now all) d × KnownHere (now all) p (now work) ⌝ }
-    ensures { λ r. ⌜ CountsUsed (now (all .entry)) d p (now (work .entry)) name r ⌝ }
-{
-    let names = d.names;
-    if d.holds {
-        return count_now(all, names, p, work, name);
-    }
-    if uses_name(all, d.first, d.end, name) {
-        return count_now(all, names, p, work, name);
-    }
-    0
-}
-
-// Whether the name stands in the rows from `first` up to `end`.
-fn stands_before(captured: &[u32], first: usize, end: usize, name: u32) -> bool
+// Whether the name stands in the rows from `first` up to `end`, by search.
+fn search_rows(captured: &[u32], first: usize, end: usize, name: u32) -> bool
     requires { ⌜ (length (now captured) ≡ itemsLength) × (first ≤ end) × (end ≤ itemsMost) ⌝ }
-    ensures { λ r. ⌜ StandsBefore (now (captured .entry)) first end name r ⌝ }
+    ensures { λ r. ⌜ StandsBefore (now (captured .entry)) first end [] name r ⌝ }
 {
     let mut i = first;
     while i < end {
@@ -100,6 +58,18 @@ fn stands_before(captured: &[u32], first: usize, end: usize, name: u32) -> bool
         i += 1;
     }
     false
+}
+
+// The same, by the marks where they have the name.
+fn stands_before(seen: &[u8], captured: &[u32], first: usize, end: usize, name: u32) -> bool
+    requires { ⌜ (length (now captured) ≡ itemsLength) × (first ≤ end) × (end ≤ itemsMost) ⌝ }
+    ensures { λ r. ⌜ StandsBefore (now (captured .entry)) first end (now (seen .entry)) name r ⌝ }
+{
+    let x = wide(name);
+    if x < seen.len() {
+        return seen[x] == 1;
+    }
+    search_rows(captured, first, end, name)
 }
 
 // Whether the newest capture of the name comes from the enclosing lambda.
@@ -131,12 +101,11 @@ fn enclosing_in(p: Pass, work: &[u32], name: u32, n: usize) -> bool
     enclosing_of(p, work, name)
 }
 
-// The first kept entry of a name takes the scope entry's heap offset, and where it comes from.
-fn amended(p: Pass, work: &[u32], name: u32, n: usize, v: ScopeInfo) -> ScopeInfo
-    requires { ⌜ SomeHere p (now work) ⌝ }
-    ensures { λ r. ⌜ AmendsInfo p (now (work .entry)) name n v r ⌝ }
+// The first kept entry of a name takes the heap offset of the entry that the name gives, and where it comes from.
+fn amended(found: Binder, p: Pass, work: &[u32], name: u32, n: usize, v: ScopeInfo) -> ScopeInfo
+    requires { ⌜ SomeHere p (now work) × SomeBinder found ⌝ }
+    ensures { λ r. ⌜ AmendsInfo found p (now (work .entry)) name n v r ⌝ }
 {
-    let found = newest(p, work, name);
     let Binder::At(b) = found else {
         return v;
     };
@@ -148,23 +117,33 @@ fn amended(p: Pass, work: &[u32], name: u32, n: usize, v: ScopeInfo) -> ScopeInf
     w
 }
 
-// The entry x, of a name that stands n times in the list made anew, as it is kept in row `to` of the list from `first` on.
-fn kept(captured: &[u32], first: usize, to: usize, n: usize, x: Item, p: Pass, work: &[u32]) -> Item
-    requires { ⌜ SomeHere p (now work) × (length (now captured) ≡ itemsLength) × (first ≤ to) × (to ≤ itemsMost) ⌝ }
-    ensures { λ r. ⌜ KeepsItem (now (captured .entry)) first to n x p (now (work .entry)) r ⌝ }
+// The entry x, of a name that stands n times in the list made anew, as it is kept. `seen`: one of its name is kept before it.
+fn kept(
+    index: &[u32],
+    all: &[u32],
+    names: Names,
+    p: Pass,
+    work: &[u32],
+    n: usize,
+    seen: bool,
+    x: Item,
+) -> Item
+    requires { ⌜ IndexHeld (now all) names p (now work) (now index) ⌝ }
+    ensures { λ r. ⌜ KeepsItem (now (all .entry)) names p (now (work .entry)) (now (index .entry)) n seen x r ⌝ }
     ensures place { λ r. ⌜ r .binder ≡ x .binder ⌝ }
 {
     if n == 0 {
         return x;
     }
-    if stands_before(captured, first, to, x.name) {
+    if seen {
         return x;
     }
+    let found = offered(index, all, names, p, work, x.name);
     let info = x.info;
     Item {
         name: x.name,
         binder: x.binder,
-        info: amended(p, work, x.name, n, info),
+        info: amended(found, p, work, x.name, n, info),
     }
 }
 
@@ -180,6 +159,9 @@ fn keeps(holds: bool, n: usize) -> bool
 
 // Row r of the list goes to row `to`, if it is kept. Answers whether it is.
 fn keep_row(
+    index: &[u32],
+    counts: &[u32],
+    seen: &mut [u8],
     all: &[u32],
     d: Ending,
     p: Pass,
@@ -189,20 +171,64 @@ fn keep_row(
     captured: &mut [u32],
     work: &mut [u32],
 ) -> bool
-    requires { ⌜ KeepHeld (now all) d p first to r (now captured) (now work) ⌝ }
-    ensures { λ k. ⌜ KeepsRow (now (all .entry)) d p first to r (now (captured .entry)) (now (work .entry)) k (now (captured .exit)) (now (work .exit)) ⌝ }
+    requires { ⌜ KeepHeld (now all) d p (now index) first to r (now captured) (now work) ⌝ }
+    ensures { λ k. ⌜ KeepsRow (now (all .entry)) d p (now (index .entry)) (now (counts .entry)) (now (seen .entry)) first to r (now (captured .entry)) (now (work .entry)) k (now (seen .exit)) (now (captured .exit)) (now (work .exit)) ⌝ }
 {
+    let names = d.names;
     let x = load_item(captured, work, r);
-    let n = count_used(all, d, p, work, x.name);
+    let n = count_used(counts, all, d, p, work, x.name);
     if !keeps(d.holds, n) {
         return false;
     }
-    let y = kept(captured, first, to, n, x, p, work);
+    let before = stands_before(seen, captured, first, to, x.name);
+    let y = kept(index, all, names, p, work, n, before, x);
     store_item(captured, work, to, y);
+    mark(seen, wide(x.name));
     true
 }
 
 // The list that is kept, in its place; what it gives up is zero. Answers its length.
+fn amend_rows(
+    index: &[u32],
+    counts: &[u32],
+    seen: &mut [u8],
+    all: &[u32],
+    d: Ending,
+    e: Entries,
+    p: Pass,
+    captured: &mut [u32],
+    work: &mut [u32],
+) -> usize
+    requires { ⌜ Inside e × Ended (now all) d × HeldNamed (now all) p (now captured) (now work) × AllRight (now all) d p (now work) (now index) (now counts) × Unmarked (now seen) ⌝ }
+    ensures { λ r. ⌜ AmendsList (now (all .entry)) d e p (now (captured .entry)) (now (work .entry)) r (now (captured .exit)) (now (work .exit)) ⌝ }
+{
+    let first = wide(e.first);
+    let n = wide(e.length);
+    let mut to = first;
+    let mut k = 0;
+    while k < n {
+        if keep_row(
+            index,
+            counts,
+            seen,
+            all,
+            d,
+            p,
+            first,
+            to,
+            first + k,
+            captured,
+            work,
+        ) {
+            to += 1;
+        }
+        k += 1;
+    }
+    clear_items(captured, work, to, first + n);
+    to - first
+}
+
+// A long list by an index and counts of the live names, a short one by search.
 pub fn amend_list(
     all: &[u32],
     d: Ending,
@@ -214,16 +240,16 @@ pub fn amend_list(
     requires { ⌜ Inside e × Ended (now all) d × HeldNamed (now all) p (now captured) (now work) ⌝ }
     ensures { λ r. ⌜ AmendsList (now (all .entry)) d e p (now (captured .entry)) (now (work .entry)) r (now (captured .exit)) (now (work .exit)) ⌝ }
 {
-    let first = wide(e.first);
-    let n = wide(e.length);
-    let mut to = first;
-    let mut k = 0;
-    while k < n {
-        if keep_row(all, d, p, first, to, first + k, captured, work) {
-            to += 1;
-        }
-        k += 1;
+    if wide(e.length) <= FEW {
+        let none = [0; 0];
+        let mut unseen = [0; 0];
+        return amend_rows(&none, &none, &mut unseen, all, d, e, p, captured, work);
     }
-    clear_items(captured, work, to, first + n);
-    to - first
+    let names = d.names;
+    let mut index = [0; NAMES];
+    index_names(all, names, p, work, &mut index);
+    let mut counts = [0; NAMES];
+    count_names(&index, all, d, p, work, &mut counts);
+    let mut seen = [0; NAMES];
+    amend_rows(&index, &counts, &mut seen, all, d, e, p, captured, work)
 }

@@ -19,10 +19,10 @@ ghost use Rattle.work.specs.Scope.{KnownHere};
 ghost use Rattle.walk.specs.Contract.{SomeNames};
 ghost use Rattle.lists.specs.Index.{capturedNewest, decoded, Indexed, SomeHere, Offers, CodesBinder, PutsRow, Zeros, PutsRows, ClearsName, ClearsNames};
 
-// How many names an index has. What a name past its end gives is looked for.
+// How many names an array by name has: all that a script may have. What it would tell of a name past its end is looked for.
 pub const NAMES: usize = 1024;
 
-// With so few live names a search is quicker than an index.
+// For so few names a search is quicker than an array.
 pub const FEW: usize = 8;
 
 // The newest binder of the name, where it is captured.

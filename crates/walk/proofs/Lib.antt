@@ -5,4 +5,5 @@ pub mod Names
 pub mod Lambdas
 pub mod Binding
 pub mod UsedNames
+pub mod Marking
 pub mod Span

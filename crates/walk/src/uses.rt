@@ -1,4 +1,5 @@
 // Which names the records of an expression use, and whether a lambda stands among them.
+use table::wide;
 ghost use mathlib.Core.Path.{_≡_};
 ghost use mathlib.Core.List.{List};
 ghost use Prim.Native.Nat.{ℕ, _<_};
@@ -7,6 +8,7 @@ ghost use Rattle.tree.specs.Record.{records};
 ghost use Rattle.tree.specs.RecordLaws.{nth};
 ghost use Rattle.walk.specs.Bound.{isNamed, boundBy};
 ghost use Rattle.walk.specs.Contract.{SomeBody, UsesName, HoldsLambda, SomeNames, HoldsName};
+ghost use Rattle.walk.specs.Marks.{Unmarked, MarksName, MarksNamed, MarksRecord, MarksUses};
 
 // Names of a lambda or a let: the record of the first, and how many.
 pub struct Names {
@@ -70,6 +72,52 @@ pub fn uses_name(all: &[u32], first: usize, end: usize, name: u32) -> bool
         i += 1;
     }
     false
+}
+
+// Marks a name, if `marks` has it.
+pub fn mark(marks: &mut [u8], x: usize)
+    ensures { λ _. ⌜ MarksName (now (marks .entry)) x (now (marks .exit)) ⌝ }
+{
+    if marks.len() <= x {
+        return;
+    }
+    marks[x] = 1;
+}
+
+// Marks the record's name, if the record is an identifier.
+fn mark_named(all: &[u32], i: usize, marks: &mut [u8])
+    requires { ⌜ i < length (records (now all)) ⌝ }
+    ensures { λ _. ⌜ MarksNamed (nth (now (all .entry)) i) (now (marks .entry)) (now (marks .exit)) ⌝ }
+{
+    if tree::record::form(all, i) != 1 {
+        return;
+    }
+    mark(marks, wide(tree::record::name(all, i)));
+}
+
+// Passes record i, with so many names due; answers how many then are.
+fn mark_record(all: &[u32], i: usize, due: usize, marks: &mut [u8]) -> usize
+    requires { ⌜ i < length (records (now all)) ⌝ }
+    ensures { λ n. ⌜ MarksRecord (nth (now (all .entry)) i) due (now (marks .entry)) n (now (marks .exit)) ⌝ }
+{
+    if 0 < due {
+        return due - 1;
+    }
+    mark_named(all, i, marks);
+    bound(all, i)
+}
+
+// Marks every name that `uses_name` finds there.
+pub fn mark_uses(all: &[u32], first: usize, end: usize, marks: &mut [u8])
+    requires { ⌜ SomeBody (now all) first end × Unmarked (now marks) ⌝ }
+    ensures { λ _. ⌜ MarksUses (now (all .entry)) first end (now (marks .exit)) ⌝ }
+{
+    let mut due = 0;
+    let mut i = first;
+    while i < end {
+        due = mark_record(all, i, due, marks);
+        i += 1;
+    }
 }
 
 pub fn holds_lambda(all: &[u32], first: usize, end: usize) -> bool

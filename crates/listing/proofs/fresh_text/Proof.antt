@@ -11,12 +11,12 @@ mul-numbers : tie.Need-mul-numbers
 mul-numbers c = search needs
 
 slice-aggregate-fresh : tie.Need-slice-aggregate-fresh
-slice-aggregate-fresh c = let o = c .before .before .before .before .before .before .before .before in sym (part-long (o .args .classes .now) (o .args .records .now) _ (o .args .names) (o .args .many) (o .pre .0))
+slice-aggregate-fresh c = let o = c .before .before .before .before .before .before .before .before in sym (part-long (o .pre .0))
 
 slice-aggregate-fresh-2 : tie.Need-slice-aggregate-fresh-2
 slice-aggregate-fresh-2 c =
     let o = c .before .before .before .before .before .before .before .before .before in
-    sym (length-take-le (o .args .names) (o .args .classes .now) (class-room (o .args .classes .now) (o .args .records .now) _ (o .args .names) (o .args .many) (o .pre .0)))
+    sym (length-take-le (o .args .names) (o .args .classes .now) (class-room (o .pre .0)))
 
 fresh-requires : tie.Need-fresh-requires
 fresh-requires c κs = search needs
@@ -25,7 +25,7 @@ outcome-text-requires : tie.Need-outcome-text-requires
 outcome-text-requires c κs =
     let f = c .before .before .before .before .before .before .before .before .before .before in
     let o = f .before .before .before .before .before .before .before .before .before .before .before .before .before .before in
-    (f .fresh .kept .1 .1 .0 ∙ facts-long (o .args .classes .now) (o .args .records .now) _ (o .args .names) (o .args .many) (o .pre .0), o .pre .0 .records, o .pre .1)
+    (f .fresh .kept .1 .1 .0 ∙ facts-long (o .pre .0), o .pre .0 .records, o .pre .1)
 
 same-length : tie.Need-same-length
 same-length c = search needs
@@ -47,7 +47,7 @@ returns c =
     let t = c .before .before in
     let f = t .before .before .before .before .before .before .before .before .before .before .before in
     let o = f .before .before .before .before .before .before .before .before .before .before .before .before .before .before in
-    fresh-in (part-fits (o .args .classes .now) (o .args .records .now) _ (o .args .names) (o .args .many) (o .pre .0)) (part-long (o .args .classes .now) (o .args .records .now) _ (o .args .names) (o .args .many) (o .pre .0)) (f .fresh .ensures) (t .outcome-text .ensures)
+    fresh-in (part-fits (o .pre .0)) (part-long (o .pre .0)) (f .fresh .ensures) (t .outcome-text .ensures)
 
 pub fresh-text-spec : {M : Type 1} → statement M
 fresh-text-spec =

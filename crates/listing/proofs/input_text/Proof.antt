@@ -65,7 +65,7 @@ returns-2 c =
     let i = f .before .before .before .before .before .before in
     let a = i .before .before in
     let w = few (a .all-fit .ensures) (i .before .refused-before .ensures) (i .if1 .left) in
-    fresh-told _ _ _ _ _ w (f .fresh-text .ensures)
+    fresh-told w (f .fresh-text .ensures)
 
 pub input-text-spec : {M : Type 1} → statement M
 input-text-spec =

@@ -1,21 +1,21 @@
 -- `keep_row`.
 use native.Mathlib.Omega.{arith}
+use borrow.Author.Needs.{needs}
 use borrow.Author.Tests.{not-true, not-false}
 use Rattle.lists.proofs.RowsCase.{captured-long}
 use Rattle.lists.proofs.FillCase.{held-here}
-use Rattle.lists.proofs.AmendCase.{row-gone, row-kept, keep-small}
-use borrow.Author.Needs.{needs}
+use Rattle.lists.proofs.KeptRowCase.{keep-small, keep-index, row-gone, row-kept}
 use Rattle.lists.proofs.amend.keep_row.Statement.{statement}
 use Rattle.lists.proofs.amend.keep_row.Tie as tie
 
 load-item-requires : tie.Need-load-item-requires
 load-item-requires c κs =
-    let start = c .before .before .before .before .before in
+    let start = c .before .before .before .before .before .before .before .before .before in
     (captured-long (start .pre .held .tied), start .pre .held .tied .works .long, start .pre .inside)
 
 count-used-requires : tie.Need-count-used-requires
 count-used-requires c κs =
-    let start = c .before .before .before .before .before .before .before in
+    let start = c .before .before .before .before .before .before .before .before .before .before .before in
     (start .pre .ended, held-here (start .pre .held))
 
 keeps-requires : tie.Need-keeps-requires
@@ -29,27 +29,34 @@ same-length-2 c = search needs
 
 returns : tie.Need-returns
 returns c =
-    let at-count-used = c .before .before in
-    let at-load-item = at-count-used .before .before in
-    row-gone (at-load-item .load-item .ensures) (at-count-used .count-used .ensures) (c .before .keeps .ensures) (not-true _ (c .if1 .taken))
+    let at-load-item = c .before .before .before .before in
+    row-gone (at-load-item .load-item .ensures) (c .before .before .count-used .ensures) (c .before .keeps .ensures) (not-true _ (c .if1 .taken))
+
+stands-before-requires : tie.Need-stands-before-requires
+stands-before-requires c κs =
+    let start = c .before .before .before .before .before .before .before .before .before .before .before .before .before .before .before .before in
+    (captured-long (start .pre .held .tied), start .pre .order, omega (arith, start .pre .most, start .pre .inside))
 
 kept-requires : tie.Need-kept-requires
 kept-requires c κs =
-    let start = c .before .before .before .before .before .before .before .before .before .before .before .before in
-    let h = start .pre in
-    (record { rs = _; here = held-here (h .held) }, captured-long (h .held .tied), h .order, omega (arith, h .most, h .inside))
+    let start = c .before .before .before .before .before .before .before .before .before .before .before .before .before .before .before .before .before .before in
+    keep-index (start .pre)
 
 store-item-requires : tie.Need-store-item-requires
 store-item-requires c κs =
-    let at-kept = c .before .before in
-    let at-load-item = at-kept .before .before .before .before .before .before .before in
-    let start = at-load-item .before .before .before .before .before .before in
-    let h = start .pre in (
-      captured-long (h .held .tied),
-      h .held .tied .works .long,
-      omega (arith, h .most, h .inside),
-      keep-small h (at-load-item .load-item .ensures) (at-kept .kept .ensures .1),
+    let at-load-item = c .before .before .before .before .before .before .before .before .before .before .before in
+    let start = at-load-item .before .before .before .before .before .before .before .before .before .before in (
+      captured-long (start .pre .held .tied),
+      start .pre .held .tied .works .long,
+      omega (arith, start .pre .most, start .pre .inside),
+      keep-small (start .pre) (at-load-item .load-item .ensures) (c .before .before .kept .ensures .1),
     )
+
+wide-requires : tie.Need-wide-requires
+wide-requires c κs = search needs
+
+mark-requires : tie.Need-mark-requires
+mark-requires c κs = search needs
 
 same-length-3 : tie.Need-same-length-3
 same-length-3 c = search needs
@@ -57,16 +64,22 @@ same-length-3 c = search needs
 same-length-4 : tie.Need-same-length-4
 same-length-4 c = search needs
 
+same-length-5 : tie.Need-same-length-5
+same-length-5 c = search needs
+
 returns-2 : tie.Need-returns-2
 returns-2 c =
-    let at-store-item = c .before .before .before .before in
+    let at-mark = c .before .before in
+    let at-wide = at-mark .before in
+    let at-store-item = at-wide .before .before .before .before .before .before in
     let at-kept = at-store-item .before .before .before in
-    let at-if1 = at-kept .before .before .before in
+    let at-stands-before = at-kept .before .before in
+    let at-if1 = at-stands-before .before .before .before in
     let at-keeps = at-if1 .before in
     let at-count-used = at-keeps .before in
-    let at-load-item = at-count-used .before .before in
-    row-kept (at-load-item .load-item .ensures) (at-count-used .count-used .ensures) (at-keeps .keeps .ensures) (not-false _ (at-if1 .if1 .left))
-    (at-kept .kept .ensures .0) (at-store-item .store-item .ensures)
+    row-kept (at-count-used .before .before .load-item .ensures) (at-count-used .count-used .ensures) (at-keeps .keeps .ensures) (not-false _ (at-if1 .if1 .left))
+    (at-stands-before .stands-before .ensures) (at-kept .kept .ensures .0) (at-store-item .store-item .ensures) (at-wide .wide .ensures) (at-mark .mark .ensures)
+    (at-mark .mark .kept .0)
 
 pub keep-row-spec : {M : Type 1} → statement M
 keep-row-spec =
@@ -78,8 +91,12 @@ keep-row-spec =
     same-length
     same-length-2
     returns
+    stands-before-requires
     kept-requires
     store-item-requires
+    wide-requires
+    mark-requires
     same-length-3
     same-length-4
+    same-length-5
     returns-2)

@@ -1,29 +1,37 @@
 -- `kept`.
 use mathlib.Core.Path.{refl}
-use Rattle.lists.proofs.KeptCase.{kept-absent, kept-seen, kept-amended}
-use borrow.Author.Needs.{needs}
+use Rattle.lists.proofs.FillCase.{told-names}
+use Rattle.lists.proofs.KeptCase.{offer-here, offer-binder, kept-absent, kept-seen, kept-amended}
 use Rattle.lists.proofs.amend.kept.Statement.{statement}
 use Rattle.lists.proofs.amend.kept.Tie as tie
 
 returns : tie.Need-returns
 returns c = (kept-absent (c .if1 .taken), refl)
 
-stands-before-requires : tie.Need-stands-before-requires
-stands-before-requires c κs = search needs
-
 returns-2 : tie.Need-returns-2
-returns-2 c = (kept-seen (c .before .stands-before .ensures) (c .if2 .taken), refl)
+returns-2 c = (kept-seen (c .if2 .taken), refl)
+
+offered-requires : tie.Need-offered-requires
+offered-requires c κs =
+    let start = c .before .before .before .before .before in
+    (told-names (start .pre .told), offer-here (start .pre))
 
 amended-requires : tie.Need-amended-requires
-amended-requires c κs = search needs
+amended-requires c κs =
+    let start = c .before .before .before .before .before .before .before in
+    (record { rs = _; here = offer-here (start .pre) }, offer-binder (start .pre) (c .before .offered .ensures))
 
 returns-3 : tie.Need-returns-3
 returns-3 c =
-    let at-if2 = c .before .before in
-    let at-stands-before = at-if2 .before in
-    let at-if1 = at-stands-before .before in
-    (kept-amended (at-stands-before .stands-before .ensures) (at-if2 .if2 .left) (at-if1 .if1 .left) (c .amended .ensures), refl)
+    let at-if2 = c .before .before .before in
+    (kept-amended (at-if2 .before .if1 .left) (at-if2 .if2 .left) (c .before .before .offered .ensures) (c .amended .ensures), refl)
 
 pub kept-spec : {M : Type 1} → statement M
 kept-spec =
-    tie.close (tie.spec returns stands-before-requires returns-2 amended-requires returns-3)
+    tie.close
+    (tie.spec
+    returns
+    returns-2
+    offered-requires
+    amended-requires
+    returns-3)

@@ -1,60 +1,30 @@
 -- `stands_before`.
-use native.Mathlib.Omega.{arith}
 use borrow.Author.Needs.{needs}
-use Prim.Native.Nat.{_-_, _≤_}
-use mathlib.Core.Path.{refl}
-use Rattle.lists.proofs.KeptCase.{StandsFrom, stands-here, stands-later, stands-last}
+use Rattle.lists.proofs.KeptCase.{stands-marked, stands-searched}
 use Rattle.lists.proofs.amend.stands_before.Statement.{statement}
 use Rattle.lists.proofs.amend.stands_before.Tie as tie
 
-abbrev Inv-loop : tie.InvT-loop
-Inv-loop captured first end name i₀ i = (first ≤ i) × (i ≤ end) × StandsFrom captured first end name i
+wide-requires : tie.Need-wide-requires
+wide-requires c κs = search needs
 
-abbrev μ-loop : tie.MeasureT-loop
-μ-loop captured first end name i₀ i = end - i
+shared-slice-read-result : tie.Need-shared-slice-read-result
+shared-slice-read-result c = search needs
 
-loop-holds : tie.Need-loop-holds Inv-loop μ-loop
-loop-holds c = (omega arith, omega arith, record { is = λ l e h. refl })
+returns : tie.Need-returns
+returns c = stands-marked (c .before .before .wide .ensures) (c .before .if1 .taken)
 
-name-at-requires : tie.Need-name-at-requires Inv-loop μ-loop
-name-at-requires c κs = search needs
+search-rows-requires : tie.Need-search-rows-requires
+search-rows-requires c κs = search needs
 
-returns : tie.Need-returns Inv-loop μ-loop
-returns c =
-    let at-loop-test = c .before .before in
-    let at-loop = at-loop-test .before in
-    let start = at-loop .before .before in
-    stands-here (at-loop .loop .inv .2) (c .before .name-at .ensures) (at-loop-test .loop-test .taken) (start .pre .2) (c .if1 .taken)
-
-add-i : tie.Need-add-i Inv-loop μ-loop
-add-i c = search needs
-
-loop-less : tie.Need-loop-less Inv-loop μ-loop
-loop-less c = search needs
-
-loop-again : tie.Need-loop-again Inv-loop μ-loop
-loop-again c =
-    let at-loop-test = c .before .before in
-    let at-loop = at-loop-test .before in
-    let start = at-loop .before .before in (
-      omega arith,
-      omega arith,
-      stands-later (at-loop .loop .inv .2) (c .before .name-at .ensures) (at-loop-test .loop-test .taken) (start .pre .2) (c .if1 .left),
-    )
-
-returns-2 : tie.Need-returns-2 Inv-loop μ-loop
-returns-2 c = stands-last (c .before .loop .inv .2) (c .before .loop .inv .1) (c .loop-test .left)
+returns-2 : tie.Need-returns-2
+returns-2 c = stands-searched (c .search-rows .ensures)
 
 pub stands-before-spec : {M : Type 1} → statement M
 stands-before-spec =
     tie.close
     (tie.spec
-    Inv-loop
-    μ-loop
-    loop-holds
-    name-at-requires
+    wide-requires
+    shared-slice-read-result
     returns
-    add-i
-    loop-less
-    loop-again
+    search-rows-requires
     returns-2)

@@ -2,8 +2,8 @@
 use borrow.Author.Needs.{needs}
 use Rattle.work.specs.WorksLaws.{spacious}
 use Rattle.lists.proofs.NowCase.{gives-no, gives-yes}
-use Rattle.lists.proofs.amend.gives.Statement.{statement}
-use Rattle.lists.proofs.amend.gives.Tie as tie
+use Rattle.lists.proofs.counts.gives.Statement.{statement}
+use Rattle.lists.proofs.counts.gives.Tie as tie
 
 live-at-requires : tie.Need-live-at-requires
 live-at-requires c κs =

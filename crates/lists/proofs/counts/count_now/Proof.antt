@@ -4,8 +4,8 @@ use borrow.Author.Needs.{needs}
 use Prim.Native.Nat.{_-_, _≤_}
 use Rattle.lists.proofs.CountCase.{counts, few}
 use Rattle.lists.proofs.NowCase.{NowTo, now-start, now-next, now-last}
-use Rattle.lists.proofs.amend.count_now.Statement.{statement}
-use Rattle.lists.proofs.amend.count_now.Tie as tie
+use Rattle.lists.proofs.counts.count_now.Statement.{statement}
+use Rattle.lists.proofs.counts.count_now.Tie as tie
 
 abbrev Inv-loop : tie.InvT-loop
 Inv-loop all names p work name end n₀ i₀ n i = (i ≤ end) × (n ≤ i) × NowTo all names p work name n i

@@ -1,0 +1,156 @@
+-- `amend_rows`: the rows from `first` up to `to` hold what is kept of the first k.
+use native.Mathlib.Omega.{arith}
+use borrow.Author.Needs.{needs}
+use Prim.Native.Nat.{_+_, _-_, _≤_}
+use mathlib.Core.Path.{_≡_, refl, sym, _∙_}
+use lib.ListN.{length}
+use Rattle.lists.proofs.RowsCase.{captured-long}
+use Rattle.lists.proofs.CountCase.{counts, few}
+use Rattle.lists.proofs.AmendCase.{Keeping, keep-start, keep-row, keep-next, keep-ended, keep-held, amends}
+use Rattle.lists.proofs.amend.amend_rows.Statement.{statement}
+use Rattle.lists.proofs.amend.amend_rows.Tie as tie
+
+abbrev Inv-loop : tie.InvT-loop
+Inv-loop index counts seen₀ all d p captured₀ work₀ first n to₀ k₀ seen captured work to k =
+    (k ≤ n) × (first ≤ to) × (to ≤ first + k) × (length seen ≡ length seen₀) × Keeping all d p index counts first captured₀ work₀ k to seen captured work
+
+abbrev μ-loop : tie.MeasureT-loop
+μ-loop index counts seen₀ all d p captured₀ work₀ first n to₀ k₀ seen captured work to k = n - k
+
+wide-requires : tie.Need-wide-requires Inv-loop μ-loop
+wide-requires c κs = search needs
+
+wide-requires-2 : tie.Need-wide-requires-2 Inv-loop μ-loop
+wide-requires-2 c κs = search needs
+
+loop-holds : tie.Need-loop-holds Inv-loop μ-loop
+loop-holds c =
+    let start = c .before .before .before .before .before .before .before .before in
+    (omega arith, omega arith, omega arith, refl, keep-start (start .pre .4))
+
+add-keep-row : tie.Need-add-keep-row Inv-loop μ-loop
+add-keep-row c =
+    let at-wide2 = c .before .before .before in
+    let at-wide = at-wide2 .before in
+    let start = at-wide .before .before .before .before .before .before .before in
+    omega (arith, at-wide .wide .ensures, at-wide2 .wide2 .ensures, start .pre .0)
+
+keep-row-requires : tie.Need-keep-row-requires Inv-loop μ-loop
+keep-row-requires c κs =
+    let at-loop = c .before .before .before .before in
+    let at-wide2 = at-loop .before in
+    let at-wide = at-wide2 .before in
+    let start = at-wide .before .before .before .before .before .before .before in
+    keep-row (at-loop .loop .inv .4) (start .pre .1) (start .pre .2) (start .pre .3) (omega (arith, at-wide .wide .ensures, at-wide2 .wide2 .ensures, start .pre .0))
+
+add-to : tie.Need-add-to Inv-loop μ-loop
+add-to c =
+    let at-loop-test = c .before .before .before .before .before .before .before .before .before .before .before in
+    let at-loop = at-loop-test .before in
+    let at-wide2 = at-loop .before in
+    let at-wide = at-wide2 .before in
+    let start = at-wide .before .before .before .before .before .before .before in
+    omega (arith, at-wide .wide .ensures, at-wide2 .wide2 .ensures, start .pre .0, at-loop .loop .inv .2, at-loop-test .loop-test .taken)
+
+add-k : tie.Need-add-k Inv-loop μ-loop
+add-k c =
+    let at-wide2 = c .before .before .before .before .before .before .before .before .before .before .before .before .before in
+    omega (arith, at-wide2 .wide2 .ensures)
+
+loop-less : tie.Need-loop-less Inv-loop μ-loop
+loop-less c = search needs
+
+loop-again : tie.Need-loop-again Inv-loop μ-loop
+loop-again c =
+    let at-keep-row = c .before .before .before .before .before .before .before in
+    let at-loop-test = at-keep-row .before .before .before .before in
+    let at-loop = at-loop-test .before in
+    let at-wide2 = at-loop .before in
+    let at-wide = at-wide2 .before in
+    let start = at-wide .before .before .before .before .before .before .before in
+    let q = counts (at-keep-row .keep-row .result) (λ w. w .taken) (λ w. w .left) (c .if1 .came) in (
+      omega (arith, at-loop-test .loop-test .taken),
+      omega (arith, q, at-loop .loop .inv .1),
+      omega (arith, few (at-keep-row .keep-row .result) q (at-loop .loop .inv .2)),
+      at-keep-row .keep-row .kept .1 .1 .0 ∙ at-loop .loop .inv .3,
+      keep-next (at-loop .loop .inv .4) (omega (arith, at-wide .wide .ensures, at-wide2 .wide2 .ensures, start .pre .0, at-loop-test .loop-test .taken))
+          (at-keep-row .keep-row .ensures) q,
+    )
+
+add-clear-items : tie.Need-add-clear-items Inv-loop μ-loop
+add-clear-items c =
+    let at-wide2 = c .before .before .before .before in
+    let at-wide = at-wide2 .before in
+    let start = at-wide .before .before .before .before .before .before .before in
+    omega (arith, at-wide .wide .ensures, at-wide2 .wide2 .ensures, start .pre .0)
+
+clear-items-requires : tie.Need-clear-items-requires Inv-loop μ-loop
+clear-items-requires c κs =
+    let at-loop = c .before .before .before in
+    let at-wide2 = at-loop .before in
+    let at-wide = at-wide2 .before in
+    let start = at-wide .before .before .before .before .before .before .before in
+    let h = keep-held (at-loop .loop .inv .4) (start .pre .1) (start .pre .2) (start .pre .3) in
+    (captured-long (h .tied), h .tied .works .long, omega arith, omega (arith, at-wide .wide .ensures, at-wide2 .wide2 .ensures, start .pre .0))
+
+sub-result : tie.Need-sub-result Inv-loop μ-loop
+sub-result c =
+    let at-loop = c .before .before .before .before .before .before .before .before in
+    omega (arith, at-loop .loop .inv .1)
+
+same-length : tie.Need-same-length Inv-loop μ-loop
+same-length c =
+    let at-loop = c .before .before .before .before .before .before .before .before in
+    at-loop .loop .inv .3
+
+same-length-2 : tie.Need-same-length-2 Inv-loop μ-loop
+same-length-2 c =
+    let at-clear-items = c .before .before .before .before in
+    let at-loop = at-clear-items .before .before .before .before in
+    let start = at-loop .before .before .before .before .before .before .before .before .before in
+    at-clear-items .clear-items .kept .0
+    ∙ captured-long (keep-held (at-loop .loop .inv .4) (start .pre .1) (start .pre .2) (start .pre .3) .tied)
+    ∙ sym (captured-long (start .pre .2 .held .tied))
+
+same-length-3 : tie.Need-same-length-3 Inv-loop μ-loop
+same-length-3 c =
+    let at-clear-items = c .before .before .before .before in
+    let at-loop = at-clear-items .before .before .before .before in
+    let start = at-loop .before .before .before .before .before .before .before .before .before in
+    at-clear-items .clear-items .kept .1 .0
+    ∙ keep-held (at-loop .loop .inv .4) (start .pre .1) (start .pre .2) (start .pre .3) .tied .works .long
+    ∙ sym (start .pre .2 .held .tied .works .long)
+
+returns : tie.Need-returns Inv-loop μ-loop
+returns c =
+    let at-clear-items = c .before .before .before .before in
+    let at-loop-test = at-clear-items .before .before .before in
+    let at-loop = at-loop-test .before in
+    let at-wide2 = at-loop .before in
+    let at-wide = at-wide2 .before in
+    let start = at-wide .before .before .before .before .before .before .before in
+    amends (start .args .e) (at-wide .wide .ensures) (at-wide2 .wide2 .ensures) (start .pre .3)
+    (keep-ended (at-loop .loop .inv .4) (at-loop .loop .inv .0) (at-loop-test .loop-test .left)) (at-clear-items .clear-items .ensures)
+
+pub amend-rows-spec : {M : Type 1} → statement M
+amend-rows-spec =
+    tie.close
+    (tie.spec
+    Inv-loop
+    μ-loop
+    wide-requires
+    wide-requires-2
+    loop-holds
+    add-keep-row
+    keep-row-requires
+    add-to
+    add-k
+    loop-less
+    loop-again
+    add-clear-items
+    clear-items-requires
+    sub-result
+    same-length
+    same-length-2
+    same-length-3
+    returns)
