@@ -36,7 +36,7 @@ const LARGE: (usize, usize) = (61, 4096);
 fn main() -> ExitCode {
     let options = Options::read();
     if options.bench {
-        bench::bench(options.seed, options.before)
+        bench::bench(options.seed, options.before.as_deref())
     } else {
         compare_all(&options)
     }

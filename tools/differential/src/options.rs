@@ -1,5 +1,6 @@
 //! The command line.
 
+use std::path::PathBuf;
 use std::{env, process, thread};
 
 pub struct Options {
@@ -10,7 +11,7 @@ pub struct Options {
     pub seed: u64,
     pub threads: usize,
     pub bench: bool,
-    pub before: bool,
+    pub before: Option<PathBuf>,
 }
 
 pub const USAGE: &str = "\
@@ -24,7 +25,7 @@ Compares the port with the original, or with --bench measures both.
     --threads N      how many threads compare (one for each core)
     --quick          4, 2000, 40 and 2000
     --bench          measures instead, and rewrites docs/BENCHMARKS.md
-    --before         with --bench: its section Now first becomes its section Before";
+    --before FOLDER  with --bench: measures an earlier port too; FOLDER has its libscheme_analysis.a and its scheme_analysis.h";
 
 impl Options {
     /// Of the arguments; ends the program where they are not understood.
@@ -37,7 +38,7 @@ impl Options {
             seed: 1,
             threads: thread::available_parallelism().map_or(1, usize::from),
             bench: false,
-            before: false,
+            before: None,
         };
         let mut arguments = env::args().skip(1);
         while let Some(argument) = arguments.next() {
@@ -57,7 +58,10 @@ impl Options {
                     (options.large, options.damaged) = (40, 2_000);
                 }
                 "--bench" => options.bench = true,
-                "--before" => options.before = true,
+                "--before" => match arguments.next() {
+                    Some(folder) => options.before = Some(folder.into()),
+                    None => fail("--before needs a folder"),
+                },
                 "--help" => {
                     println!("{USAGE}");
                     process::exit(0)

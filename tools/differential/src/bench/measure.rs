@@ -1,6 +1,7 @@
 //! How long both sides take: of many repetitions the shortest.
 
 use super::clock::{least, now};
+use super::earlier::Earlier;
 use crate::node::nodes;
 use crate::port::{self, Run, LENGTHS};
 use crate::record::{records, Input};
@@ -9,6 +10,17 @@ use original::Analysis;
 use std::hint::black_box;
 use std::time::{Duration, Instant};
 
+/// The lent tables, of one port's lengths.
+pub type Tables = [Vec<u32>; LENGTHS.len()];
+
+/// Nanoseconds.
+#[derive(Clone, Copy)]
+pub struct Port {
+    pub call: f64,
+    /// A call of no records: clearing the tables.
+    pub empty: f64,
+}
+
 /// Nanoseconds.
 #[derive(Clone, Copy)]
 pub struct Times {
@@ -16,10 +28,18 @@ pub struct Times {
     pub analysis: f64,
     /// With making and dropping that.
     pub whole: f64,
-    /// The port's call.
-    pub call: f64,
-    /// A call of no records: clearing the tables.
-    pub empty: f64,
+    pub port: Port,
+    pub earlier: Option<Port>,
+}
+
+impl Port {
+    fn by(self, other: Port, join: fn(f64, f64) -> f64) -> Port {
+        Port { call: join(self.call, other.call), empty: join(self.empty, other.empty) }
+    }
+
+    pub fn net(self) -> f64 {
+        self.call - self.empty
+    }
 }
 
 impl Times {
@@ -27,8 +47,8 @@ impl Times {
         Times {
             analysis: join(self.analysis, other.analysis),
             whole: join(self.whole, other.whole),
-            call: join(self.call, other.call),
-            empty: join(self.empty, other.empty),
+            port: self.port.by(other.port, join),
+            earlier: self.earlier.zip(other.earlier).map(|(one, other)| one.by(other, join)),
         }
     }
 
@@ -38,10 +58,6 @@ impl Times {
 
     pub fn sum(self, other: Times) -> Times {
         self.by(other, |one, other| one + other)
-    }
-
-    pub fn net(self) -> f64 {
-        self.call - self.empty
     }
 }
 
@@ -84,29 +100,39 @@ fn original_times(input: &Input, runs: usize) -> [f64; 2] {
     })
 }
 
-fn port_time(input: &Input, run: Run, tables: &mut [Vec<u32>; 4]) -> f64 {
+/// A call that is accepted.
+fn port_time(mut call: impl FnMut() -> bool) -> f64 {
     let [time] = shortest(|| {
-        let lent = tables.each_mut().map(Vec::as_mut_slice);
         let start = now();
-        let refusal = port::call(run, black_box(input), lent);
+        let accepted = call();
         let time = now() - start;
-        assert_eq!(refusal, None);
+        assert!(accepted);
         [time]
     });
     time
 }
 
+/// The times of each input, over one set of tables.
+fn port_times(inputs: &[Input], lengths: [usize; LENGTHS.len()], call: impl Fn(&Input, &mut Tables) -> bool) -> Vec<Port> {
+    let mut tables = lengths.map(|length| vec![0; length]);
+    let mut time = |input: &Input| port_time(|| call(black_box(input), &mut tables));
+    let empty = time(&Input::default());
+    inputs.iter().map(|input| Port { call: time(input), empty }).collect()
+}
+
 /// The times of each input.
-pub fn measure(inputs: &[Input], run: Run) -> Vec<Times> {
-    let mut tables = LENGTHS.map(|length| vec![0; length]);
+pub fn measure(inputs: &[Input], run: Run, earlier: Option<&Earlier>) -> Vec<Times> {
     let runs = match run {
         Run::Fresh => 1,
         Run::Settled => 2,
     };
-    let empty = port_time(&Input::default(), run, &mut tables);
-    let mut times = |input: &Input| {
+    let ports = port_times(inputs, LENGTHS, |input, tables| {
+        port::call(run, input, tables.each_mut().map(Vec::as_mut_slice)).is_none()
+    });
+    let earlier = earlier.map(|e| port_times(inputs, e.lengths, |input, tables| e.call(run, input, tables)));
+    let times = |(i, input): (usize, &Input)| {
         let [analysis, whole] = original_times(input, runs);
-        Times { analysis, whole, call: port_time(input, run, &mut tables), empty }
+        Times { analysis, whole, port: ports[i], earlier: earlier.as_ref().map(|times| times[i]) }
     };
-    inputs.iter().map(&mut times).collect()
+    inputs.iter().enumerate().map(times).collect()
 }

@@ -1,13 +1,16 @@
 //! The speed of both sides on the same trees.
 
 mod clock;
+mod earlier;
 mod measure;
 mod page;
 mod sets;
 
 use crate::port::Run;
+use earlier::Earlier;
 use measure::{measure, Times};
 use sets::Set;
+use std::path::Path;
 use std::process::ExitCode;
 
 /// Rounds over all trees, so that other work on the machine meets all alike.
@@ -21,34 +24,40 @@ struct Measured {
 }
 
 impl Measured {
-    fn new(set: Set) -> Self {
-        let fresh = measure(&set.inputs, Run::Fresh);
-        let settled = measure(&set.inputs, Run::Settled);
+    fn new(set: Set, earlier: Option<&Earlier>) -> Self {
+        let [fresh, settled] = [Run::Fresh, Run::Settled].map(|run| measure(&set.inputs, run, earlier));
         Measured { set, fresh, settled }
     }
 
-    fn again(&mut self) {
+    fn again(&mut self, earlier: Option<&Earlier>) {
         for (run, kept) in [(Run::Fresh, &mut self.fresh), (Run::Settled, &mut self.settled)] {
-            let times = measure(&self.set.inputs, run);
+            let times = measure(&self.set.inputs, run, earlier);
             kept.iter_mut().zip(times).for_each(|(kept, times)| *kept = kept.shorter(times));
         }
     }
 }
 
-pub fn bench(seed: u64, now_becomes_before: bool) -> ExitCode {
-    let (shapes, series) = sets::sets(seed);
-    eprintln!("round 1 of {ROUNDS}");
-    let mut shapes: Vec<Measured> = shapes.into_iter().map(Measured::new).collect();
-    let mut series: Vec<Measured> = series.into_iter().map(Measured::new).collect();
-    for round in 2..=ROUNDS {
-        eprintln!("round {round} of {ROUNDS}");
-        shapes.iter_mut().chain(&mut series).for_each(Measured::again);
-    }
-    match page::write(now_becomes_before, seed, &shapes, &series) {
+/// With the folder of an earlier port, that is measured beside.
+pub fn bench(seed: u64, before: Option<&Path>) -> ExitCode {
+    match measured(seed, before).and_then(|(shapes, series)| page::write(seed, &shapes, &series)) {
         Ok(()) => ExitCode::SUCCESS,
         Err(message) => {
             eprintln!("{message}");
             ExitCode::FAILURE
         }
     }
+}
+
+fn measured(seed: u64, before: Option<&Path>) -> Result<(Vec<Measured>, Vec<Measured>), String> {
+    let earlier = before.map(Earlier::load).transpose()?;
+    let earlier = earlier.as_ref();
+    let (shapes, series) = sets::sets(seed);
+    eprintln!("round 1 of {ROUNDS}");
+    let first = |sets: Vec<Set>| sets.into_iter().map(|set| Measured::new(set, earlier)).collect();
+    let (mut shapes, mut series): (Vec<Measured>, Vec<Measured>) = (first(shapes), first(series));
+    for round in 2..=ROUNDS {
+        eprintln!("round {round} of {ROUNDS}");
+        shapes.iter_mut().chain(&mut series).for_each(|set| set.again(earlier));
+    }
+    Ok((shapes, series))
 }

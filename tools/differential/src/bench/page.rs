@@ -1,22 +1,20 @@
-//! docs/BENCHMARKS.md: written whole, but for its section of before.
+//! docs/BENCHMARKS.md, written whole.
 
-use super::measure::Times;
+use super::measure::{Port, Times};
 use super::sets::Set;
 use super::Measured;
 use crate::record::WIDTH;
 use std::fs;
-
-const NOW: &str = "## Now\n";
-const BEFORE: &str = "## Before\n";
 
 const TEXT: &str = "\
 # How fast both are
 
 The original and the port on the same trees, both optimised, on one thread. Made by
 
-    tools/differential/run FOLDER --bench
+    tools/differential/run FOLDER --bench [--before EARLIER]
 
-which rewrites this page. With `--before` too, what the section Now says becomes the section Before.
+which rewrites this page. EARLIER is a folder with the archive and the C header of an earlier port, which is then measured in the same
+rounds: before, where now is the port of this tree.
 
 Microseconds of processor time, of all trees of a line together; of each tree the shortest of ten rounds with at least 5 repetitions and
 0.04 seconds each.
@@ -34,25 +32,9 @@ grows.
 
 const PATH: &str = concat!(env!("CARGO_MANIFEST_DIR"), "/../../docs/BENCHMARKS.md");
 
-pub fn write(
-    now_becomes_before: bool,
-    seed: u64,
-    shapes: &[Measured],
-    series: &[Measured],
-) -> Result<(), String> {
-    let old = fs::read_to_string(PATH).unwrap_or_default();
-    let now = format!("{}, seed {seed}.\n\n{}\n{}", processor(), table(shapes), sizes(series));
-    fs::write(PATH, page(&old, now_becomes_before, &now)).map_err(|e| format!("{PATH}: {e}"))
-}
-
-/// The old page's section Before stays as it is, unless its section Now takes the place.
-fn page(old: &str, now_becomes_before: bool, now: &str) -> String {
-    let (head, before) = old.split_once(BEFORE).unwrap_or((old, ""));
-    let kept = if now_becomes_before { head.split_once(NOW).map_or("", |(_, now)| now) } else { before };
-    match kept.trim() {
-        "" => format!("{TEXT}\n{NOW}\n{now}"),
-        kept => format!("{TEXT}\n{NOW}\n{now}\n{BEFORE}\n{kept}\n"),
-    }
+pub fn write(seed: u64, shapes: &[Measured], series: &[Measured]) -> Result<(), String> {
+    let page = format!("{TEXT}\n{}, seed {seed}.\n\n{}\n{}", processor(), table(shapes), sizes(series));
+    fs::write(PATH, page).map_err(|e| format!("{PATH}: {e}"))
 }
 
 fn processor() -> String {
@@ -74,23 +56,43 @@ fn total(times: &[Times]) -> Times {
     times.iter().copied().reduce(Times::sum).expect("a set has trees")
 }
 
+/// The cells of a row of a table.
+fn row(cells: impl IntoIterator<Item = String>) -> String {
+    let cells: Vec<String> = cells.into_iter().collect();
+    format!("| {} |\n", cells.join(" | "))
+}
+
+/// The head of a table: words on the left, numbers on the right.
+fn head(words: &[&str], numbers: &[String]) -> String {
+    let lines = words.iter().map(|_| "---").chain(numbers.iter().map(|_| "--:"));
+    row(words.iter().map(|word| word.to_string()).chain(numbers.iter().cloned())) + &row(lines.map(String::from))
+}
+
+/// Whether an earlier port was measured, and what is told of each port: the earlier one's first.
+fn ports(times: &Times) -> Vec<(&'static str, Port)> {
+    let now = ("now", times.port);
+    times.earlier.map_or(vec![now], |earlier| vec![("before", earlier), now])
+}
+
 fn table(sets: &[Measured]) -> String {
-    let mut out = "| trees | number | records | run | analysis | whole | call | net | ratio |\n".to_string();
-    out += "|---|--:|--:|---|--:|--:|--:|--:|--:|\n";
+    let first = total(&sets[0].fresh);
+    let mut numbers: Vec<String> = ["records", "analysis", "whole"].map(String::from).into();
+    for (when, _) in ports(&first) {
+        numbers.extend(["call", "net", "ratio"].map(|what| format!("{when}: {what}")));
+    }
+    let mut out = head(&["trees", "run"], &numbers);
     for Measured { set, fresh, settled } in sets {
         for (run, times) in [("fresh", fresh), ("settled", settled)] {
             let t = total(times);
-            out += &format!(
-                "| {} | {} | {} | {run} | {} | {} | {} | {} | {:.1} |\n",
-                set.name,
-                set.inputs.len(),
-                count(set),
-                micros(t.analysis),
-                micros(t.whole),
-                micros(t.call),
-                micros(t.net()),
-                t.net() / t.analysis
-            );
+            let trees = match set.inputs.len() {
+                1 => set.name.clone(),
+                number => format!("{number} {}", set.name),
+            };
+            let mut cells = vec![trees, run.to_string(), count(set).to_string(), micros(t.analysis), micros(t.whole)];
+            for (_, port) in ports(&t) {
+                cells.extend([micros(port.call), micros(port.net()), format!("{:.2}", port.net() / t.analysis)]);
+            }
+            out += &row(cells);
         }
     }
     out
@@ -98,34 +100,20 @@ fn table(sets: &[Measured]) -> String {
 
 /// Nanoseconds a record.
 fn sizes(sets: &[Measured]) -> String {
-    let mut out = "The size series, in nanoseconds a record:\n\n".to_string();
-    out += "| trees | records | fresh: analysis | net | settled: analysis | net |\n";
-    out += "|---|--:|--:|--:|--:|--:|\n";
+    let mut numbers = vec!["records".to_string()];
+    for run in ["fresh", "settled"] {
+        numbers.push(format!("{run}: analysis"));
+        numbers.extend(ports(&total(&sets[0].fresh)).into_iter().map(|(when, _)| format!("net {when}")));
+    }
+    let mut out = "The size series, in nanoseconds a record:\n\n".to_string() + &head(&["trees"], &numbers);
     for Measured { set, fresh, settled } in sets {
-        let (records, one, two) = (count(set) as f64, total(fresh), total(settled));
-        let each = [one.analysis, one.net(), two.analysis, two.net()];
-        let each = each.map(|time| format!("{:.0}", time / records)).join(" | ");
-        out += &format!("| {} | {records} | {each} |\n", set.name);
+        let records = count(set) as f64;
+        let mut cells = vec![set.name.clone(), records.to_string()];
+        for t in [total(fresh), total(settled)] {
+            cells.push(format!("{:.0}", t.analysis / records));
+            cells.extend(ports(&t).into_iter().map(|(_, port)| format!("{:.0}", port.net() / records)));
+        }
+        out += &row(cells);
     }
     out
-}
-
-#[cfg(test)]
-mod tests {
-    use super::*;
-
-    #[test]
-    fn what_the_section_before_says() {
-        let sections = |page: &str| {
-            let (head, before) = page.split_once(BEFORE).unwrap_or((page, ""));
-            (head.split_once(NOW).unwrap().1.trim().to_string(), before.trim().to_string())
-        };
-        let first = page("", true, "one\n");
-        assert_eq!(sections(&first), ("one".into(), "".into()));
-        let second = page(&first, true, "two\n");
-        assert_eq!(sections(&second), ("two".into(), "one".into()));
-        let third = page(&second, false, "three\n");
-        assert_eq!(sections(&third), ("three".into(), "one".into()));
-        assert_eq!(third.matches(TEXT).count(), 1);
-    }
 }

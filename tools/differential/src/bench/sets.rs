@@ -6,7 +6,7 @@ use crate::expression::{numbers, Expression, Own};
 use crate::generate::limits::{tall, wide};
 use crate::generate::random_input;
 use crate::random::Random;
-use crate::record::{Input, CALL, DEFINE, IF, LAMBDA, LET};
+use crate::record::{Input, BEGIN, CALL, DEFINE, IF, LAMBDA, LET, SET};
 
 pub struct Set {
     pub name: String,
@@ -23,10 +23,11 @@ fn accepted(input: &Input) -> bool {
     expected(&case).is_ok_and(|e| matches!((e.fresh, e.settled), (Answer::Accepted(_), Answer::Accepted(_))))
 }
 
-/// The first random trees of these sizes that are accepted; the two largest shapes; then the size series.
+/// The first random trees of these sizes that are accepted; the largest shapes; then the size series.
 pub fn sets(seed: u64) -> (Vec<Set>, Vec<Set>) {
     let mut shapes: Vec<Set> = SIZES.map(|size| random_set(seed, size)).into();
-    shapes.push(Set { name: "1,020 names captured".into(), inputs: vec![wide(4)] });
+    shapes.push(Set { name: "1,020 names captured, ids rise".into(), inputs: vec![captured_in_order()] });
+    shapes.push(Set { name: "1,020 names captured, ids fall".into(), inputs: vec![wide(4)] });
     shapes.push(Set { name: "15 calls of 255 in one another".into(), inputs: vec![tall()] });
     (shapes, DEFINES.map(series).into())
 }
@@ -35,6 +36,26 @@ fn random_set(seed: u64, size: usize) -> Set {
     let input = |number| random_input(&mut Random::new(seed, "bench", number + ((size as u64) << 32)), size);
     let inputs = (0..).map(input).filter(accepted).take(TREES_A_SIZE).collect();
     Set { name: format!("random, {size} records"), inputs }
+}
+
+/// Four lambdas of 255 parameters inside one another. The innermost reads all 1,020 names, sets every fourth of each 255, and holds one
+/// more lambda.
+fn captured_in_order() -> Input {
+    let group = |i: u32| 255 * i..255 * (i + 1);
+    let read = Expression::identifier;
+    let set = |name| Expression::new(SET, vec![name], vec![Expression::constant(false)]);
+    let begin = |kids| Expression::new(BEGIN, vec![], kids);
+    let lambda = |names, body| Expression::new(LAMBDA, names, vec![body]);
+    let used = |i: u32| begin(group(i).map(|name| if (name - 255 * i) % 4 == 0 { set(name) } else { read(name) }).collect());
+    let mut kids: Vec<Expression> = (0..4).map(used).collect();
+    kids.push(lambda(vec![], read(0)));
+    let tree = (0..4).rev().fold(lambda(vec![], begin(kids)), |body, i| lambda(group(i).collect(), body));
+    Input { classes: vec![0; 1020], numbers: numbers(&[tree], in_order) }
+}
+
+/// Ids rise with the records.
+fn in_order(at: usize) -> Own {
+    Own { id: 1 + at as u32, from: at as u32, to: at as u32 }
 }
 
 /// (define f (lambda (a b) (let ((c (a b))) (if c (g a c) (lambda () (b c))))))
@@ -53,7 +74,6 @@ fn series(defines: usize) -> Set {
     const GLOBALS: u32 = 8;
     let name = |i: u32| 3 + i % GLOBALS;
     let tree: Vec<Expression> = (0..defines as u32).map(|i| define(name(i), name(i + 1))).collect();
-    let own = |at: usize| Own { id: 1 + at as u32, from: at as u32, to: at as u32 };
-    let input = Input { classes: vec![0; 3 + GLOBALS as usize], numbers: numbers(&tree, own) };
+    let input = Input { classes: vec![0; 3 + GLOBALS as usize], numbers: numbers(&tree, in_order) };
     Set { name: format!("{defines} defines"), inputs: vec![input] }
 }
