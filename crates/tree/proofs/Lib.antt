@@ -1,5 +1,6 @@
 pub mod Table
 pub mod Forms
+pub mod Entries
 pub mod Search
 pub mod Places
 pub mod Missing
@@ -7,4 +8,7 @@ pub mod Naming
 pub mod Repeated
 pub mod Chaining
 pub mod Nesting
+pub mod Holding
+pub mod Standing
+pub mod Sweeping
 pub mod Order

@@ -9,9 +9,10 @@ use lib.ListN.{length, drop}
 use Rattle.tree.specs.Record.{records}
 use Rattle.tree.specs.RecordLaws.{blank, nth}
 use Rattle.tree.specs.Form.{childrenOf}
+use Rattle.tree.specs.Held.{Live}
 use Rattle.tree.specs.Place.{Open, after, left}
 use Rattle.tree.specs.Check.{check4}
-use Rattle.tree.proofs.Places.{Live, total, after-live, after-total, none-open, some-open, left-next, left-end}
+use Rattle.tree.proofs.Places.{total, after-live, after-total, none-open, some-open, left-next, left-end}
 
 pub record Counting (rs : List ℕ) (i places : ℕ) : Type 0 where
   pub s : List Open

@@ -12,11 +12,12 @@ use lib.ListN.{length, drop}
 use Rattle.tree.specs.Record.{Record, records}
 use Rattle.tree.specs.RecordLaws.{blank, nth}
 use Rattle.tree.specs.Form.{formOf, namesOf, othersOf}
+use Rattle.tree.specs.Held.{toCome}
 use Rattle.tree.specs.Place.{Open, closed, takeOne, taken, after, Placed, isNamePlace, placed}
 use Rattle.tree.specs.First.{on, first}
 use Rattle.tree.specs.FirstLaws.{on-zero, first-hit, first-next}
 use Rattle.tree.specs.Check.{check6}
-use Rattle.tree.proofs.Places.{toCome, opened, closed-done, closed-open, by-closing, placedAt, placed-next, placed-end}
+use Rattle.tree.proofs.Places.{opened, closed-done, closed-open, by-closing, placedAt, placed-next, placed-end}
 
 abbrev misnamed : Placed → Bool
 misnamed p = p .isName && not (eqb (p .of .form) 1)
@@ -126,6 +127,18 @@ module _ {rs : List ℕ} {i d : ℕ} (a : Naming rs i d) where
 
     pub name-here : 0 < d → (f : ℕ) → f ≡ nth rs i .form → f ≡ 1 → Naming rs (i + 1) (d - 1)
     name-here z f ef e = go-on (d - 1) (due-name (a .s) (nth rs i) d z (sym ef ∙ e) (a .names)) (rw (is-due (a .s) d z (a .names), ← ef, e))
+
+    either : (n : ℕ) → (0 < d → nth rs i .form ≡ 1) → n ≡ d - 1 + namesOf (nth rs i .form) (nth rs i .count) → Dec (0 < d) → Naming rs (i + 1) n
+    either n g e (yes z) =
+        let k : d - 1 ≡ n = omega (arith, no-children (nth rs i) (g z)) in
+        subst (Naming rs (i + 1)) k (name-here z (nth rs i .form) refl (g z))
+    either n g e (no z) =
+        let k : namesOf (nth rs i .form) (nth rs i .count) ≡ n = omega arith in
+        subst (Naming rs (i + 1)) k (no-name-due (omega arith) (nth rs i .form) (nth rs i .count) (namesOf (nth rs i .form) (nth rs i .count)) refl refl refl)
+
+    -- both at once, since a name has no names
+    pub naming-next : (n : ℕ) → (0 < d → nth rs i .form ≡ 1) → n ≡ d - 1 + namesOf (nth rs i .form) (nth rs i .count) → Naming rs (i + 1) n
+    naming-next n g e = either n g e (decLt 0 d)
 
     pub misnamed-here : 0 < d → (f : ℕ) → f ≡ nth rs i .form → (f ≡ 1 → ⊥) → (N : ℕ) → some i ≡ check6 N rs
     unfolding check6

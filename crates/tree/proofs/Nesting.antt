@@ -10,12 +10,13 @@ use lib.Seq.{drop-drop}
 use Rattle.tree.specs.Record.{Record, width, records}
 use Rattle.tree.specs.RecordLaws.{blank, part-records}
 use Rattle.tree.specs.Form.{childrenOf}
+use Rattle.tree.specs.Held.{toCome}
 use Rattle.tree.specs.Place.{Open, closed, takeOne, taken, after, Placed, placed}
 use Rattle.tree.specs.First.{on, first}
 use Rattle.tree.specs.FirstLaws.{on-zero, on-on}
 use Rattle.tree.specs.declared.nest.Walk.{Walk}
 use Rattle.tree.specs.Walked.{isDeep, firstDeep, UsedUp, DeepAt, EndsFirst, Walked}
-use Rattle.tree.proofs.Places.{toCome, opened, closed-done, closed-open, taken-one, placed-end}
+use Rattle.tree.proofs.Places.{opened, closed-done, closed-open, taken-one, taken-length, placed-end}
 
 -- s is open before the tree. After used records the tree's first one has so many children left, names and others as o says.
 pub record Child (l : List Record) (left used : ℕ) (s : List Open) : Type 0 where
@@ -28,10 +29,6 @@ pub record Walking (l : List Record) (level n i used : ℕ) : Type 0 where
   pub some : 1 ≤ used
   pub within : used ≤ length l
   pub child : (s : List Open) → suc (length s) ≡ level → Child l (n - i) used s
-
-taken-length : (s : List Open) → length (taken s) ≡ length s
-taken-length [] = refl
-taken-length (o ∷ s) = refl
 
 pub ends : (l : List Record) (level : ℕ) → length l ≡ 0 → EndsFirst l level
 unfolding placed first

@@ -9,12 +9,10 @@ use lib.ListN.{length, getD, drop, drop-of-length-le}
 use lib.Seq.{drop-cons}
 use Rattle.tree.specs.Record.{Record}
 use Rattle.tree.specs.Form.{namesOf, othersOf, childrenOf}
+use Rattle.tree.specs.Held.{toCome, Live}
 use Rattle.tree.specs.Place.{Open, closed, takeOne, taken, after, Placed, isNamePlace, placed, left}
 
--- the children to come of one open record, and of all
-abbrev pub toCome : Open → ℕ
-toCome o = o .names + o .others
-
+-- the children to come of all open records
 abbrev pub total : List Open → ℕ
 total [] = 0
 total (o ∷ s) = toCome o + total s
@@ -44,20 +42,22 @@ module _ (P : List Open → List Open → Type 0) (none : P [] []) (done : (o : 
   by-closing [] = none
   by-closing (o ∷ s) = either o s (by-closing s) (decLt 0 (toCome o))
 
--- the innermost open record has a child to come
-abbrev pub Live : List Open → Type 0
-Live [] = Unit {0}
-Live (o ∷ s) = 0 < toCome o
-
 pub closed-live : (s : List Open) → Live (closed s)
 closed-live = by-closing (λ s t. Live t) tt (λ o s h p. p) (λ o s h. h)
 
 pub closed-total : (s : List Open) → total (closed s) ≡ total s
 closed-total = by-closing (λ s t. total t ≡ total s) refl (λ o s h p. omega arith) (λ o s h. refl)
 
+pub closed-few : (s : List Open) → length (closed s) ≤ length s
+closed-few = by-closing (λ s t. length t ≤ length s) (omega arith) (λ o s h p. omega arith) (λ o s h. omega arith)
+
 pub taken-one : (n k : ℕ) → toCome (takeOne n k) ≡ n + k - 1
 taken-one zero k = omega arith
 taken-one (suc n) k = omega arith
+
+pub taken-length : (s : List Open) → length (taken s) ≡ length s
+taken-length [] = refl
+taken-length (o ∷ s) = refl
 
 pub taken-total : (s : List Open) → Live s → total (taken s) ≡ total s - 1
 taken-total [] h = refl

@@ -1,15 +1,24 @@
 -- A loop over the records that looks for the first where a test holds: it has come to record i, and what is to be found is found from there on.
 use Prim.Native.Nat.{ℕ, _+_, _≤_, _<_}
 use mathlib.Core.List.{List}
-use mathlib.Core.Bool.{Bool, true, false}
+use mathlib.Core.Bool.{Bool, true, false, not, _&&_}
 use mathlib.Core.Option.{none, some}
 use mathlib.Core.Path.{_≡_, sym, _∙_}
 use native.Mathlib.Omega.{arith}
+use lib.Dec.{eqb}
 use lib.ListN.{length, drop}
 use Rattle.tree.specs.Record.{Record, records}
 use Rattle.tree.specs.RecordLaws.{blank, nth}
+use Rattle.tree.specs.Form.{fits}
 use Rattle.tree.specs.First.{on, first}
 use Rattle.tree.specs.FirstLaws.{on-zero, from-hit, from-next, from-end}
+
+-- what the checks 3 and 7 look for
+abbrev pub outside : ℕ → Record → Bool
+outside N r = not (fits N r)
+
+abbrev pub emptyCall : Record → Bool
+emptyCall r = eqb (r .form) 8 && eqb (r .count) 0
 
 module _ (test : Record → Bool) (rs : List ℕ) where
   pub record At (i : ℕ) : Type 0 where

@@ -2,6 +2,7 @@ pub mod Record
 pub mod RecordLaws
 pub mod Form
 pub mod Field
+pub mod Entry
 pub mod Tree
 pub mod Define
 pub mod TreeLaws
@@ -19,6 +20,9 @@ pub mod Found
 pub mod Seen
 pub mod Chain
 pub mod Walked
+pub mod Held
+pub mod Clear
+pub mod Order
 pub mod Stands
 pub mod WithinLaws
 pub mod StandsLaws

@@ -1,49 +1,68 @@
 // The nine forms: how many children a record has, and what its fields may hold.
 ghost use mathlib.Core.Path.{_≡_};
 ghost use mathlib.Core.Bool.{_&&_};
+ghost use Prim.Native.Nat.{_<_, _≤_};
 ghost use lib.Dec.{leb, ltb};
 ghost use Rattle.tree.specs.Form.{formOf, namesOf, childrenOf, idFits};
+ghost use Rattle.tree.specs.Entry.{entryOf, entriesOf};
 ghost use Rattle.tree.specs.Field.{isForm, hasIdIn, nameBelowIn, countMostIn};
 use table::wide;
 
 const FORMS: u32 = 9;
 
-const LAST_ID: u32 = 4294967294;
+const LAST_ID: usize = 4294967294;
 
-const MOST_COUNT: u32 = 255;
+const MOST_COUNT: usize = 255;
 
-// By form: the children that every record has, and those that it has for each one counted.
-const FIXED: [u8; 10] = [0, 0, 0, 3, 1, 2, 1, 0, 0, 2];
+// Tables by form, a hexadecimal digit each, form 0 last. Forms come mixed: a branch on one is often mispredicted, and a digit costs none.
+// The f, of no form, keeps the compiler from making a branch of an entry that is 0 or 1 elsewhere.
 
-const COUNTED: [u8; 10] = [0, 0, 0, 0, 2, 0, 1, 1, 1, 0];
+// The children of every record, and four times those for each one counted.
+const CHILDREN: u64 = 0xf2445293000;
 
-// A byte of a table as a length.
-fn byte(x: u8) -> usize
-    ensures { λ r. ⌜ r ≡ x ⌝ }
+// The names among them, alike.
+const NAMES: u64 = 0xf1004140000;
+
+// What the name field stays below: 1 or 2, or four times 1 for each name.
+const NAME: u64 = 0xf1111111241;
+
+// 1 where there is an id.
+const ID: u64 = 0xf0101010110;
+
+// 1 where there is a count.
+const COUNT: u64 = 0xf0111010000;
+
+// The form's entry of a table; that of form 0 where the form is unknown.
+fn entry(table: u64, form: u32) -> usize
+    ensures { λ r. ⌜ r ≡ entryOf table form ⌝ }
 {
-    x as usize
+    if FORMS < form {
+        return (table % 16) as usize;
+    }
+    ((table >> (4 * form)) % 16) as usize
+}
+
+// An entry of two parts, the upper one for each of `many`.
+fn entries(table: u64, form: u32, many: usize) -> usize
+    requires { ⌜ entriesOf table form many ≤ 18446744073709551615 ⌝ }
+    ensures { λ r. ⌜ r ≡ entriesOf table form many ⌝ }
+{
+    let e = entry(table, form);
+    e % 4 + e / 4 * many
 }
 
 // How many children a record has; none where its form is unknown.
 pub fn children(form: u32, count: u32) -> usize
     ensures { λ r. ⌜ r ≡ childrenOf form count ⌝ }
 {
-    if FORMS < form {
-        return 0;
-    }
-    let f = wide(form);
-    byte(FIXED[f]) + byte(COUNTED[f]) * wide(count)
+    entries(CHILDREN, form, wide(count))
 }
 
 // How many of the children are names, which stand first.
 pub fn names(form: u32, count: u32) -> usize
     ensures { λ r. ⌜ r ≡ namesOf form count ⌝ }
 {
-    match form {
-        4 | 6 => wide(count),
-        5 | 9 => 1,
-        _ => 0,
-    }
+    entries(NAMES, form, wide(count))
 }
 
 pub fn known(form: u32) -> bool
@@ -52,30 +71,18 @@ pub fn known(form: u32) -> bool
     1 <= form && form <= FORMS
 }
 
-fn given(id: u32) -> bool
-    ensures { λ r. ⌜ r ≡ leb 1 id && leb id 4294967294 ⌝ }
-{
-    1 <= id && id <= LAST_ID
-}
-
 // The form chooses the rule: an id, or 0.
 fn id_fits(form: u32, id: u32) -> bool
     ensures { λ r. ⌜ r ≡ idFits (hasIdIn (formOf form)) id ⌝ }
 {
-    match form {
-        1..=2 | 4 | 6 | 8 => given(id),
-        _ => id == 0,
-    }
+    let has = entry(ID, form);
+    has <= wide(id) && wide(id) <= has * LAST_ID
 }
 
 fn name_below(form: u32, names: usize) -> usize
     ensures { λ r. ⌜ r ≡ nameBelowIn (formOf form) names ⌝ }
 {
-    match form {
-        1 => names,
-        2 => 2,
-        _ => 1,
-    }
+    entries(NAME, form, names)
 }
 
 pub fn id_and_name_fit(form: u32, id: u32, name: u32, names: usize) -> bool
@@ -84,18 +91,22 @@ pub fn id_and_name_fit(form: u32, id: u32, name: u32, names: usize) -> bool
     id_fits(form, id) && wide(name) < name_below(form, names)
 }
 
-fn most(form: u32) -> u32
+fn most(form: u32) -> usize
     ensures { λ r. ⌜ r ≡ countMostIn (formOf form) ⌝ }
 {
-    match form {
-        4 => MOST_COUNT,
-        6..=8 => MOST_COUNT,
-        _ => 0,
-    }
+    entry(COUNT, form) * MOST_COUNT
 }
 
 pub fn count_fits(form: u32, count: u32) -> bool
     ensures { λ r. ⌜ r ≡ leb count (countMostIn (formOf form)) ⌝ }
 {
-    count <= most(form)
+    wide(count) <= most(form)
+}
+
+// How many names may be due where a record of the form stands.
+pub fn may_be_due(form: u32) -> usize
+    ensures { λ r. ⌜ (0 < r → form ≡ 1) ⌝ }
+    ensures few { λ r. ⌜ r ≤ 255 ⌝ }
+{
+    entry(NAME, form) / 4 * MOST_COUNT
 }

@@ -1,6 +1,10 @@
 // Records and the checks 1 to 8.
 ghost use mathlib.Core.Path.{_≡_};
+ghost use Prim.Native.Nat.{ℕ, _≤_};
+ghost use lib.ListN.{length};
+ghost use Rattle.tree.specs.Record.{records};
 ghost use Rattle.tree.specs.Check.{refusal};
+ghost use Rattle.tree.specs.Order.{from3, from8};
 ghost use Rattle.tree.specs.Answer.{refusalOf};
 use scan::Found;
 
@@ -9,6 +13,7 @@ mod ids;
 mod nest;
 pub mod record;
 mod scan;
+mod sweep;
 
 const MOST_RECORDS: usize = 4096;
 
@@ -35,19 +40,23 @@ pub enum Checked {
     Repeated(usize),
 }
 
-// The checks in order, each over all the records before the next.
-pub fn check(rs: &[u32], names: usize) -> Checked
-    ensures { λ r. ⌜ refusalOf r ≡ refusal names (now (rs .entry)) ⌝ }
+// 8, where none of the checks before it applies.
+fn last(rs: &[u32]) -> Checked
+    requires { ⌜ length (records (now rs)) ≤ 4096 ⌝ }
+    ensures { λ r. ⌜ ((N : ℕ) → refusalOf r ≡ from8 N (now (rs .entry))) ⌝ }
 {
-    if rs.len() % record::WIDTH != 0 {
-        return Checked::Ragged;
+    let repeated = ids::repeated_id(rs);
+    if let Found::At(i) = repeated {
+        return Checked::Repeated(i);
     }
-    if MOST_RECORDS < record::len(rs) {
-        return Checked::TooMany;
-    }
-    if MOST_NAMES < names {
-        return Checked::TooMany;
-    }
+    Checked::Fit
+}
+
+// 3 to 8 in order, each over all the records before the next.
+fn in_order(rs: &[u32], names: usize) -> Checked
+    requires { ⌜ length (records (now rs)) ≤ 4096 ⌝ }
+    ensures { λ r. ⌜ refusalOf r ≡ from3 names (now (rs .entry)) ⌝ }
+{
     let outside = scan::field_outside(rs, names);
     if let Found::At(i) = outside {
         return Checked::Field(i);
@@ -68,9 +77,24 @@ pub fn check(rs: &[u32], names: usize) -> Checked
     if let Found::At(i) = empty {
         return Checked::EmptyCall(i);
     }
-    let repeated = ids::repeated_id(rs);
-    if let Found::At(i) = repeated {
-        return Checked::Repeated(i);
+    last(rs)
+}
+
+// The first check that refuses. Most trees pass 3 to 7: one pass tells.
+pub fn check(rs: &[u32], names: usize) -> Checked
+    ensures { λ r. ⌜ refusalOf r ≡ refusal names (now (rs .entry)) ⌝ }
+{
+    if rs.len() % record::WIDTH != 0 {
+        return Checked::Ragged;
     }
-    Checked::Fit
+    if MOST_RECORDS < record::len(rs) {
+        return Checked::TooMany;
+    }
+    if MOST_NAMES < names {
+        return Checked::TooMany;
+    }
+    if sweep::clear(rs, names) {
+        return last(rs);
+    }
+    in_order(rs, names)
 }

@@ -8,7 +8,7 @@ ghost use Rattle.tree.specs.Walked.{Walked};
 use crate::record;
 use crate::scan::Found;
 
-const DEEPEST: usize = 64;
+pub const DEEPEST: usize = 64;
 
 pub enum Walk {
     // the tree has so many records

@@ -18,7 +18,7 @@ pub enum Found {
     Nothing,
 }
 
-fn fit(rs: &[u32], i: usize, names: usize) -> bool
+pub fn fit(rs: &[u32], i: usize, names: usize) -> bool
     requires { ⌜ i < length (records (now rs)) ⌝ }
     ensures { λ r. ⌜ r ≡ fits names (nth (now (rs .entry)) i) ⌝ }
 {
@@ -48,7 +48,7 @@ pub fn field_outside(rs: &[u32], names: usize) -> Found
 }
 
 // The open places, but for the one that a record takes; at top level it takes none.
-fn taken(places: usize) -> usize
+pub fn taken(places: usize) -> usize
     ensures { λ r. ⌜ r ≡ places - 1 ⌝ }
 {
     if places == 0 {
@@ -97,7 +97,7 @@ pub fn not_a_name(rs: &[u32]) -> Found
     Found::Nothing
 }
 
-fn is_empty_call(rs: &[u32], i: usize) -> bool
+pub fn is_empty_call(rs: &[u32], i: usize) -> bool
     requires { ⌜ i < length (records (now rs)) ⌝ }
     ensures { λ r. ⌜ r ≡ eqb (nth (now (rs .entry)) i .form) 8 && eqb (nth (now (rs .entry)) i .count) 0 ⌝ }
 {

@@ -1,54 +1,18 @@
--- `check`: the checks one after another.
+-- `check`: 1 and 2, then the pass that clears 3 to 7, or all in order.
 use borrow.Author.Needs.{needs}
 use native.Mathlib.Omega.{arith}
-use mathlib.Core.Option.{Option, none}
-use mathlib.Core.List.{List}
-use mathlib.Core.Path.{sym}
-use Prim.Native.Nat.{ℕ}
-use Rattle.tree.specs.Check.{Refusal, check3, check4, check5, check6, check7, check8}
-use Rattle.tree.proofs.Order.{from4, from5, from6, from7, from8, ragged, many-records, many-names, past-2, Next, refused, passed}
+use mathlib.Core.Path.{_≡_, sym, _∙_}
+use Rattle.tree.specs.Check.{refusal}
+use Rattle.tree.specs.Order.{from3}
+use Rattle.tree.proofs.Order.{ragged, many-records, many-names, past-2, cleared}
 use Rattle.tree.proofs.check.Statement.{statement}
 use Rattle.tree.proofs.check.Tie as tie
 
--- at a place whose start is s, check n is next
-abbrev Now : tie.Start → ℕ → (ℕ → List ℕ → Option ℕ) → (ℕ → List ℕ → Option Refusal) → Type 0
-Now s n check later = Next (s .args .names) (s .args .rs .now) n check later
+abbrev start : tie.Else3 → tie.Start
+start c = c .before .before .before .before .before
 
-abbrev start-3 : tie.Else3 → tie.Start
-start-3 c = c .before .before .before .before .before
-
-abbrev start-4 : tie.After-enum-told → tie.Start
-start-4 c = start-3 (c .before .before .before)
-
-abbrev start-5 : tie.After-enum-told2 → tie.Start
-start-5 c = start-4 (c .before .before .before)
-
-abbrev start-6 : tie.After-enum-told3 → tie.Start
-start-6 c = start-5 (c .before .before .before)
-
-abbrev start-7 : tie.After-enum-told4 → tie.Start
-start-7 c = start-6 (c .before .before .before)
-
-abbrev start-8 : tie.After-enum-told5 → tie.Start
-start-8 c = start-7 (c .before .before .before)
-
-next-3 : (c : tie.Else3) → Now (start-3 c) 3 check3 from4
-next-3 c = record { is = past-2 _ _ (c .before .before .before .if1 .left) (omega arith) (c .if3 .left) }
-
-next-4 : (c : tie.After-enum-told) → Now (start-4 c) 4 check4 from5
-next-4 c = record { is = passed (next-3 (c .before .before .before)) (c .before .before .field-outside .ensures) (c .enum-told .given .1) }
-
-next-5 : (c : tie.After-enum-told2) → Now (start-5 c) 5 check5 from6
-next-5 c = record { is = passed (next-4 (c .before .before .before)) (c .before .before .child-missing .ensures (start-4 (c .before .before .before) .args .names)) (c .enum-told2 .given .1) }
-
-next-6 : (c : tie.After-enum-told3) → Now (start-6 c) 6 check6 from7
-next-6 c = record { is = passed (next-5 (c .before .before .before)) (c .before .before .too-deep .ensures (start-5 (c .before .before .before) .args .names)) (c .enum-told3 .given .1) }
-
-next-7 : (c : tie.After-enum-told4) → Now (start-7 c) 7 check7 from8
-next-7 c = record { is = passed (next-6 (c .before .before .before)) (c .before .before .not-a-name .ensures (start-6 (c .before .before .before) .args .names)) (c .enum-told4 .given .1) }
-
-next-8 : (c : tie.After-enum-told5) → Now (start-8 c) 8 check8 (λ N rs. none)
-next-8 c = record { is = passed (next-7 (c .before .before .before)) (c .before .before .empty-call .ensures (start-7 (c .before .before .before) .args .names)) (c .enum-told5 .given .1) }
+from-3 : (c : tie.Else3) → refusal (start c .args .names) (start c .args .rs .now) ≡ from3 (start c .args .names) (start c .args .rs .now)
+from-3 c = past-2 _ _ (c .before .before .before .if1 .left) (omega arith) (c .if3 .left)
 
 returns : tie.Need-returns
 returns c = ragged _ _ (c .if1 .taken)
@@ -62,82 +26,23 @@ returns-2 c = many-records _ _ (c .before .before .if1 .left) (omega arith)
 returns-3 : tie.Need-returns-3
 returns-3 c = many-names _ _ (c .before .before .before .if1 .left) (omega arith) (c .if3 .taken)
 
-field-outside-requires : tie.Need-field-outside-requires
-field-outside-requires c κs = search needs
+clear-requires : tie.Need-clear-requires
+clear-requires c κs = search needs
 
-enum-known-outside : tie.Need-enum-known-outside
-enum-known-outside c = search needs
+last-requires : tie.Need-last-requires
+last-requires c κs = search needs
 
 returns-4 : tie.Need-returns-4
-returns-4 c = refused (next-3 (c .before .before .before .before)) (c .before .before .before .field-outside .ensures) (c .before .outside .given .1)
+returns-4 c =
+    let d = c .before .before in
+    let N = start (d .before) .args .names in
+    c .last .ensures N ∙ sym (from-3 (d .before) ∙ cleared N _ (d .clear .ensures (c .before .if4 .taken)))
 
-enum-told : tie.Need-enum-told
-enum-told c = search needs
-
-child-missing-requires : tie.Need-child-missing-requires
-child-missing-requires c κs = search needs
-
-enum-known-missing : tie.Need-enum-known-missing
-enum-known-missing c = search needs
+in-order-requires : tie.Need-in-order-requires
+in-order-requires c κs = search needs
 
 returns-5 : tie.Need-returns-5
-returns-5 c = refused (next-4 (c .before .before .before .before)) (c .before .before .before .child-missing .ensures (start-4 (c .before .before .before .before) .args .names)) (c .before .missing .given .1)
-
-enum-told-2 : tie.Need-enum-told-2
-enum-told-2 c = search needs
-
-too-deep-requires : tie.Need-too-deep-requires
-too-deep-requires c κs = search needs
-
-enum-known-deep : tie.Need-enum-known-deep
-enum-known-deep c = search needs
-
-returns-6 : tie.Need-returns-6
-returns-6 c = refused (next-5 (c .before .before .before .before)) (c .before .before .before .too-deep .ensures (start-5 (c .before .before .before .before) .args .names)) (c .before .deep .given .1)
-
-enum-told-3 : tie.Need-enum-told-3
-enum-told-3 c = search needs
-
-not-a-name-requires : tie.Need-not-a-name-requires
-not-a-name-requires c κs = search needs
-
-enum-known-misnamed : tie.Need-enum-known-misnamed
-enum-known-misnamed c = search needs
-
-returns-7 : tie.Need-returns-7
-returns-7 c = refused (next-6 (c .before .before .before .before)) (c .before .before .before .not-a-name .ensures (start-6 (c .before .before .before .before) .args .names)) (c .before .misnamed .given .1)
-
-enum-told-4 : tie.Need-enum-told-4
-enum-told-4 c = search needs
-
-empty-call-requires : tie.Need-empty-call-requires
-empty-call-requires c κs = search needs
-
-enum-known-empty : tie.Need-enum-known-empty
-enum-known-empty c = search needs
-
-returns-8 : tie.Need-returns-8
-returns-8 c = refused (next-7 (c .before .before .before .before)) (c .before .before .before .empty-call .ensures (start-7 (c .before .before .before .before) .args .names)) (c .before .empty .given .1)
-
-enum-told-5 : tie.Need-enum-told-5
-enum-told-5 c = search needs
-
-repeated-id-requires : tie.Need-repeated-id-requires
-repeated-id-requires c κs = search needs
-
-enum-known-repeated : tie.Need-enum-known-repeated
-enum-known-repeated c = search needs
-
-returns-9 : tie.Need-returns-9
-unfolding check8
-returns-9 c = refused (next-8 (c .before .before .before .before)) (c .before .before .before .repeated-id .ensures) (c .before .repeated .given .1)
-
-enum-told-6 : tie.Need-enum-told-6
-enum-told-6 c = search needs
-
-returns-10 : tie.Need-returns-10
-unfolding check8
-returns-10 c = sym (passed (next-8 (c .before .before .before)) (c .before .before .repeated-id .ensures) (c .enum-told6 .given .1))
+returns-5 c = c .in-order .ensures ∙ sym (from-3 (c .before .before .before))
 
 pub check-spec : {M : Type 1} → statement M
 check-spec =
@@ -147,28 +52,8 @@ check-spec =
     len-requires
     returns-2
     returns-3
-    field-outside-requires
-    enum-known-outside
+    clear-requires
+    last-requires
     returns-4
-    enum-told
-    child-missing-requires
-    enum-known-missing
-    returns-5
-    enum-told-2
-    too-deep-requires
-    enum-known-deep
-    returns-6
-    enum-told-3
-    not-a-name-requires
-    enum-known-misnamed
-    returns-7
-    enum-told-4
-    empty-call-requires
-    enum-known-empty
-    returns-8
-    enum-told-5
-    repeated-id-requires
-    enum-known-repeated
-    returns-9
-    enum-told-6
-    returns-10)
+    in-order-requires
+    returns-5)

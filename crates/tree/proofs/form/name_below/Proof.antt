@@ -1,20 +1,18 @@
--- `name_below`: by the form's row.
-use mathlib.Core.Path.{sym}
-use Rattle.tree.specs.Form.{formOf}
-use Rattle.tree.proofs.Forms.{no-name}
+-- `name_below`: the tables of the name field.
+use native.Mathlib.Omega.{arith}
+use mathlib.Core.Path.{_∙_}
+use Rattle.tree.proofs.Entries.{name-entries, name-least}
 use Rattle.tree.proofs.form.name_below.Statement.{statement}
 use Rattle.tree.proofs.form.name_below.Tie as tie
 
+entries-requires : tie.Need-entries-requires
+entries-requires c κs =
+    let f = c .args .form in
+    let n = c .args .names in
+    omega (arith, name-entries f n, name-least f n 18446744073709551615 (omega arith) (omega arith))
+
 returns : tie.Need-returns
-unfolding formOf
-returns c = rw (c .match .keys1)
-
-returns-2 : tie.Need-returns-2
-unfolding formOf
-returns-2 c = rw (c .match .keys2)
-
-returns-3 : tie.Need-returns-3
-returns-3 c = sym (no-name _ _ (c .match .rest .0 .1) (c .match .rest .1))
+returns c = c .entries .ensures ∙ name-entries _ _
 
 pub name-below-spec : {M : Type 1} → statement M
-name-below-spec = tie.close (tie.spec returns returns-2 returns-3)
+name-below-spec = tie.close (tie.spec entries-requires returns)

@@ -2,18 +2,13 @@
 use borrow.Author.Needs.{needs}
 use native.Mathlib.Omega.{arith}
 use Prim.Native.Nat.{_-_}
-use mathlib.Core.Bool.{Bool, _&&_}
 use mathlib.Core.Path.{sym, _∙_}
-use lib.Dec.{eqb}
 use lib.ListN.{length}
-use Rattle.tree.specs.Record.{Record, records}
+use Rattle.tree.specs.Record.{records}
 use Rattle.tree.specs.Check.{check7}
-use Rattle.tree.proofs.Search.{At, begin, hit, next, end}
+use Rattle.tree.proofs.Search.{emptyCall, At, begin, hit, next, end}
 use Rattle.tree.proofs.scan.empty_call.Statement.{statement}
 use Rattle.tree.proofs.scan.empty_call.Tie as tie
-
-abbrev emptyCall : Record → Bool
-emptyCall r = eqb (r .form) 8 && eqb (r .count) 0
 
 abbrev Inv-loop : tie.InvT-loop
 Inv-loop rs n i₀ i = At emptyCall rs i

@@ -1,19 +1,15 @@
 -- `field_outside`: a search for a record that does not fit.
 use borrow.Author.Needs.{needs}
 use native.Mathlib.Omega.{arith}
-use Prim.Native.Nat.{ℕ, _-_}
-use mathlib.Core.Bool.{Bool, not}
+use Prim.Native.Nat.{_-_}
+use mathlib.Core.Bool.{not}
 use mathlib.Core.Path.{sym, ap, _∙_}
 use lib.ListN.{length}
-use Rattle.tree.specs.Record.{Record, records}
-use Rattle.tree.specs.Form.{fits}
+use Rattle.tree.specs.Record.{records}
 use Rattle.tree.specs.Check.{check3}
-use Rattle.tree.proofs.Search.{At, begin, hit, next, end}
+use Rattle.tree.proofs.Search.{outside, At, begin, hit, next, end}
 use Rattle.tree.proofs.scan.field_outside.Statement.{statement}
 use Rattle.tree.proofs.scan.field_outside.Tie as tie
-
-abbrev outside : ℕ → Record → Bool
-outside N r = not (fits N r)
 
 abbrev Inv-loop : tie.InvT-loop
 Inv-loop rs names n i₀ i = At (outside names) rs i

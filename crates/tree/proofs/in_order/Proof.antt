@@ -1,0 +1,138 @@
+-- `in_order`: the checks one after another.
+use borrow.Author.Needs.{needs}
+use mathlib.Core.Option.{Option}
+use mathlib.Core.List.{List}
+use mathlib.Core.Path.{refl, sym, _∙_}
+use Prim.Native.Nat.{ℕ}
+use Rattle.tree.specs.Check.{Refusal, check3, check4, check5, check6, check7}
+use Rattle.tree.specs.Order.{from4, from5, from6, from7, from8}
+use Rattle.tree.proofs.Order.{Next, refused, passed}
+use Rattle.tree.proofs.in_order.Statement.{statement}
+use Rattle.tree.proofs.in_order.Tie as tie
+
+-- at a place whose start is s, check n is next
+abbrev Now : tie.Start → ℕ → (ℕ → List ℕ → Option ℕ) → (ℕ → List ℕ → Option Refusal) → Type 0
+Now s n check later = Next (s .args .names) (s .args .rs .now) n check later
+
+abbrev start-4 : tie.After-enum-told → tie.Start
+start-4 c = c .before .before .before .before
+
+abbrev start-5 : tie.After-enum-told2 → tie.Start
+start-5 c = start-4 (c .before .before .before)
+
+abbrev start-6 : tie.After-enum-told3 → tie.Start
+start-6 c = start-5 (c .before .before .before)
+
+abbrev start-7 : tie.After-enum-told4 → tie.Start
+start-7 c = start-6 (c .before .before .before)
+
+next-3 : (c : tie.Start) → Now c 3 check3 from4
+next-3 c = record { is = refl }
+
+next-4 : (c : tie.After-enum-told) → Now (start-4 c) 4 check4 from5
+next-4 c = record { is = passed (next-3 (start-4 c)) (c .before .before .field-outside .ensures) (c .enum-told .given .1) }
+
+next-5 : (c : tie.After-enum-told2) → Now (start-5 c) 5 check5 from6
+next-5 c = record { is = passed (next-4 (c .before .before .before)) (c .before .before .child-missing .ensures (start-5 c .args .names)) (c .enum-told2 .given .1) }
+
+next-6 : (c : tie.After-enum-told3) → Now (start-6 c) 6 check6 from7
+next-6 c = record { is = passed (next-5 (c .before .before .before)) (c .before .before .too-deep .ensures (start-6 c .args .names)) (c .enum-told3 .given .1) }
+
+next-7 : (c : tie.After-enum-told4) → Now (start-7 c) 7 check7 from8
+next-7 c = record { is = passed (next-6 (c .before .before .before)) (c .before .before .not-a-name .ensures (start-7 c .args .names)) (c .enum-told4 .given .1) }
+
+field-outside-requires : tie.Need-field-outside-requires
+field-outside-requires c κs = search needs
+
+enum-known-outside : tie.Need-enum-known-outside
+enum-known-outside c = search needs
+
+returns : tie.Need-returns
+returns c = refused (next-3 (c .before .before .before .before .before)) (c .before .before .before .field-outside .ensures) (c .before .outside .given .1)
+
+enum-told : tie.Need-enum-told
+enum-told c = search needs
+
+child-missing-requires : tie.Need-child-missing-requires
+child-missing-requires c κs = search needs
+
+enum-known-missing : tie.Need-enum-known-missing
+enum-known-missing c = search needs
+
+returns-2 : tie.Need-returns-2
+returns-2 c = refused (next-4 (c .before .before .before .before)) (c .before .before .before .child-missing .ensures (start-4 (c .before .before .before .before) .args .names)) (c .before .missing .given .1)
+
+enum-told-2 : tie.Need-enum-told-2
+enum-told-2 c = search needs
+
+too-deep-requires : tie.Need-too-deep-requires
+too-deep-requires c κs = search needs
+
+enum-known-deep : tie.Need-enum-known-deep
+enum-known-deep c = search needs
+
+returns-3 : tie.Need-returns-3
+returns-3 c = refused (next-5 (c .before .before .before .before)) (c .before .before .before .too-deep .ensures (start-5 (c .before .before .before .before) .args .names)) (c .before .deep .given .1)
+
+enum-told-3 : tie.Need-enum-told-3
+enum-told-3 c = search needs
+
+not-a-name-requires : tie.Need-not-a-name-requires
+not-a-name-requires c κs = search needs
+
+enum-known-misnamed : tie.Need-enum-known-misnamed
+enum-known-misnamed c = search needs
+
+returns-4 : tie.Need-returns-4
+returns-4 c = refused (next-6 (c .before .before .before .before)) (c .before .before .before .not-a-name .ensures (start-6 (c .before .before .before .before) .args .names)) (c .before .misnamed .given .1)
+
+enum-told-4 : tie.Need-enum-told-4
+enum-told-4 c = search needs
+
+empty-call-requires : tie.Need-empty-call-requires
+empty-call-requires c κs = search needs
+
+enum-known-empty : tie.Need-enum-known-empty
+enum-known-empty c = search needs
+
+returns-5 : tie.Need-returns-5
+returns-5 c = refused (next-7 (c .before .before .before .before)) (c .before .before .before .empty-call .ensures (start-7 (c .before .before .before .before) .args .names)) (c .before .empty .given .1)
+
+enum-told-5 : tie.Need-enum-told-5
+enum-told-5 c = search needs
+
+last-requires : tie.Need-last-requires
+last-requires c κs = search needs
+
+returns-6 : tie.Need-returns-6
+returns-6 c =
+    let d = c .before .before .before .before in
+    let N = start-7 d .args .names in
+    c .last .ensures N ∙ sym (passed (next-7 d) (c .before .before .before .empty-call .ensures N) (c .before .enum-told5 .given .1))
+
+pub in-order-spec : {M : Type 1} → statement M
+in-order-spec =
+    tie.close
+    (tie.spec
+    field-outside-requires
+    enum-known-outside
+    returns
+    enum-told
+    child-missing-requires
+    enum-known-missing
+    returns-2
+    enum-told-2
+    too-deep-requires
+    enum-known-deep
+    returns-3
+    enum-told-3
+    not-a-name-requires
+    enum-known-misnamed
+    returns-4
+    enum-told-4
+    empty-call-requires
+    enum-known-empty
+    returns-5
+    enum-told-5
+    last-requires
+    returns-6)
