@@ -38,7 +38,7 @@ use Rattle.lists.specs.Contract.{Told, Inside, Body, Ended, Named, HeldNamed, a
 use Rattle.lists.specs.declared.amend.Ending.{Ending}
 use Rattle.forms.specs.Contract.{Fits, LambdaEnds, LeavesLambda}
 use Rattle.forms.specs.FitsLaws.{Sized, sized-same, sized-then, sized-amend, sized-last, fact-inside, tied-insert, told, good-each}
-use Rattle.forms.specs.Bound.{Marked, MarksLasts, LayerFits, StoresLayer, NamesEnd, EndsParameters}
+use Rattle.forms.specs.Bound.{MarksLasts, LayerFits, StoresLayer, NamesEnd, EndsParameters}
 use Rattle.forms.specs.Lambdas.{closed, Closes, madeOf, shorterOf, MakeFits, MakesFunction, AmendFits, AmendsFunction}
 use Rattle.forms.proofs.ArgumentsCase.{items-length}
 use Rattle.forms.proofs.Closing.{Lists, listsOf, put, closed-lists, commutes, lasts-closed, capturedStored, captured-put, argumentsStored, stored-put, rewritten, rewritten-put}
@@ -51,22 +51,18 @@ unfolding markLasts
 sized-lasts [] s = sized-same s
 sized-lasts (e ∷ l) s = sized-then (sized-last (entryAt s (e .value .at) .lastUsed) s) (sized-lasts l _)
 
-module _ {rs : List ℕ} {n : Names} {p : Pass} {F w : List ℕ} where
-  pub ends-marked : NamesEnd rs n p F w → Marked p F w
-  ends-marked a = record { rs = rs; captured = a .captured; arguments = a .arguments; s = a .s; fits = a .fits }
-
 module _ {rs : List ℕ} {p : Pass} {F w : List ℕ} where
-  module _ {F₁ : List ℕ} (marks : MarksLasts p F w F₁) {o : Pass} (scope : Becomes p w closeScope o w) where
-    pub scope-spacious : {n : Names} → NamesEnd rs n p F w → Spacious o w
+  module _ {F₁ : List ℕ} (marks : MarksLasts p F w F₁) {o : Pass} {w₁ : List ℕ} (scope : Becomes p w closeScope o w₁) where
+    pub scope-spacious : {n : Names} → NamesEnd rs n p F w → Spacious o w₁
     scope-spacious a = spacious (scope .is _ (marks .is rs (a .captured) (a .arguments) (a .s) (a .fits) .works))
 
-    module _ {q : Pass} (captures : Becomes o w closeCaptures q w) where
-      closed-fits : {C A : List ℕ} {s : State} → Fits rs (raw p F C A w) s → Fits rs (raw q F₁ C A w) (markLasts (newestLayer (s .scope .names)) (closeCaptures (closeScope s)))
+    module _ {q : Pass} {w₂ : List ℕ} (captures : Becomes o w₁ closeCaptures q w₂) where
+      closed-fits : {C A : List ℕ} {s : State} → Fits rs (raw p F C A w) s → Fits rs (raw q F₁ C A w₂) (markLasts (newestLayer (s .scope .names)) (closeCaptures (closeScope s)))
       unfolding closeScope closeCaptures
       closed-fits {C} {A} {s} f =
           let l = newestLayer (s .scope .names) in
           let m = marks .is rs C A s f in
-          let c : Tied (raw q F₁ C A w) (closeCaptures (closeScope (markLasts l s))) = record {
+          let c : Tied (raw q F₁ C A w₂) (closeCaptures (closeScope (markLasts l s))) = record {
             facts = m .facts;
             captured = m .captured;
             arguments = m .arguments;
@@ -75,13 +71,13 @@ module _ {rs : List ℕ} {p : Pass} {F w : List ℕ} where
           let u : Sized s (closeCaptures (closeScope s)) = record { rows = refl; arguments = refl } in
           record {
             good = good-each (f .good) (sized-then u (sized-lasts l (closeCaptures (closeScope s)))) (λ Q k G z h. each-lasts k z l (each-pop-captures k z (each-pop k z h)));
-            tied = subst (λ (t : State). Tied (raw q F₁ C A w) t) (lasts-closed l s) c;
+            tied = subst (λ (t : State). Tied (raw q F₁ C A w₂) t) (lasts-closed l s) c;
           }
 
-      pub closed-names : {n : Names} → NamesEnd rs n p F w → NamesEnd rs n q F₁ w
+      pub closed-names : {n : Names} → NamesEnd rs n p F w → NamesEnd rs n q F₁ w₂
       closed-names a = record { captured = a .captured; arguments = a .arguments; s = _; xs = a .xs; told = a .told; fits = closed-fits (a .fits) }
 
-      pub lambda-closes : {n : Names} {F₂ : List ℕ} → EndsParameters rs n q F₁ w F₂ → Closes rs n p F w q F₂
+      pub lambda-closes : {n : Names} {F₂ : List ℕ} → EndsParameters rs n q F₁ w₂ F₂ → Closes rs n p F w q F₂ w₂
       lambda-closes k = record { is = λ C A s xs t f. k .is C A _ xs t (closed-fits f) }
 
 -- How long the lists are
@@ -230,14 +226,14 @@ module _ {rs : List ℕ} {at : ℕ} {n : Names} {p : Pass} {F C A w : List ℕ} 
         let y = items-length (m .s) (newestLayer (m .s .scope .names)) in
         (omega (arith, x), omega (arith, x, m .captured), omega (arith, t .1), omega (arith, t .1, m .room, arguments-top (m .fits .tied .works)))
 
-    module _ {q : Pass} {F₁ : List ℕ} (closes : Closes rs n b F w′ q F₁) where
+    module _ {q : Pass} {F₁ w″ : List ℕ} (closes : Closes rs n b F w′ q F₁ w″) where
       pub made-fact : MakeFits rs at n p F C A w → rowWidth * at + rowWidth ≤ length F₁
       made-fact m =
           let f = stored-fits (m .told) (m .fits) in
           fact-inside (closes .is C′ A′ _ (m .xs) (m .told) f) (sized-closed (m .xs) _ .rows ∙ f .good .rows) at (m .few)
 
       pub function-made : at < rowsMost → {escapes : Bool} {d : ℕ} {v : FunctionInformation} {F₂ : List ℕ} → d ≡ q .scope .depth → v ≡ madeOf p b escapes d
-          → Stores putRow F₁ at (Function v) F₂ → MakesFunction rs at n escapes p F C A w q F₂ C′ A′ w′
+          → Stores putRow F₁ at (Function v) F₂ → MakesFunction rs at n escapes p F C A w q F₂ C′ A′ w″
       unfolding makeFunction stored
       function-made few {escapes} {d} {v} {F₂} ed ev st = record {
         is = λ s xs m em t f.
@@ -317,14 +313,14 @@ module _ {rs : List ℕ} {at : ℕ} {d : Ending} {v : FunctionInformation} {p : 
       a .inside,
     )
 
-    module _ {q : Pass} {F₁ : List ℕ} (closes : Closes rs (d .names) p F w′ q F₁) where
+    module _ {q : Pass} {F₁ w″ : List ℕ} (closes : Closes rs (d .names) p F w′ q F₁ w″) where
       pub amended-fact : AmendFits rs at d v p F C w → rowWidth * at + rowWidth ≤ length F₁
       amended-fact a =
           let f = amended-fits (v .«captured_vars») amends (a .told) (a .body) (a .fits) (a .named) in
           fact-inside (closes .is C′ (a .arguments) _ (a .xs) (a .told) f) (sized-closed (a .xs) _ .rows ∙ f .good .rows) at (a .few)
 
       pub function-amended : at < rowsMost → {u : FunctionInformation} {F₂ : List ℕ} → u ≡ shorterOf v n → Stores putRow F₁ at (Function u) F₂
-          → AmendsFunction rs at d v p F C w q F₂ C′ w′
+          → AmendsFunction rs at d v p F C w q F₂ C′ w″
       unfolding amendFunction amendedState
       function-amended few {u} {F₂} eu st = record {
         is = λ A s xs b m em t y f named.
@@ -338,10 +334,10 @@ module _ {rs : List ℕ} {at : ℕ} {d : Ending} {v : FunctionInformation} {p : 
             let z : u ≡ shorterOf v (length l) = eu ∙ ap (shorterOf v) (amends .many F A s xs b t y (f .good) named (f .tied)) in
             let r : closed xs s .facts .captured ≡ s .facts .captured = ap (λ (k : Lists). k .captured) (closed-lists xs s) in
             let used = nowUsed b (capturedVars (map nameIn xs) s) in
-            let i′ : Tied (raw q F₂ C′ A w′) (insert at (Function (shorterOf v (length l))) (rewriteCaptured e l (closed xs s))) = rw (← z, ← c) i in
+            let i′ : Tied (raw q F₂ C′ A w″) (insert at (Function (shorterOf v (length l))) (rewriteCaptured e l (closed xs s))) = rw (← z, ← c) i in
             let out : List Item → Type 0 = λ (g : List Item).
             let h = amendList used (s .captures) [] (keptOf b used (listIn g e)) in
-            Tied (raw q F₂ C′ A w′) (insert at (Function (shorterOf v (length h))) (rewriteCaptured e h (closed xs s))) in
+            Tied (raw q F₂ C′ A w″) (insert at (Function (shorterOf v (length h))) (rewriteCaptured e h (closed xs s))) in
             rw em (subst out (sym r) i′);
       }
 

@@ -100,7 +100,7 @@ unfolding closeLet closeScope
 close-facts true s = refl
 close-facts false s = refl
 
-pub closes-layer : {opened : Bool} {p q : Pass} {w : List ℕ} → opened ≡ true → Becomes p w closeScope q w → Becomes p w (closeLet opened) q w
+pub closes-layer : {opened : Bool} {p q : Pass} {w w′ : List ℕ} → opened ≡ true → Becomes p w closeScope q w′ → Becomes p w (closeLet opened) q w′
 unfolding closeLet
 closes-layer e k = record { is = λ s h. rw e (k .is s h) }
 
@@ -152,9 +152,10 @@ module _ {rs : List ℕ} {at : ℕ} {n : Names} {p : Pass} {F A w : List ℕ} wh
           let m : Node = record { at = at; id = 0; from = 0; to = 0 } in
           spacious (makes .is (b .captured) _ (b .xs) m (b .function) refl (b .around) (b .told) (left-fits leaves (b .told) (b .fits)) .works)
 
-      pub let-left : at < rowsMost → {opened : Bool} {r′ : Pass} → Becomes r w₁ (closeLet opened) r′ w₁ → LeavesLet rs opened at n height a p F A w r′ F′ A′ w₁
+      pub let-left : at < rowsMost → {opened : Bool} {r′ : Pass} {w₂ : List ℕ} → Becomes r w₁ (closeLet opened) r′ w₂
+          → LeavesLet rs opened at n height a p F A w r′ F′ A′ w₂
       unfolding leaveLet
-      let-left few {opened} {r′} k = record {
+      let-left few {opened} k = record {
         is = λ C s xs m function em ar u f.
             let l = leaveNames xs s in
             let bl : blank ≡ isBlank (rowAt s (m .at)) = told (f .tied) (f .good .rows) at few isBlank t ∙ ap (λ (i : ℕ). isBlank (rowAt s i)) (sym em) in

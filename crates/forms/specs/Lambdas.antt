@@ -56,8 +56,8 @@ pub record EntersBy (v : FoundFunction) (C : List ℕ) (g : Entering) : Type 0 w
 abbrev pub closed : List Ident → State → State
 closed xs s = endParameters xs (markLasts (newestLayer (s .scope .names)) (closeCaptures (closeScope s)))
 
-pub record Closes (rs : List ℕ) (n : Names) (p : Pass) (F w : List ℕ) (p′ : Pass) (F′ : List ℕ) : Type 0 where
-  pub is : (C A : List ℕ) (s : State) (xs : List Ident) → Told rs n xs → Fits rs (raw p F C A w) s → Tied (raw p′ F′ C A w) (closed xs s)
+pub record Closes (rs : List ℕ) (n : Names) (p : Pass) (F w : List ℕ) (p′ : Pass) (F′ w′ : List ℕ) : Type 0 where
+  pub is : (C A : List ℕ) (s : State) (xs : List Ident) → Told rs n xs → Fits rs (raw p F C A w) s → Tied (raw p′ F′ C A w′) (closed xs s)
 
 abbrev pub madeOf : Pass → Pass → Bool → ℕ → FunctionInformation
 madeOf p q escapes depth = record {

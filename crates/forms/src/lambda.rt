@@ -96,9 +96,9 @@ pub fn enter_lambda(
 }
 
 // The layer goes, and what its names were is marked.
-fn close_lambda(all: &[u32], names: Names, p: Pass, facts: &mut [u32], work: &[u32]) -> Pass
+fn close_lambda(all: &[u32], names: Names, p: Pass, facts: &mut [u32], work: &mut [u32]) -> Pass
     requires { ⌜ NamesEnd (now all) names p (now facts) (now work) ⌝ }
-    ensures { λ r. ⌜ Closes (now (all .entry)) names p (now (facts .entry)) (now (work .entry)) r (now (facts .exit)) ⌝ }
+    ensures { λ r. ⌜ Closes (now (all .entry)) names p (now (facts .entry)) (now (work .entry)) r (now (facts .exit)) (now (work .exit)) ⌝ }
 {
     mark_lasts(p, facts, work);
     let o = close_scope(p, work);

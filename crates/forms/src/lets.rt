@@ -130,9 +130,9 @@ fn make_let(
     q
 }
 
-fn close_let(opened: bool, p: Pass, work: &[u32]) -> Pass
+fn close_let(opened: bool, p: Pass, work: &mut [u32]) -> Pass
     requires { ⌜ Spacious p (now work) ⌝ }
-    ensures { λ r. ⌜ Becomes p (now (work .entry)) (closeLet opened) r (now (work .entry)) ⌝ }
+    ensures { λ r. ⌜ Becomes p (now (work .entry)) (closeLet opened) r (now (work .exit)) ⌝ }
 {
     if opened {
         return close_scope(p, work);

@@ -1,4 +1,5 @@
 pub mod Search
-pub mod Hinted
 pub mod Write
+pub mod Index
+pub mod Sorted
 pub mod Cases

@@ -2,16 +2,14 @@
 -- test of the newest.
 use Prim.Native.Nat.{ℕ, zero, suc, _-_, _≤_, _<_}
 use mathlib.Core.List.{List, [], _∷_}
-use mathlib.Core.Bool.{Bool, true, false, cond, _&&_}
+use mathlib.Core.Bool.{Bool, true, false, cond}
 use mathlib.Core.Path.{_≡_, refl, ap, sym, _∙_}
 use native.Mathlib.Omega.{arith}
-use borrow.Author.Tests.{eqb-true, eqb-false, eq-eqb, ne-eqb}
+use borrow.Author.Tests.{eqb-true, eqb-false}
 use lib.Dec.{eqb}
 use Rattle.scope_map.specs.ScopeMap.{Live}
 use Rattle.scope_map.specs.Rows.{rowAt, liveIn}
-use Rattle.scope_map.specs.Held.{Held, Bounds}
-use Rattle.scope_map.specs.HeldLaws.{mapOf}
-use Rattle.scope_map.specs.declared.ScopeMap.{ScopeMap as Map}
+use Rattle.scope_map.specs.Hints.{Indexed, Bounds}
 
 pub record Search {A : Type 0} (f : List (Live ℕ) → A) : Type 0 where
   pub test : Live ℕ → Bool
@@ -54,17 +52,5 @@ module _ {A : Type 0} {f : List (Live ℕ) → A} (s : Search f) (t : List ℕ) 
           ∙ k (omega arith)
 
   -- a search for a name may start where its rows end
-  pub from-bound : {m : Map} {x r : ℕ} → ((e : Live ℕ) → (e .name ≡ x → ⊥) → s .test e ≡ false) → Bounds m t x r → Held m t (mapOf m t) →
-      f (liveIn t r) ≡ f (liveIn t (m .length))
-  from-bound {m} {x} {r} other b k = sym (skips r (m .length) (b .most) (λ i g h. other (rowAt t i) (b .over (mapOf m t) k i g h)))
-
--- a test of two parts: the second decides, or the first
-pub second : (a b : ℕ) (q : Bool) → a ≡ b → q ≡ (eqb a b && q)
-second a b q e = rw (eq-eqb a b e)
-
-pub first : (a b : ℕ) (q : Bool) → (a ≡ b → ⊥) → eqb a b ≡ (eqb a b && q)
-first a b q e = rw (ne-eqb a b e)
-
-pub neither : (p q : Bool) → q ≡ false → p && q ≡ false
-neither true q e = e
-neither false q e = refl
+  pub from-bound : {n x r : ℕ} → ((e : Live ℕ) → (e .name ≡ x → ⊥) → s .test e ≡ false) → Bounds n t x r → Indexed n t → f (liveIn t r) ≡ f (liveIn t n)
+  from-bound {n} {r = r} other b i = sym (skips r n (b .most) (λ k g h. other (rowAt t k) (b .over i k g h)))

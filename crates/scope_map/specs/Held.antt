@@ -7,13 +7,18 @@ use mathlib.Core.Option.{Option, none, some}
 use lib.ListN.{length, drop}
 use lib.Dec.{eqb, ltb}
 use Rattle.scope_map.specs.ScopeMap.{Live, ScopeMap, isAt, belowLayer, get, depthOf, hasAtTop, newestLayer}
-use Rattle.scope_map.specs.Rows.{rowAt, liveIn, rowsFrom}
-use Rattle.scope_map.specs.Hints.{mapLength, Roomy, Hinted}
+use Rattle.scope_map.specs.Rows.{liveIn, rowsFrom}
+use Rattle.scope_map.specs.Hints.{mapLength, Roomy, Indexed}
 use Rattle.scope_map.specs.declared.ScopeMap.{ScopeMap as Map}
 use Rattle.scope_map.specs.declared.Found.{Found}
 use Rattle.scope_map.specs.declared.Found.the-variants.{At, Nothing}
 use Rattle.scope_map.specs.declared.Distance.{Distance}
 use Rattle.scope_map.specs.declared.Distance.the-variants as distance
+
+-- layers do not fall from older names to newer, and none is above d
+unfoldable pub Sorted : ℕ → List (Live ℕ) → Type 0
+Sorted d [] = Unit {0}
+Sorted d (e ∷ l) = (e .layer ≤ d) × Sorted (e .layer) l
 
 -- the struct m and the table t hold the map s
 pub record Held (m : Map) (t : List ℕ) (s : ScopeMap ℕ) : Type 0 where
@@ -21,7 +26,8 @@ pub record Held (m : Map) (t : List ℕ) (s : ScopeMap ℕ) : Type 0 where
   pub many : m .length ≡ length (s .live)
   pub room : Roomy (m .length) t
   pub live : liveIn t (m .length) ≡ s .live
-  pub hinted : Hinted t (s .live)
+  pub index : Indexed (m .length) t
+  pub sorted : Sorted (s .depth) (s .live)
 
 -- an operation that takes a map to another; what lies after the map is as it was
 pub record Becomes (m : Map) (t : List ℕ) (f : ScopeMap ℕ → ScopeMap ℕ) (m′ : Map) (t′ : List ℕ) : Type 0 where
@@ -31,11 +37,6 @@ pub record Becomes (m : Map) (t : List ℕ) (f : ScopeMap ℕ → ScopeMap ℕ) 
 -- an operation that answers
 pub record Tells {A : Type 0} (m : Map) (t : List ℕ) (f : ScopeMap ℕ → A) (r : A) : Type 0 where
   pub is : (s : ScopeMap ℕ) → Held m t s → r ≡ f s
-
--- where a search for a name starts: no row from r on has it
-pub record Bounds (m : Map) (t : List ℕ) (x r : ℕ) : Type 0 where
-  pub over : (s : ScopeMap ℕ) → Held m t s → (i : ℕ) → r ≤ i → i < m .length → rowAt t i .name ≡ x → ⊥
-  pub most : r ≤ m .length
 
 -- A lookup. The row of a live name is the number of older ones.
 
@@ -50,6 +51,7 @@ entryOf x Nothing = none
 pub record Gets (m : Map) (t : List ℕ) (x : ℕ) (r : Found) : Type 0 where
   pub is : (s : ScopeMap ℕ) → Held m t s → entryOf x r ≡ get s x
   pub row : (s : ScopeMap ℕ) → Held m t s → r ≡ foundIn (s .live) x
+  pub below : (i d v : ℕ) → r ≡ At i d v → i < m .length
 
 abbrev pub distanceIn : ScopeMap ℕ → Option (Live ℕ) → Distance
 distanceIn s none = distance.Nothing

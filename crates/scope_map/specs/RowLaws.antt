@@ -1,7 +1,7 @@
 -- The operations on the live names of a table's rows.
 use Prim.Native.Nat.{ℕ, zero, suc, _+_, _-_, _≤_, _<_}
 use mathlib.Core.List.{List, [], _∷_, _++_}
-use mathlib.Core.Bool.{Bool, true, false, cond, _||_}
+use mathlib.Core.Bool.{Bool, true, false, cond, _&&_, _||_}
 use mathlib.Core.Path.{_≡_, refl, ap, sym, _∙_}
 use mathlib.Core.Option.{some}
 use native.Mathlib.Omega.{arith}
@@ -105,6 +105,17 @@ module _ (d x n : ℕ) where
       pick : (b : Bool) → ltb (placeIn d x n l) n ≡ hasIn d x l → ltb (cond b (length l) (placeIn d x n l)) n ≡ b || hasIn d x l
       pick true r = lt-ltb (length l) n (omega arith)
       pick false r = r
+
+  pub place-name : (t : List ℕ) (i p : ℕ) → p ≡ placeIn d x n (liveIn t i) → p < n → rowAt t p .name ≡ x
+  unfolding liveIn placeIn
+  place-name t zero p e g = absurd (omega arith)
+  place-name t (suc i) p e g = pick (eqb (rowAt t i .layer) d) (eqb (rowAt t i .name) x) refl e (λ y. place-name t i p y g)
+    where
+      pick : (a b : Bool) → eqb (rowAt t i .name) x ≡ b → p ≡ cond (a && b) (length (liveIn t i)) (placeIn d x n (liveIn t i)) →
+          (p ≡ placeIn d x n (liveIn t i) → rowAt t p .name ≡ x) → rowAt t p .name ≡ x
+      pick true true q e r = ap (λ (k : ℕ). rowAt t k .name) (e ∙ length-liveIn t i) ∙ eqb-true _ _ q
+      pick true false q e r = r e
+      pick false b q e r = r e
 
   module _ (t t′ : List ℕ) where
     -- the row of the name, p, is written, and no other

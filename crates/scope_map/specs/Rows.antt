@@ -1,12 +1,22 @@
--- The live names as rows of a lent table: name, layer and value of each, oldest first.
-use Prim.Native.Nat.{ℕ, zero, suc, _+_, _-_, _*_}
+-- The live names as rows of a lent table: name, layer, and value and link of each, oldest first.
+use Prim.Native.Nat.{ℕ, zero, suc, _+_, _*_, _/_, _%_}
 use mathlib.Core.List.{List, [], _∷_}
 use lib.ListN.{getD, set}
 use Rattle.scope_map.specs.ScopeMap.{Live}
 use Rattle.scope_map.specs.declared.Row.{Row}
 
+-- a number takes values and links below these
+abbrev pub valuesMost : ℕ
+valuesMost = 65536
+
+abbrev pub linksMost : ℕ
+linksMost = 65536
+
 abbrev pub rowAt : List ℕ → ℕ → Live ℕ
-rowAt t i = record { name = getD t (3 * i) 0; layer = getD t (3 * i + 1) 0; value = getD t (3 * i + 2) 0 }
+rowAt t i = record { name = getD t (3 * i) 0; layer = getD t (3 * i + 1) 0; value = getD t (3 * i + 2) 0 % valuesMost }
+
+abbrev pub linkAt : List ℕ → ℕ → ℕ
+linkAt t i = getD t (3 * i + 2) 0 / valuesMost
 
 abbrev pub liveOf : Row → Live ℕ
 liveOf r = record { name = r .name; layer = r .layer; value = r .value }
@@ -22,14 +32,5 @@ rowsFrom t i zero = []
 rowsFrom t i (suc n) = rowAt t i ∷ rowsFrom t (suc i) n
 
 -- a row is written
-abbrev pub written : List ℕ → ℕ → ℕ → ℕ → ℕ → List ℕ
-written t i x d v = set (set (set t (3 * i) x) (3 * i + 1) d) (3 * i + 2) v
-
--- n numbers, from number k on, take the one three after them
-unfoldable pub shifted : List ℕ → ℕ → ℕ → List ℕ
-shifted t k zero = t
-shifted t k (suc n) = shifted (set t k (getD t (k + 3) 0)) (suc k) n
-
--- the rows after row i, of n, move down by one
-abbrev pub closed : List ℕ → ℕ → ℕ → List ℕ
-closed t i n = shifted t (3 * i) (3 * n - 3 - 3 * i)
+abbrev pub written : List ℕ → ℕ → ℕ → ℕ → ℕ → ℕ → List ℕ
+written t i x d v l = set (set (set t (3 * i) x) (3 * i + 1) d) (3 * i + 2) (v + valuesMost * l)

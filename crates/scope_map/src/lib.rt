@@ -1,20 +1,24 @@
-// Layers of names, each with a value. The live names stand in a lent table, oldest first, as rows of three numbers: name, layer, value. The
-// bottom layer is 1. After the rows stand the hints, a number for each name: no row from it on has the name.
+// Layers of names, each with a value. The live names stand in a lent table, oldest first, as rows of three numbers: name, layer, and value and
+// link packed. The bottom layer is 1. After the rows stand the hints, a number for each name: no row from it on has the name. A row's link is the
+// name's hint as it was before the row.
 use table::wide;
 ghost use mathlib.Core.Path.{_≡_};
 ghost use mathlib.Core.List.{List};
 ghost use Prim.Native.Nat.{ℕ, _+_, _*_, _≤_, _<_};
 ghost use lib.ListN.{length};
-ghost use Rattle.scope_map.specs.ScopeMap.{new, pushLayer, popLayer, isAt, hasAtTop, define, remove};
-ghost use Rattle.scope_map.specs.Rows.{rowAt, liveOf, written, closed};
-ghost use Rattle.scope_map.specs.Hints.{mapLength, Roomy, withHint};
-ghost use Rattle.scope_map.specs.Held.{Held, Becomes, Tells, Bounds, Gets, Places, Starts, distanceOf};
+ghost use Rattle.scope_map.specs.ScopeMap.{new, pushLayer, popLayer, hasAtTop, define, remove};
+ghost use Rattle.scope_map.specs.Rows.{valuesMost, linksMost, rowAt, liveOf, written};
+ghost use Rattle.scope_map.specs.Hints.{mapLength, Roomy, withHint, Bounds, Enters, Leaves, Moves};
+ghost use Rattle.scope_map.specs.Held.{Held, Becomes, Tells, Gets, Places, Starts, distanceOf};
 
 // There is room for 4,096 rows.
 const HINTS: usize = 12288;
 
 // Names from here on have no hint.
 const HINTED: u32 = 1024;
+
+// Values are below this.
+const VALUES: u32 = 65536;
 
 // How many layers there are, and how many rows.
 pub struct ScopeMap {
@@ -85,34 +89,19 @@ impl ScopeMap {
     }
 
     // The bottom layer is never popped.
-    pub fn pop_layer(self, t: &[u32]) -> Self
+    pub fn pop_layer(self, t: &mut [u32]) -> Self
         requires { ⌜ Roomy (self .length) (now t) ⌝ }
-        ensures { λ r. ⌜ Becomes self (now (t .entry)) popLayer r (now (t .entry)) ⌝ }
+        ensures { λ r. ⌜ Becomes self (now (t .entry)) popLayer r (now (t .exit)) ⌝ }
     {
         if self.depth <= 1 {
             return self;
         }
         let start = self.newest_layer(t);
+        leave_rows(t, start, self.length);
         ScopeMap {
             depth: self.depth - 1,
             length: start,
         }
-    }
-
-    // Where a search for the name starts: no row from here on has it.
-    fn bound(self, t: &[u32], name: u32) -> usize
-        requires { ⌜ Roomy (self .length) (now t) ⌝ }
-        ensures { λ r. ⌜ Bounds self (now (t .entry)) name r ⌝ }
-    {
-        let length = self.length;
-        if HINTED <= name {
-            return length;
-        }
-        let hint = wide(t[HINTS + wide(name)]);
-        if hint < length {
-            return hint;
-        }
-        length
     }
 
     // The newest of the name.
@@ -120,14 +109,14 @@ impl ScopeMap {
         requires { ⌜ Roomy (self .length) (now t) ⌝ }
         ensures { λ r. ⌜ Gets self (now (t .entry)) name r ⌝ }
     {
-        let mut i = self.bound(t, name);
+        let mut i = bound(t, self.length, name);
         while 0 < i {
             i -= 1;
             if t[3 * i] == name {
                 return Found::At {
                     row: i,
                     layer: t[3 * i + 1],
-                    value: t[3 * i + 2],
+                    value: t[3 * i + 2] % VALUES,
                 };
             }
         }
@@ -154,18 +143,23 @@ impl ScopeMap {
         }
     }
 
-    // The row that defines the name in the newest layer; where it has none, the row after the last.
+    // The row that defines the name in the newest layer; where it has none, the row after the last. Rows of older layers stand before, so the
+    // newest of the name decides.
     pub fn place(self, t: &[u32], name: u32) -> usize
         requires { ⌜ Roomy (self .length) (now t) ⌝ }
         ensures { λ r. ⌜ Places self (now (t .entry)) name r ⌝ }
     {
-        let depth = self.depth;
-        let mut i = self.bound(t, name);
-        while 0 < i {
-            i -= 1;
-            if is_at(t, i, depth, name) {
-                return i;
-            }
+        let found = self.get(t, name);
+        let Found::At {
+            row,
+            layer,
+            value: _,
+        } = found
+        else {
+            return self.length;
+        };
+        if layer == self.depth {
+            return row;
         }
         self.length
     }
@@ -180,24 +174,25 @@ impl ScopeMap {
 
     // In a layer that has the name the value is replaced.
     pub fn define(self, t: &mut [u32], name: u32, value: u32) -> Self
-        requires { ⌜ Roomy (self .length + 1) (now t) ⌝ }
+        requires { ⌜ Roomy (self .length + 1) (now t) × (value < valuesMost) ⌝ }
         ensures { λ r. ⌜ Becomes self (now (t .entry)) (define name value) r (now (t .exit)) ⌝ }
     {
         let place = self.place(t, name);
         let depth = self.depth;
         let length = self.length;
-        put(t, place, name, depth, value);
         if place < length {
+            let link = t[3 * place + 2] / VALUES;
+            put(t, place, name, depth, value, link);
             return self;
         }
-        set_hint(t, name, length + 1);
+        enter(t, length, name, depth, value);
         ScopeMap {
             depth,
             length: length + 1,
         }
     }
 
-    // Out of the newest layer alone.
+    // Out of the newest layer alone. The rows after the name's leave with it, and enter again one row down.
     pub fn remove(self, t: &mut [u32], name: u32) -> Self
         requires { ⌜ Roomy (self .length) (now t) ⌝ }
         ensures { λ r. ⌜ Becomes self (now (t .entry)) (remove name) r (now (t .exit)) ⌝ }
@@ -207,10 +202,12 @@ impl ScopeMap {
         if length <= place {
             return self;
         }
-        close(t, place, length);
+        let last = length - 1;
+        leave_rows(t, place, length);
+        enter_rows(t, place, last);
         ScopeMap {
             depth: self.depth,
-            length: length - 1,
+            length: last,
         }
     }
 
@@ -222,48 +219,90 @@ impl ScopeMap {
         Row {
             name: t[3 * i],
             layer: t[3 * i + 1],
-            value: t[3 * i + 2],
+            value: t[3 * i + 2] % VALUES,
         }
     }
 }
 
-// Row i defines the name in the layer.
-fn is_at(t: &[u32], i: usize, layer: u32, name: u32) -> bool
-    requires { ⌜ 3 * i + 3 ≤ length (now t) ⌝ }
-    ensures { λ r. ⌜ r ≡ isAt layer name (rowAt (now (t .entry)) i) ⌝ }
+// Where a search for the name among n rows starts: no row from here on has it.
+fn bound(t: &[u32], n: usize, name: u32) -> usize
+    requires { ⌜ Roomy n (now t) ⌝ }
+    ensures { λ r. ⌜ Bounds n (now (t .entry)) name r ⌝ }
 {
-    t[3 * i + 1] == layer && t[3 * i] == name
+    if HINTED <= name {
+        return n;
+    }
+    let hint = wide(t[HINTS + wide(name)]);
+    if hint < n {
+        return hint;
+    }
+    n
 }
 
 // Row i is written.
-fn put(t: &mut [u32], i: usize, name: u32, layer: u32, value: u32)
-    requires { ⌜ 3 * i + 3 ≤ length (now t) ⌝ }
-    ensures { λ _. ⌜ now (t .exit) ≡ written (now (t .entry)) i name layer value ⌝ }
+fn put(t: &mut [u32], i: usize, name: u32, layer: u32, value: u32, link: u32)
+    requires { ⌜ (3 * i + 3 ≤ length (now t)) × (value < valuesMost) × (link < linksMost) ⌝ }
+    ensures { λ _. ⌜ now (t .exit) ≡ written (now (t .entry)) i name layer value link ⌝ }
 {
     t[3 * i] = name;
     t[3 * i + 1] = layer;
-    t[3 * i + 2] = value;
+    t[3 * i + 2] = value + VALUES * link;
 }
 
 // No row from row n on has the name.
-fn set_hint(t: &mut [u32], name: u32, n: usize)
-    requires { ⌜ (mapLength ≤ length (now t)) × (n < 4294967296) ⌝ }
+fn set_hint(t: &mut [u32], name: u32, n: u32)
+    requires { ⌜ mapLength ≤ length (now t) ⌝ }
     ensures { λ _. ⌜ now (t .exit) ≡ withHint (now (t .entry)) name n ⌝ }
 {
     if name < HINTED {
-        t[HINTS + wide(name)] = n as u32;
+        t[HINTS + wide(name)] = n;
     }
 }
 
-// The rows after row i, of n, move down by one.
-fn close(t: &mut [u32], i: usize, n: usize)
-    requires { ⌜ (i < n) × (3 * n ≤ length (now t)) ⌝ }
-    ensures { λ _. ⌜ now (t .exit) ≡ closed (now (t .entry)) i n ⌝ }
+// A row enters after n rows.
+fn enter(t: &mut [u32], n: usize, name: u32, layer: u32, value: u32)
+    requires { ⌜ Roomy (n + 1) (now t) × (value < valuesMost) ⌝ }
+    ensures { λ _. ⌜ Enters (now (t .entry)) n name layer value (now (t .exit)) ⌝ }
 {
-    let end = 3 * n - 3;
-    let mut k = 3 * i;
-    while k < end {
-        t[k] = t[k + 3];
+    let link = bound(t, n, name) as u32;
+    put(t, n, name, layer, value, link);
+    set_hint(t, name, n as u32 + 1);
+}
+
+// Row n, the last, leaves: its name's hint is what it was before.
+fn leave(t: &mut [u32], n: usize)
+    requires { ⌜ Roomy (n + 1) (now t) ⌝ }
+    ensures { λ _. ⌜ Leaves (now (t .entry)) n (n + 1) (now (t .exit)) ⌝ }
+{
+    let name = t[3 * n];
+    let link = t[3 * n + 2] / VALUES;
+    set_hint(t, name, link);
+}
+
+// The rows from row i on, of n, leave, the last first.
+fn leave_rows(t: &mut [u32], i: usize, n: usize)
+    requires { ⌜ (i ≤ n) × Roomy n (now t) ⌝ }
+    ensures { λ _. ⌜ Leaves (now (t .entry)) i n (now (t .exit)) ⌝ }
+{
+    let mut k = n;
+    while i < k {
+        k -= 1;
+        leave(t, k);
+    }
+}
+
+// The rows from row i + 1 to row n enter after i rows, so that each moves down by one.
+fn enter_rows(t: &mut [u32], i: usize, n: usize)
+    requires { ⌜ (i ≤ n) × Roomy (n + 1) (now t) ⌝ }
+    ensures { λ _. ⌜ Moves (now (t .entry)) i n (now (t .exit)) ⌝ }
+{
+    let mut k = i;
+    while k < n {
+        let next = 3 * k + 3;
+        let name = t[next];
+        let layer = t[next + 1];
+        let value = t[next + 2] % VALUES;
+        enter(t, k, name, layer, value);
         k += 1;
     }
 }

@@ -5,7 +5,7 @@ use mathlib.Core.Option.{some}
 use mathlib.Core.Path.{_≡_, ap, sym, subst, _∙_}
 use native.Mathlib.Omega.{arith}
 use lib.ListN.{length, getD, set}
-use Rattle.table.specs.Region.{region}
+use Rattle.table.specs.Region.{region, replaced}
 use Rattle.table.specs.RegionLaws.{set-region, set-elsewhere, elsewhere-same, elsewhere-wider}
 use Rattle.tree.specs.Tree.{bit}
 use Rattle.scope_map.specs.ScopeMap.{Live, pushLayer, popLayer, getIn}
@@ -29,7 +29,7 @@ use Rattle.work.specs.Captures.{takenIn, opened, GetsCapture, LoadsTaken
 use Rattle.work.specs.CapturesLaws.{found-below, taken-found, taken-uses}
 use Rattle.work.specs.declared.Pass.{Pass}
 use Rattle.work.specs.declared.captures.Taken.{Taken}
-use Rattle.work.proofs.Changes.{captures-changed}
+use Rattle.work.proofs.Changes.{captures-changed, map-elsewhere, map-back}
 use Rattle.work.proofs.CaptureRows.{taken-pop, use-rows, taken-use}
 
 -- What is told
@@ -56,7 +56,7 @@ loads-taken w i e q = record {
       q ∙ ap takenIn (e ∙ h .row) ∙ taken-back (takenOf (c .value)) (h .small);
 }
 
--- A layer opens, or goes: the table stays
+-- A layer opens, and the table stays; or one goes, and the map comes back as ys
 
 module _ {p : Pass} {w : List ℕ} {m : Map} where
   pub captures-open : map.Becomes (p .captures) (region w capturesFirst capturesLength) pushLayer m (region w capturesFirst capturesLength)
@@ -65,14 +65,16 @@ module _ {p : Pass} {w : List ℕ} {m : Map} where
     is = λ s k. captures-changed k m (pushLayer (s .captures)) elsewhere-same (b .held (mapValues rowOf (s .captures)) (k .captures)) (k .taken);
   }
 
-  pub captures-close : map.Becomes (p .captures) (region w capturesFirst capturesLength) popLayer m (region w capturesFirst capturesLength)
-      → Becomes p w closeCaptures (inCaptures m p) w
+  pub captures-close : {ys : List ℕ} → length ys ≡ length (region w capturesFirst capturesLength)
+      → map.Becomes (p .captures) (region w capturesFirst capturesLength) popLayer m ys
+      → Becomes p w closeCaptures (inCaptures m p) (replaced w capturesFirst capturesLength ys)
   unfolding closeCaptures
-  captures-close b = record {
+  captures-close {ys} l b = record {
     is = λ s k.
-        captures-changed k m (popLayer (s .captures)) elsewhere-same
-        (rw (map-popLayer rowOf (s .captures)) (b .held (mapValues rowOf (s .captures)) (k .captures)))
-        (taken-pop (region w takenFirst takenLength) (s .captures) (k .taken));
+        let e = map-elsewhere w ys (k .long) l in
+        captures-changed k m (popLayer (s .captures)) (elsewhere-wider (omega arith) (omega arith) e)
+        (rw (map-back w ys (k .long) l, map-popLayer rowOf (s .captures)) (b .held (mapValues rowOf (s .captures)) (k .captures)))
+        (rw (e .after takenFirst takenLength (omega arith)) (taken-pop (region w takenFirst takenLength) (s .captures) (k .taken)));
   }
 
 -- One use more

@@ -23,7 +23,7 @@ use Rattle.work.specs.Passes.{inCaptures}
 use Rattle.work.specs.Captures.{DefinesRow, takenPut, DefinesCapture}
 use Rattle.work.specs.declared.Pass.{Pass}
 use Rattle.work.specs.declared.captures.Taken.{Taken}
-use Rattle.work.proofs.Changes.{captures-changed}
+use Rattle.work.proofs.Changes.{captures-changed, map-elsewhere, map-back}
 use Rattle.work.proofs.CaptureRows.{taken-define}
 
 taken-long : (t : Taken) → length (putTaken t) ≡ takenWidth
@@ -80,35 +80,29 @@ module _ (w ys : List ℕ) (i : ℕ) (c : Capture) (h : length w ≡ workLong) (
   abbrev zs : List ℕ
   zs = sets (region (first w ys) takenFirst takenLength) (takenWidth * i) (putTaken (takenOf c))
 
-  b : capturesFirst + capturesLength ≤ length w
-  b = omega arith
-
-  many : length ys ≡ capturesLength
-  many = l ∙ part-length w h capturesFirst capturesLength (omega arith)
-
   first-elsewhere : Elsewhere capturesFirst capturesLength w (first w ys)
-  first-elsewhere = replaced-elsewhere w capturesFirst capturesLength b ys many
+  first-elsewhere = map-elsewhere w ys h l
 
-  b′ : takenFirst + takenLength ≤ length (first w ys)
-  b′ = omega (arith, first-elsewhere .long)
+  b : takenFirst + takenLength ≤ length (first w ys)
+  b = omega (arith, first-elsewhere .long)
 
-  many′ : length zs ≡ takenLength
-  many′ =
+  many : length zs ≡ takenLength
+  many =
       length-sets (region (first w ys) takenFirst takenLength) (takenWidth * i) (putTaken (takenOf c))
       ∙ part-length (first w ys) (first-elsewhere .long ∙ h) takenFirst takenLength (omega arith)
 
   second-elsewhere : Elsewhere takenFirst takenLength (first w ys) both
-  second-elsewhere = replaced-elsewhere (first w ys) takenFirst takenLength b′ zs many′
+  second-elsewhere = replaced-elsewhere (first w ys) takenFirst takenLength b zs many
 
   both-elsewhere : Elsewhere capturesFirst (capturesLength + takenLength) w both
   both-elsewhere =
       elsewhere-then (elsewhere-wider (omega arith) (omega arith) first-elsewhere) (elsewhere-wider (omega arith) (omega arith) second-elsewhere)
 
   both-map : region both capturesFirst capturesLength ≡ ys
-  both-map = second-elsewhere .before capturesFirst capturesLength (omega arith) ∙ replaced-region w capturesFirst capturesLength b ys many
+  both-map = second-elsewhere .before capturesFirst capturesLength (omega arith) ∙ map-back w ys h l
 
   both-rows : region both takenFirst takenLength ≡ zs
-  both-rows = replaced-region (first w ys) takenFirst takenLength b′ zs many′
+  both-rows = replaced-region (first w ys) takenFirst takenLength b zs many
 
   rows-kept : zs ≡ sets (region w takenFirst takenLength) (takenWidth * i) (putTaken (takenOf c))
   rows-kept = ap (λ (l : List ℕ). sets l (takenWidth * i) (putTaken (takenOf c))) (first-elsewhere .after takenFirst takenLength (omega arith))

@@ -3,9 +3,10 @@ use Prim.Native.Nat.{ℕ, _+_}
 use mathlib.Core.List.{List}
 use mathlib.Core.Path.{_≡_, _∙_}
 use native.Mathlib.Omega.{arith}
+use lib.ListN.{length}
 use Rattle.table.specs.Layout.{layout}
-use Rattle.table.specs.Region.{region}
-use Rattle.table.specs.RegionLaws.{Elsewhere}
+use Rattle.table.specs.Region.{region, replaced}
+use Rattle.table.specs.RegionLaws.{Elsewhere, replaced-region, replaced-elsewhere}
 use Rattle.tree.specs.Tree.{Ident}
 use Rattle.scope_map.specs.ScopeMap.{ScopeMap}
 use Rattle.scope_map.specs.MapLaws.{mapValues}
@@ -14,9 +15,21 @@ use Rattle.scope_map.specs.declared.ScopeMap.{ScopeMap as Map}
 use Rattle.semantic.specs.Rows.{Item}
 use Rattle.pass.specs.State.{State, Entry, Capture, withNames, withEntries, withCaptures, withCaptured}
 use Rattle.work.specs.Coded.{putEntryRow, putBinder}
-use Rattle.work.specs.Works.{scopeLength, entriesFirst, entriesLength, capturesFirst, capturesLength, takenFirst, takenLength, bindersFirst, bindersLength, recordAt, rowOf, TakenIn, Works}
+use Rattle.work.specs.Works.{workLong, scopeLength, entriesFirst, entriesLength, capturesFirst, capturesLength, takenFirst, takenLength, bindersFirst, bindersLength, recordAt, rowOf, TakenIn, Works}
+use Rattle.work.specs.WorksLaws.{part-length}
 use Rattle.work.specs.Passes.{inScope, inCaptures}
 use Rattle.work.specs.declared.Pass.{Pass}
+
+-- the captures' map comes back as ys
+module _ (w ys : List ℕ) (h : length w ≡ workLong) (l : length ys ≡ length (region w capturesFirst capturesLength)) where
+  many : length ys ≡ capturesLength
+  many = l ∙ part-length w h capturesFirst capturesLength (omega arith)
+
+  pub map-elsewhere : Elsewhere capturesFirst capturesLength w (replaced w capturesFirst capturesLength ys)
+  map-elsewhere = replaced-elsewhere w capturesFirst capturesLength (omega arith) ys many
+
+  pub map-back : region (replaced w capturesFirst capturesLength ys) capturesFirst capturesLength ≡ ys
+  map-back = replaced-region w capturesFirst capturesLength (omega arith) ys many
 
 module _ {p : Pass} {w w′ : List ℕ} {s : State} (k : Works p w s) where
   pub names-changed : (m : Map) (l : ScopeMap Ident) → Elsewhere 0 scopeLength w w′ → Held m (region w′ 0 scopeLength) (mapValues recordAt l)

@@ -145,14 +145,14 @@ pub fn open_captures(p: Pass) -> Pass
     q
 }
 
-pub fn close_captures(p: Pass, work: &[u32]) -> Pass
+pub fn close_captures(p: Pass, work: &mut [u32]) -> Pass
     requires { ⌜ Spacious p (now work) ⌝ }
-    ensures { λ r. ⌜ Becomes p (now (work .entry)) closeCaptures r (now (work .entry)) ⌝ }
+    ensures { λ r. ⌜ Becomes p (now (work .entry)) closeCaptures r (now (work .exit)) ⌝ }
 {
     let captures = p.captures;
     let start = CAPTURES;
     let end = TAKEN;
-    let fewer = captures.pop_layer(&work[start..end]);
+    let fewer = captures.pop_layer(&mut work[start..end]);
     let mut q = p;
     q.captures = fewer;
     q

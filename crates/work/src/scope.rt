@@ -99,13 +99,13 @@ pub fn open_scope(p: Pass) -> Pass
     q
 }
 
-pub fn close_scope(p: Pass, work: &[u32]) -> Pass
+pub fn close_scope(p: Pass, work: &mut [u32]) -> Pass
     requires { ⌜ Spacious p (now work) ⌝ }
-    ensures { λ r. ⌜ Becomes p (now (work .entry)) closeScope r (now (work .entry)) ⌝ }
+    ensures { λ r. ⌜ Becomes p (now (work .entry)) closeScope r (now (work .exit)) ⌝ }
 {
     let names = p.scope;
     let end = ENTRIES;
-    let fewer = names.pop_layer(&work[..end]);
+    let fewer = names.pop_layer(&mut work[..end]);
     let mut q = p;
     q.scope = fewer;
     q

@@ -35,6 +35,12 @@ add-t-2 c = search needs
 mul-t-6 : tie.Need-mul-t-6
 mul-t-6 c = search needs
 
+add-t-3 : tie.Need-add-t-3
+add-t-3 c = search needs
+
+mul-t-7 : tie.Need-mul-t-7
+mul-t-7 c = search needs
+
 slice-write-t-3 : tie.Need-slice-write-t-3
 slice-write-t-3 c = simp length-set (omega arith)
 
@@ -58,6 +64,8 @@ put-spec =
     mul-t-5
     add-t-2
     mul-t-6
+    add-t-3
+    mul-t-7
     slice-write-t-3
     same-length
     returns)

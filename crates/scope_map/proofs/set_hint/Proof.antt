@@ -3,13 +3,10 @@ use Prim.Native.Nat.{ℕ, _+_}
 use mathlib.Core.Path.{ap}
 use borrow.Author.Tests.{lt-ltb, le-ltb}
 use lib.ListN.{set}
-use borrow.Author.Needs.{needs}
 use Rattle.scope_map.specs.Hints.{rowsLength}
+use borrow.Author.Needs.{needs}
 use Rattle.scope_map.proofs.set_hint.Statement.{statement}
 use Rattle.scope_map.proofs.set_hint.Tie as tie
-
-cast-t : tie.Need-cast-t
-cast-t c = search needs
 
 wide-requires : tie.Need-wide-requires
 wide-requires c κs = search needs
@@ -36,5 +33,4 @@ returns-2 c = rw (le-ltb _ _ (c .if1 .left))
 
 pub set-hint-spec : {M : Type 1} → statement M
 set-hint-spec =
-    tie.close
-    (tie.spec cast-t wide-requires add-t mul-t slice-write-t same-length returns returns-2)
+    tie.close (tie.spec wide-requires add-t mul-t slice-write-t same-length returns returns-2)

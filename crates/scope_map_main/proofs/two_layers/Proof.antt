@@ -19,7 +19,7 @@ new-requires c κs = search needs
 define-requires : tie.Need-define-requires
 define-requires c κs =
     let h = c .before .new .ensures (c .before .before .args .t .now) (omega arith) in
-    record { rows = omega (arith, h .many); long = h .room .long }
+    (record { rows = omega (arith, h .many); long = h .room .long }, omega arith)
 
 push-layer-requires : tie.Need-push-layer-requires
 push-layer-requires c κs = omega (arith, c .define .ensures .held new (c .before .before .new .ensures _ (omega arith)) .depth)
@@ -29,7 +29,7 @@ unfolding hasIn replaceIn
 define-requires-2 c κs =
     let b = c .before .before in
     let h = pushed (b .before .before .new .ensures _ (omega arith)) (b .define .ensures) (c .before .push-layer .ensures) in
-    record { rows = omega (arith, h .many); long = h .room .long }
+    (record { rows = omega (arith, h .many); long = h .room .long }, omega arith)
 
 returns : tie.Need-returns
 returns c =

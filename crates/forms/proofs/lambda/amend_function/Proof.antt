@@ -11,10 +11,10 @@ close-lambda-requires : tie.Need-close-lambda-requires
 close-lambda-requires c κs = amended-names (c .before .before .before .before .before .before .amend-list .ensures) (c .before .before .before .before .before .before .before .before .before .before .before .before .before .before .before .pre)
 
 shorter-requires : tie.Need-shorter-requires
-shorter-requires c κs = amended-few (c .before .before .before .before .before .before .before .before .before .amend-list .ensures) (c .before .before .before .before .before .before .before .before .before .before .before .before .before .before .before .before .before .before .pre)
+shorter-requires c κs = amended-few (c .before .before .before .before .before .before .before .before .before .before .before .amend-list .ensures) (c .before .before .before .before .before .before .before .before .before .before .before .before .before .before .before .before .before .before .before .before .pre)
 
 store-function-requires : tie.Need-store-function-requires
-store-function-requires c κs = amended-fact (c .before .before .before .before .before .before .before .before .before .before .before .amend-list .ensures) (c .before .before .before .before .close-lambda .ensures) (c .before .before .before .before .before .before .before .before .before .before .before .before .before .before .before .before .before .before .before .before .pre)
+store-function-requires c κs = amended-fact (c .before .before .before .before .before .before .before .before .before .before .before .before .before .amend-list .ensures) (c .before .before .before .before .before .before .close-lambda .ensures) (c .before .before .before .before .before .before .before .before .before .before .before .before .before .before .before .before .before .before .before .before .before .before .pre)
 
 same-length : tie.Need-same-length
 same-length c = search needs
@@ -26,7 +26,7 @@ same-length-3 : tie.Need-same-length-3
 same-length-3 c = search needs
 
 returns : tie.Need-returns
-returns c = function-amended (c .before .before .before .before .before .before .before .before .before .before .before .before .before .before .amend-list .ensures) (c .before .before .before .before .before .before .before .close-lambda .ensures) (c .before .before .before .before .before .before .before .before .before .before .before .before .before .before .before .before .before .before .before .before .before .before .before .pre .few) (c .before .before .before .before .shorter .ensures) (c .before .before .store-function .ensures)
+returns c = function-amended (c .before .before .before .before .before .before .before .before .before .before .before .before .before .before .before .before .amend-list .ensures) (c .before .before .before .before .before .before .before .before .before .close-lambda .ensures) (c .before .before .before .before .before .before .before .before .before .before .before .before .before .before .before .before .before .before .before .before .before .before .before .before .before .pre .few) (c .before .before .before .before .shorter .ensures) (c .before .before .store-function .ensures)
 
 pub amend-function-spec : {M : Type 1} → statement M
 amend-function-spec =

@@ -18,25 +18,25 @@ depth-requires : tie.Need-depth-requires
 depth-requires c κs = search needs
 
 made-requires : tie.Need-made-requires
-made-requires c κs = tops-fit (c .before .before .before .before .before .before .before .before .before .before .before .before .before .before .before .store-captured .ensures) (c .before .before .before .before .before .before .before .before .store-layer .ensures) (c .before .before .before .before .before .before .before .before .before .before .before .before .before .before .before .before .before .before .before .before .before .before .before .pre)
+made-requires c κs = tops-fit (c .before .before .before .before .before .before .before .before .before .before .before .before .before .before .before .before .before .store-captured .ensures) (c .before .before .before .before .before .before .before .before .before .before .store-layer .ensures) (c .before .before .before .before .before .before .before .before .before .before .before .before .before .before .before .before .before .before .before .before .before .before .before .before .before .pre)
 
 store-function-requires : tie.Need-store-function-requires
-store-function-requires c κs = made-fact (c .before .before .before .before .before .before .before .before .before .before .before .before .before .before .before .before .before .store-captured .ensures) (c .before .before .before .before .before .before .before .before .before .before .store-layer .ensures) (c .before .before .before .before .before .close-lambda .ensures) (c .before .before .before .before .before .before .before .before .before .before .before .before .before .before .before .before .before .before .before .before .before .before .before .before .before .pre)
+store-function-requires c κs = made-fact (c .before .before .before .before .before .before .before .before .before .before .before .before .before .before .before .before .before .before .before .store-captured .ensures) (c .before .before .before .before .before .before .before .before .before .before .before .before .store-layer .ensures) (c .before .before .before .before .before .before .before .close-lambda .ensures) (c .before .before .before .before .before .before .before .before .before .before .before .before .before .before .before .before .before .before .before .before .before .before .before .before .before .before .before .pre)
 
 same-length : tie.Need-same-length
 same-length c = search needs
 
 same-length-2 : tie.Need-same-length-2
-same-length-2 c = omega (arith, c .before .before .before .before .before .before .before .before .before .before .before .before .before .before .before .before .before .before .before .captured .given)
+same-length-2 c = omega (arith, c .before .before .before .before .before .before .before .before .before .before .before .before .before .before .before .before .before .before .before .before .before .captured .given)
 
 same-length-3 : tie.Need-same-length-3
 same-length-3 c = search needs
 
 same-length-4 : tie.Need-same-length-4
-same-length-4 c = omega (arith, c .before .before .before .before .before .before .before .before .before .before .before .before .before .before .before .before .before .work .given)
+same-length-4 c = omega (arith, c .before .before .before .before .before .before .before .before .before .before .before .before .before .before .before .before .before .before .before .work .given, c .before .before .before .before .before .before .before .work2 .given)
 
 returns : tie.Need-returns
-returns c = function-made (c .before .before .before .before .before .before .before .before .before .before .before .before .before .before .before .before .before .before .before .before .store-captured .ensures) (c .before .before .before .before .before .before .before .before .before .before .before .before .before .store-layer .ensures) (c .before .before .before .before .before .before .before .before .close-lambda .ensures) (c .before .before .before .before .before .before .before .before .before .before .before .before .before .before .before .before .before .before .before .before .before .before .before .before .before .before .before .before .pre .few) (c .before .before .before .before .before .depth .ensures) (c .before .before .before .before .made .ensures) (c .before .before .store-function .ensures)
+returns c = function-made (c .before .before .before .before .before .before .before .before .before .before .before .before .before .before .before .before .before .before .before .before .before .before .store-captured .ensures) (c .before .before .before .before .before .before .before .before .before .before .before .before .before .before .before .store-layer .ensures) (c .before .before .before .before .before .before .before .before .before .before .close-lambda .ensures) (c .before .before .before .before .before .before .before .before .before .before .before .before .before .before .before .before .before .before .before .before .before .before .before .before .before .before .before .before .before .before .pre .few) (c .before .before .before .before .before .depth .ensures) (c .before .before .before .before .made .ensures) (c .before .before .store-function .ensures)
 
 pub make-function-spec : {M : Type 1} → statement M
 make-function-spec =

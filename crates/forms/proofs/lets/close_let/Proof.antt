@@ -7,11 +7,14 @@ use Rattle.forms.proofs.lets.close_let.Tie as tie
 close-scope-requires : tie.Need-close-scope-requires
 close-scope-requires c κs = search needs
 
+same-length : tie.Need-same-length
+same-length c = search needs
+
 returns : tie.Need-returns
-returns c = closes-layer (c .before .if1 .taken) (c .close-scope .ensures)
+returns c = closes-layer (c .before .before .before .before .if1 .taken) (c .before .before .close-scope .ensures)
 
 returns-2 : tie.Need-returns-2
 returns-2 c = closes-none (c .if1 .left)
 
 pub close-let-spec : {M : Type 1} → statement M
-close-let-spec = tie.close (tie.spec close-scope-requires returns returns-2)
+close-let-spec = tie.close (tie.spec close-scope-requires same-length returns returns-2)

@@ -26,7 +26,7 @@ same-length-3 : tie.Need-same-length-3
 same-length-3 c = search needs
 
 returns : tie.Need-returns
-returns c = let-left (c .before .before .before .before .before .before .before .before .before .before .before .before .before .before .before .before .before .is-blank .ensures) (c .before .before .before .before .before .before .before .before .before .before .before .before .before .before .leave-names .ensures) (c .before .before .before .before .before .before .make-let .ensures) (c .before .before .before .before .before .before .before .before .before .before .before .before .before .before .before .before .before .before .before .before .before .before .before .pre .few) (c .close-let .ensures)
+returns c = let-left (c .before .before .before .before .before .before .before .before .before .before .before .before .before .before .before .before .before .before .before .is-blank .ensures) (c .before .before .before .before .before .before .before .before .before .before .before .before .before .before .before .before .leave-names .ensures) (c .before .before .before .before .before .before .before .before .make-let .ensures) (c .before .before .before .before .before .before .before .before .before .before .before .before .before .before .before .before .before .before .before .before .before .before .before .before .before .pre .few) (c .before .before .close-let .ensures)
 
 pub leave-let-spec : {M : Type 1} → statement M
 leave-let-spec =

@@ -9,10 +9,11 @@ use lib.ListN.{length}
 use lib.Dec.{eqb}
 use Rattle.scope_map.specs.Rows.{rowAt, liveIn}
 use Rattle.scope_map.specs.RowLaws.{length-liveIn}
-use Rattle.scope_map.specs.Held.{Held, Bounds, foundIn}
-use Rattle.scope_map.specs.declared.Found.the-variants.{At}
-use Rattle.scope_map.specs.HeldLaws.{mapOf, gets}
-use Rattle.scope_map.specs.declared.ScopeMap.{ScopeMap as Map}
+use Rattle.scope_map.specs.Hints.{Indexed, Bounds}
+use Rattle.scope_map.specs.Held.{foundIn}
+use Rattle.scope_map.specs.declared.Found.{Found}
+use Rattle.scope_map.specs.declared.Found.the-variants.{At, Nothing}
+use Rattle.scope_map.specs.HeldLaws.{gets}
 use Rattle.scope_map.proofs.Search.{Search, hits, misses, ends, from-bound}
 use Rattle.scope_map.proofs.ScopeMap.get.Statement.{statement}
 use Rattle.scope_map.proofs.ScopeMap.get.Tie as tie
@@ -27,9 +28,16 @@ unfolding find
 found t x i h e =
     hits (find x) t i h (eq-eqb _ _ e) ∙ ap (λ (k : ℕ). At k (rowAt t (i - 1) .layer) (rowAt t (i - 1) .value)) (length-liveIn t (i - 1))
 
-among-all : {m : Map} {t : List ℕ} {x r : ℕ} → Bounds m t x r → Held m t (mapOf m t) → foundIn (liveIn t r) x ≡ foundIn (liveIn t (m .length)) x
+row-below : {n i a b : ℕ} → i < n → (j d v : ℕ) → At i a b ≡ At j d v → j < n
+row-below h j d v e = omega (arith, ap rowOf e)
+  where
+    rowOf : Found → ℕ
+    rowOf (At i d v) = i
+    rowOf Nothing = 0
+
+among-all : {n : ℕ} {t : List ℕ} {x r : ℕ} → Bounds n t x r → Indexed n t → foundIn (liveIn t r) x ≡ foundIn (liveIn t n) x
 unfolding find
-among-all {x = x} b k = from-bound (find x) _ (λ e h. ne-eqb _ _ h) b k
+among-all {x = x} b i = from-bound (find x) _ (λ e h. ne-eqb _ _ h) b i
 
 abbrev Inv-loop : tie.InvT-loop
 Inv-loop t name i₀ i = (i ≤ i₀) × (foundIn (liveIn t i) name ≡ foundIn (liveIn t i₀) name)
@@ -82,7 +90,7 @@ shared-slice-read-t19 c = search needs
 returns : tie.Need-returns Inv-loop μ-loop
 returns c =
     let l = c .before .before .before .before in
-    gets (λ k. sym (found _ _ _ (l .loop-test .taken) (c .before .before .if1 .taken)) ∙ l .before .loop .inv .1 ∙ among-all (l .before .before .bound .ensures) k)
+    gets (row-below (omega (arith, l .before .before .bound .ensures .most))) (λ k. sym (found _ _ _ (l .loop-test .taken) (c .before .before .if1 .taken)) ∙ l .before .loop .inv .1 ∙ among-all (l .before .before .bound .ensures) (k .index))
 
 loop-less : tie.Need-loop-less Inv-loop μ-loop
 loop-less c = search needs
@@ -95,7 +103,7 @@ loop-again c =
 
 returns-2 : tie.Need-returns-2 Inv-loop μ-loop
 unfolding foundIn
-returns-2 c = gets (λ k. sym (ends (find _) _ _ (c .loop-test .left)) ∙ c .before .loop .inv .1 ∙ among-all (c .before .before .bound .ensures) k)
+returns-2 c = gets (λ j d v e. absurd (let z : _≡_ {A = ℕ} 0 1 = cc in omega arith)) (λ k. sym (ends (find _) _ _ (c .loop-test .left)) ∙ c .before .loop .inv .1 ∙ among-all (c .before .before .bound .ensures) (k .index))
 
 pub get-spec : {M : Type 1} → statement M
 get-spec =

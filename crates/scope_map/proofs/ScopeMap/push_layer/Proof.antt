@@ -1,6 +1,7 @@
 -- `push_layer`: the rows stay.
 use mathlib.Core.Path.{refl}
 use native.Mathlib.Omega.{arith}
+use Rattle.scope_map.proofs.Sorted.{sorted-over}
 use borrow.Author.Needs.{needs}
 use Rattle.scope_map.proofs.ScopeMap.push_layer.Statement.{statement}
 use Rattle.scope_map.proofs.ScopeMap.push_layer.Tie as tie
@@ -10,7 +11,14 @@ add-t2 c = search needs
 
 returns : tie.Need-returns
 returns c = λ t. record {
-  held = λ s g. record { depth = omega (arith, g .depth); many = g .many; room = g .room; live = g .live; hinted = g .hinted };
+  held = λ s g. record {
+    depth = omega (arith, g .depth);
+    many = g .many;
+    room = g .room;
+    live = g .live;
+    index = g .index;
+    sorted = sorted-over (s .live) (omega arith) (g .sorted);
+  };
   rest = refl;
 }
 

@@ -13,19 +13,33 @@ same-length c = search needs
 returns : tie.Need-returns
 returns c = remove-none (c .before .place .ensures) (c .if1 .taken)
 
-close-requires : tie.Need-close-requires
-close-requires c κs = search needs
+sub-last : tie.Need-sub-last
+sub-last c = search needs
 
-sub-t12 : tie.Need-sub-t12
-sub-t12 c = search needs
+leave-rows-requires : tie.Need-leave-rows-requires
+leave-rows-requires c κs = search needs
+
+enter-rows-requires : tie.Need-enter-rows-requires
+enter-rows-requires c κs = search needs
 
 same-length-2 : tie.Need-same-length-2
 same-length-2 c = search needs
 
 returns-2 : tie.Need-returns-2
-returns-2 c = remove-some (c .before .before .before .before .before .place .ensures) (c .before .before .before .before .before .before .before .before .pre) (c .before .before .close .ensures) (c .before .before .before .before .if1 .left)
+returns-2 c =
+    let l = c .before .before .before .before .before .before in
+    let p = l .before .before .before in
+    remove-some (p .place .ensures) (p .before .before .before .pre) (l .leave-rows .ensures) (c .before .before .enter-rows .ensures) (l .before .before .if1 .left)
 
 pub remove-spec : {M : Type 1} → statement M
 remove-spec =
     tie.close
-    (tie.spec place-requires same-length returns close-requires sub-t12 same-length-2 returns-2)
+    (tie.spec
+    place-requires
+    same-length
+    returns
+    sub-last
+    leave-rows-requires
+    enter-rows-requires
+    same-length-2
+    returns-2)

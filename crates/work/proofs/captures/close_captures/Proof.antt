@@ -1,4 +1,4 @@
--- `close_captures`: the newest layer is popped, and the table stays.
+-- `close_captures`: the newest layer of the map is popped, and the rest of the table stays.
 use Rattle.work.proofs.CaptureCase.{captures-close}
 use borrow.Author.Needs.{needs}
 use Rattle.work.proofs.captures.close_captures.Statement.{statement}
@@ -19,8 +19,11 @@ part-pop-layer-end c = search needs
 pop-layer-requires : tie.Need-pop-layer-requires
 pop-layer-requires c κs = search needs
 
+same-length : tie.Need-same-length
+same-length c = search needs
+
 returns : tie.Need-returns
-returns c = captures-close (c .pop-layer .ensures)
+returns c = captures-close (c .before .before .pop-layer .kept .1 .0) (c .before .before .pop-layer .ensures)
 
 pub close-captures-spec : {M : Type 1} → statement M
 close-captures-spec =
@@ -31,4 +34,5 @@ close-captures-spec =
     part-pop-layer-start
     part-pop-layer-end
     pop-layer-requires
+    same-length
     returns)

@@ -1,12 +1,15 @@
--- `close_scope`: the newest layer is popped, and the table stays.
-use Rattle.table.specs.RegionLaws.{elsewhere-same}
+-- `close_scope`: the newest layer of the map of records is popped, and the rest of the table stays.
 use Rattle.scope_map.specs.ScopeMap.{popLayer}
 use Rattle.scope_map.specs.MapLaws.{map-popLayer}
 use Rattle.pass.specs.Lambda.{closeScope}
 use Rattle.work.specs.Works.{recordAt}
-use Rattle.work.proofs.ScopeCase.{names-length, names-room, names-become}
+use Rattle.work.proofs.ScopeCase.{names-length, names-room, names-replaced}
+use borrow.Author.Needs.{needs}
 use Rattle.work.proofs.scope.close_scope.Statement.{statement}
 use Rattle.work.proofs.scope.close_scope.Tie as tie
+
+slice-relend-prefix-pop-layer : tie.Need-slice-relend-prefix-pop-layer
+slice-relend-prefix-pop-layer c = search needs
 
 slice-aggregate-pop-layer : tie.Need-slice-aggregate-pop-layer
 slice-aggregate-pop-layer c = names-length (c .before .before .before .pre)
@@ -14,9 +17,21 @@ slice-aggregate-pop-layer c = names-length (c .before .before .before .pre)
 pop-layer-requires : tie.Need-pop-layer-requires
 pop-layer-requires c κs = names-room (c .before .before .before .pre)
 
+same-length : tie.Need-same-length
+same-length c = search needs
+
 returns : tie.Need-returns
 unfolding closeScope
-returns c = names-become popLayer (map-popLayer recordAt) elsewhere-same (c .pop-layer .ensures)
+returns c =
+    let d = c .before .before .pop-layer in
+    names-replaced (c .before .before .before .before .before .before .pre) (d .kept .1 .0) popLayer (map-popLayer recordAt) (d .ensures)
 
 pub close-scope-spec : {M : Type 1} → statement M
-close-scope-spec = tie.close (tie.spec slice-aggregate-pop-layer pop-layer-requires returns)
+close-scope-spec =
+    tie.close
+    (tie.spec
+    slice-relend-prefix-pop-layer
+    slice-aggregate-pop-layer
+    pop-layer-requires
+    same-length
+    returns)

@@ -17,7 +17,7 @@ slice-aggregate-define c = names-length (c .before .before .before .before .pre 
 define-requires : tie.Need-define-requires
 define-requires c κs =
     let o = c .before .before .before .before in
-    record { rows = omega (arith, o .pre .1); long = names-room (o .pre .0) .long }
+    (record { rows = omega (arith, o .pre .1); long = names-room (o .pre .0) .long }, omega (arith, o .pre .2, c .before .narrow .ensures))
 
 same-length : tie.Need-same-length
 same-length c = search needs

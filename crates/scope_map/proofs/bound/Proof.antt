@@ -3,11 +3,11 @@ use Prim.Native.Nat.{ℕ, _+_}
 use mathlib.Core.Path.{ap, _∙_}
 use native.Mathlib.Omega.{arith}
 use lib.ListN.{getD}
-use Rattle.scope_map.proofs.Hinted.{bounds-hint}
+use Rattle.scope_map.proofs.Index.{bounds-hint}
 use borrow.Author.Needs.{needs}
 use Rattle.scope_map.specs.Hints.{rowsLength}
-use Rattle.scope_map.proofs.ScopeMap.bound.Statement.{statement}
-use Rattle.scope_map.proofs.ScopeMap.bound.Tie as tie
+use Rattle.scope_map.proofs.bound.Statement.{statement}
+use Rattle.scope_map.proofs.bound.Tie as tie
 
 returns : tie.Need-returns
 returns c = search needs
