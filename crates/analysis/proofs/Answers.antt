@@ -10,18 +10,18 @@ use Rattle.tree.specs.Record.{width}
 use Rattle.tree.specs.Tree.{Trees}
 use Rattle.tree.specs.Check.{Refusal, refusal}
 use Rattle.tree.specs.Acceptance.{accepted, only}
-use Rattle.pass.specs.Run.{Tables, Outcome, zeros, lengthsFit, fitting, Answers}
+use Rattle.pass.specs.Run.{Tables, Outcome, lengthsFit, fitting, Answers}
 use Rattle.analysis.specs.Answer.{refusalIn}
 use Rattle.analysis.specs.declared.Answer.{Answer}
 use Rattle.analysis.specs.declared.Answer.the-variants as answer
-use Rattle.analysis.specs.Steps.{left, cleared, Begins, Ends, Checks}
+use Rattle.analysis.specs.Steps.{left, cleared, Blank, Begins, Ends, Checks}
 
 none-found : {a : Answer} {o : Option Refusal} → refusalIn a ≡ o → a ≡ answer.Accepted → o ≡ none
 none-found e h = sym e ∙ ap refusalIn h
 
 module _ {classes rs : List ℕ} {a : Answer} (e : refusalIn a ≡ refusal (length classes) rs) where
   module _ (h : a ≡ answer.Accepted) where
-    pub accepted-begins : {t : Tables} → t ≡ zeros → Begins classes rs t
+    pub accepted-begins : {t : Tables} → Blank t → Begins classes rs t
     accepted-begins z = let (ts, k) = accepted (length classes) rs (none-found e h) in record { ts = ts; accepted = k; blank = z }
 
     pub accepted-checks : {f : List ℕ → Trees → Outcome} {o : Outcome} → Ends f classes rs o → Checks f classes rs o

@@ -1,3 +1,4 @@
 pub mod Tables
+pub mod Start
 pub mod Runs
 pub mod Answers

@@ -3,53 +3,53 @@ use Prim.Native.Nat.{ℕ, _*_}
 use mathlib.Core.List.{List}
 use mathlib.Core.Option.{Option, none, some}
 use mathlib.Core.Path.{_≡_, refl, ap, sym, subst, _∙_}
-use lib.ListN.{length, replicate, length-replicate}
+use lib.ListN.{length, replicate}
 use Rattle.table.specs.Layout.{layout, zeros-layout}
-use Rattle.table.specs.Region.{replaced}
 use Rattle.tree.specs.Tree.{Trees}
 use Rattle.tree.specs.Check.{Refusal}
 use Rattle.tree.specs.Accepted.{Accepted}
 use Rattle.tree.specs.Acceptance.{unique}
-use Rattle.semantic.specs.Rows.{Blank, rowWidth, putRow, row-long, noItem, itemWidth, putInfo, putItem, item-long}
+use Rattle.semantic.specs.Rows as rows
+use Rattle.semantic.specs.Rows.{rowWidth, putRow, row-long, noItem, itemWidth, putInfo, putItem, item-long}
 use Rattle.pass.specs.State.{State}
-use Rattle.pass.specs.Run.{Tables, rowsMost, itemsMost, workLength, noFacts, start, zeros, tablesOf}
+use Rattle.pass.specs.Run.{rowsMost, itemsMost, workLength, noFacts, start, tablesOf}
 use Rattle.pass.specs.Run.{fresh, settled, refusedFirst, nineIn, tenIn, outcome, freshOutcome, settledOutcome}
 use Rattle.work.specs.Passes.{passNew}
 use Rattle.work.specs.Coded.{secondOf}
-use Rattle.work.specs.Works.{Works, Beside, bindersFirst}
-use Rattle.work.specs.Start.{fresh-works, again-works}
+use Rattle.work.specs.Works.{Works, Beside}
 use Rattle.work.specs.Tied.{Raw, raw, Tied}
 use Rattle.work.specs.declared.Pass.{Pass}
 use Rattle.visits.specs.Runs.{anew, again, Ready, Runs}
+use Rattle.analysis.proofs.Start.{fresh-works, again-works}
 use Rattle.analysis.specs.Answer.{tables, refusalIn, outcomeOf}
 use Rattle.analysis.specs.declared.Answer.{Answer}
 use Rattle.analysis.specs.declared.Answer.the-variants as answer
-use Rattle.analysis.specs.Steps.{firstIn, cleared, Begins, Ends}
+use Rattle.analysis.specs.Steps.{firstIn, cleared, namesCleared, Blank, Begins, Ends}
 
 -- blank tables hold no facts
-no-rows : (n : ℕ) → layout putRow (replicate n Blank) ≡ replicate (rowWidth * n) 0
+no-rows : (n : ℕ) → layout putRow (replicate n rows.Blank) ≡ replicate (rowWidth * n) 0
 unfolding putRow
-no-rows n = zeros-layout rowWidth putRow row-long Blank refl n
+no-rows n = zeros-layout rowWidth putRow row-long rows.Blank refl n
 
 no-items : (n : ℕ) → layout putItem (replicate n noItem) ≡ replicate (itemWidth * n) 0
 unfolding putItem putInfo
 no-items n = zeros-layout itemWidth putItem item-long noItem refl n
 
 module _ {F C A w : List ℕ} where
-  pub blank-tied : tables F C A w ≡ zeros → Tied (raw (passNew 0 0) F C A w) (start noFacts)
-  unfolding zeros start noFacts
-  blank-tied e = record {
-    facts = ap (λ (t : Tables). t .facts) e ∙ sym (no-rows rowsMost);
-    captured = ap (λ (t : Tables). t .captured) e ∙ sym (no-items itemsMost);
-    arguments = ap (λ (t : Tables). t .arguments) e ∙ sym (no-items itemsMost);
-    works = fresh-works w (ap (λ (t : Tables). t .work) e);
+  pub blank-tied : Blank (tables F C A w) → Tied (raw (passNew 0 0) F C A w) (start noFacts)
+  unfolding start noFacts
+  blank-tied b = record {
+    facts = b .facts ∙ sym (no-rows rowsMost);
+    captured = b .captured ∙ sym (no-items itemsMost);
+    arguments = b .arguments ∙ sym (no-items itemsMost);
+    works = fresh-works w (b .long) (b .entries) (b .binders);
   }
 
 -- the tables of another run, its names and captures cleared
-pub again-tied : {p : Pass} {F C A w : List ℕ} {s : State} (w′ : List ℕ) → Tied (raw p F C A w) s → w′ ≡ replaced w 0 bindersFirst (replicate bindersFirst 0)
+pub again-tied : {p : Pass} {F C A w : List ℕ} {s : State} (w′ : List ℕ) → Tied (raw p F C A w) s → w′ ≡ namesCleared w
     → Tied (raw (passNew (p .«captured_top») (p .«arguments_top»)) F C A w′) (start (s .facts))
 unfolding start
-again-tied w′ t z = record { facts = t .facts; captured = t .captured; arguments = t .arguments; works = again-works w′ (t .works) z }
+again-tied w′ t z = record { facts = t .facts; captured = t .captured; arguments = t .arguments; works = rw z (again-works (t .works)) }
 
 -- The facts of a state, and whether a run was refused
 
@@ -68,8 +68,7 @@ tied-outcome (some r) t = refl
 
 module _ {classes rs F C A w : List ℕ} (b : Begins classes rs (tables F C A w)) where
   pub work-long : length w ≡ workLength
-  unfolding zeros
-  work-long = ap (λ (t : Tables). length (t .work)) (b .blank) ∙ length-replicate {A = ℕ} workLength 0
+  work-long = b .blank .long
 
   -- what is held of its trees is held of any that the records are
   pub tied-as : (f : List ℕ → Trees → State) {z : Raw} (us : Trees) → Accepted (length classes) rs us → Tied z (f classes (b .ts)) → Tied z (f classes us)
@@ -112,7 +111,7 @@ module _ {classes rs F C A w : List ℕ} (b : Begins classes rs (tables F C A w)
       unnoted us k = sym (refused-as (tied-as fresh us k first-tied .works)) ∙ sym g ∙ ap refusalIn h
 
       abbrev pub second-ready : {p′ : Pass} {w″ : List ℕ} → p′ ≡ passNew (q .«captured_top») (q .«arguments_top»)
-          → w″ ≡ replaced w′ 0 bindersFirst (replicate bindersFirst 0) → Ready classes rs (raw p′ F′ C′ A′ w″)
+          → w″ ≡ namesCleared w′ → Ready classes rs (raw p′ F′ C′ A′ w″)
       second-ready {w″ = w″} e′ z = record {
         ts = b .ts;
         facts = fresh classes (b .ts) .facts;
@@ -122,7 +121,7 @@ module _ {classes rs F C A w : List ℕ} (b : Begins classes rs (tables F C A w)
       }
 
       pub settled-ends : {p′ q′ : Pass} {w″ F‴ C‴ A‴ w‴ : List ℕ} (a′ : Answer)
-          → p′ ≡ passNew (q .«captured_top») (q .«arguments_top») → w″ ≡ replaced w′ 0 bindersFirst (replicate bindersFirst 0)
+          → p′ ≡ passNew (q .«captured_top») (q .«arguments_top») → w″ ≡ namesCleared w′
           → Runs classes rs (raw p′ F′ C′ A′ w″) (raw q′ F‴ C‴ A‴ w‴) → refusalIn a′ ≡ secondOf (q′ .second)
           → Ends settledOutcome classes rs (outcomeOf a′ F‴ C‴ A‴ w‴)
       unfolding settledOutcome settled

@@ -8,9 +8,12 @@ use native.Mathlib.Omega.{arith}
 use borrow.Author.Tests.{eqb-true, eq-eqb}
 use lib.ListN.{length, replicate, length-replicate}
 use lib.Dec.{eqb}
+use Rattle.table.specs.Region.{region}
 use Rattle.pass.specs.Run.{Tables, factsLength, itemsLength, workLength, lengthsFit, zeros}
+use Rattle.work.specs.Works.{entriesFirst, entriesLength, bindersFirst, bindersLength}
 use Rattle.analysis.specs.Answer.{tables, refusalIn}
-use Rattle.analysis.specs.Steps.{left}
+use Rattle.analysis.specs.Steps.{left, zeroed, namesCleared, Blank}
+use Rattle.analysis.proofs.Start.{emptied}
 use Rattle.analysis.specs.declared.Answer.{Answer}
 use Rattle.analysis.specs.declared.Answer.the-variants as answer
 
@@ -47,6 +50,9 @@ zeros-long = record {
   work = length-replicate {A = ℕ} workLength 0;
 }
 
+all : {m k : ℕ} {v : List ℕ} → v ≡ replicate m 0 → m ≡ k → v ≡ replicate k 0
+all g e = g ∙ ap (λ (i : ℕ). replicate i 0) e
+
 module _ (F C A w : List ℕ) (F′ C′ A′ w′ : List ℕ) where
   -- tables of zeros
   pub all-zero : lengthsFit (tables F C A w) ≡ true → F′ ≡ replicate (length F) 0 → C′ ≡ replicate (length C) 0
@@ -55,6 +61,22 @@ module _ (F C A w : List ℕ) (F′ C′ A′ w′ : List ℕ) where
   all-zero h f c a z =
       let l = long (tables F C A w) h in
       rw (f, l .facts, c, l .captured, a, l .arguments, z, l .work)
+
+  -- tables that a run can start with
+  pub all-blank : {v : List ℕ} → lengthsFit (tables F C A w) ≡ true → F′ ≡ replicate (length F) 0 → C′ ≡ replicate (length C) 0
+      → A′ ≡ replicate (length A) 0 → v ≡ namesCleared w → w′ ≡ zeroed bindersFirst bindersLength v → Blank (tables F′ C′ A′ w′)
+  all-blank h f c a n z =
+      let l = long (tables F C A w) h in
+      let e = emptied w (l .work) in
+      let u = z ∙ ap (zeroed bindersFirst bindersLength) n in
+      record {
+        facts = all f (l .facts);
+        captured = all c (l .captured);
+        arguments = all a (l .arguments);
+        long = ap length u ∙ e .long;
+        entries = ap (λ (t : List ℕ). region t entriesFirst entriesLength) u ∙ e .entries;
+        binders = ap (λ (t : List ℕ). region t bindersFirst bindersLength) u ∙ e .binders;
+      }
 
   -- tables keep their lengths
   pub still-fits : lengthsFit (tables F C A w) ≡ true → length F′ ≡ length F → length C′ ≡ length C → length A′ ≡ length A → length w′ ≡ length w

@@ -1,15 +1,18 @@
 -- What the steps of an operation promise: each of every tree that the records are.
-use Prim.Native.Nat.{ℕ}
+use Prim.Native.Nat.{ℕ, _+_}
 use mathlib.Core.Bool.{Bool, true, false}
 use mathlib.Core.List.{List}
 use mathlib.Core.Option.{Option, none, some}
 use mathlib.Core.Path.{_≡_}
 use lib.ListN.{length, replicate}
+use Rattle.table.specs.Region.{region, replaced}
 use Rattle.tree.specs.Tree.{Trees}
 use Rattle.tree.specs.Check.{Refusal, refusal}
 use Rattle.tree.specs.Accepted.{Accepted}
-use Rattle.pass.specs.Run.{Tables, Outcome, workLength, zeros, freshOutcome, settledOutcome, nineIn, tenIn}
+use Rattle.scope_map.specs.Hints.{rowsLength, hintsLength}
+use Rattle.pass.specs.Run.{Tables, Outcome, factsLength, itemsLength, workLength, zeros, freshOutcome, settledOutcome, nineIn, tenIn}
 use Rattle.work.specs.Coded.{notedOf}
+use Rattle.work.specs.Works.{entriesFirst, entriesLength, capturesFirst, bindersFirst, bindersLength}
 use Rattle.work.specs.declared.Pass.{Pass}
 
 -- the refusal of a fresh run, by what was noted
@@ -28,11 +31,28 @@ left (some r) t = zeros
 abbrev pub cleared : Outcome → Outcome
 cleared o = record { refused = o .refused; tables = left (o .refused) (o .tables) }
 
+-- n numbers of a table from number a on made zero
+abbrev pub zeroed : ℕ → ℕ → List ℕ → List ℕ
+zeroed a n w = replaced w a n (replicate n 0)
+
+-- the hints of both maps, and the entries
+abbrev pub namesCleared : List ℕ → List ℕ
+namesCleared w = zeroed (capturesFirst + rowsLength) hintsLength (zeroed entriesFirst entriesLength (zeroed rowsLength hintsLength w))
+
+-- tables without facts, with which a run can start
+pub record Blank (t : Tables) : Type 0 where
+  pub facts : t .facts ≡ replicate factsLength 0
+  pub captured : t .captured ≡ replicate itemsLength 0
+  pub arguments : t .arguments ≡ replicate itemsLength 0
+  pub long : length (t .work) ≡ workLength
+  pub entries : region (t .work) entriesFirst entriesLength ≡ replicate entriesLength 0
+  pub binders : region (t .work) bindersFirst bindersLength ≡ replicate bindersLength 0
+
 -- the records are trees, and nothing is known of them yet
 pub record Begins (classes rs : List ℕ) (t : Tables) : Type 0 where
   pub ts : Trees
   pub accepted : Accepted (length classes) rs ts
-  pub blank : t ≡ zeros
+  pub blank : Blank t
 
 -- what is left of o is the outcome for the trees that the records are
 pub record Ends (outcomeOf : List ℕ → Trees → Outcome) (classes rs : List ℕ) (o : Outcome) : Type 0 where

@@ -2,21 +2,24 @@
 use tree::Checked;
 use visits::run::run_with_scope;
 use work::BINDERS;
+use work::CAPTURES;
+use work::CAPTURES_HINTS;
+use work::ENTRIES;
 use work::Noted;
 use work::Pass;
+use work::SCOPE_HINTS;
 use work::Second;
+use work::TAKEN;
 use work::WORK;
 ghost use mathlib.Core.Path.{_≡_};
 ghost use mathlib.Core.Bool.{true};
-ghost use Prim.Native.Nat.{_≤_};
-ghost use lib.ListN.{length, replicate};
-ghost use Rattle.table.specs.Region.{replaced};
+ghost use Prim.Native.Nat.{_-_, _≤_};
+ghost use lib.ListN.{length};
 ghost use Rattle.tree.specs.Answer.{refusalOf};
-ghost use Rattle.pass.specs.Run.{Fresh, Settled, Answers, zeros, lengthsFit, fitting, freshOutcome, settledOutcome};
+ghost use Rattle.pass.specs.Run.{Fresh, Settled, Answers, workLength, zeros, lengthsFit, fitting, freshOutcome, settledOutcome};
 ghost use Rattle.work.specs.Coded.{secondOf};
-ghost use Rattle.work.specs.Works.{bindersFirst};
 ghost use Rattle.analysis.specs.Answer.{tables, refusalIn, outcomeOf};
-ghost use Rattle.analysis.specs.Steps.{firstIn, outcomeBy, left, Begins, Ends, Checks};
+ghost use Rattle.analysis.specs.Steps.{firstIn, outcomeBy, left, zeroed, namesCleared, Blank, Begins, Ends, Checks};
 
 pub const FACTS: usize = 81920;
 
@@ -122,13 +125,34 @@ fn clear_after(
     }
 }
 
-// The names and captures of the run before go; the binders of the captured entries stay.
-fn clear_names(work: &mut [u32])
-    requires { ⌜ bindersFirst ≤ length (now work) ⌝ }
-    ensures { λ _. ⌜ now (work .exit) ≡ replaced (now (work .entry)) 0 bindersFirst (replicate bindersFirst 0) ⌝ }
+// The numbers from `start` up to `end` become zeros.
+fn clear_part(work: &mut [u32], start: usize, end: usize)
+    requires { ⌜ (start ≤ end) × (end ≤ length (now work)) ⌝ }
+    ensures { λ _. ⌜ now (work .exit) ≡ zeroed start (end - start) (now (work .entry)) ⌝ }
 {
-    let end = BINDERS;
-    table::clear(&mut work[..end]);
+    table::clear(&mut work[start..end]);
+}
+
+// What a run starts without: the hints of both maps, and the entries. Rows and captures of an empty map are not looked at.
+fn clear_names(work: &mut [u32])
+    requires { ⌜ length (now work) ≡ workLength ⌝ }
+    ensures { λ _. ⌜ now (work .exit) ≡ namesCleared (now (work .entry)) ⌝ }
+{
+    clear_part(work, SCOPE_HINTS, ENTRIES);
+    clear_part(work, ENTRIES, CAPTURES);
+    clear_part(work, CAPTURES_HINTS, TAKEN);
+}
+
+// No facts yet, and a work table as a run starts with.
+fn clear_start(facts: &mut [u32], captured: &mut [u32], arguments: &mut [u32], work: &mut [u32])
+    requires { ⌜ lengthsFit (tables (now facts) (now captured) (now arguments) (now work)) ≡ true ⌝ }
+    ensures { λ _. ⌜ Blank (tables (now (facts .exit)) (now (captured .exit)) (now (arguments .exit)) (now (work .exit))) ⌝ }
+{
+    table::clear(facts);
+    table::clear(captured);
+    table::clear(arguments);
+    clear_names(work);
+    clear_part(work, BINDERS, WORK);
 }
 
 fn run_once(
@@ -200,7 +224,7 @@ fn run_checked(
     arguments: &mut [u32],
     work: &mut [u32],
 ) -> Answer
-    requires { ⌜ tables (now facts) (now captured) (now arguments) (now work) ≡ zeros ⌝ }
+    requires { ⌜ Blank (tables (now facts) (now captured) (now arguments) (now work)) ⌝ }
     ensures { λ r. ⌜ Checks (outcomeBy twice) (now (classes .entry)) (now (records .entry)) (outcomeOf r (now (facts .exit)) (now (captured .exit)) (now (arguments .exit)) (now (work .exit))) ⌝ }
 {
     let a = answer_of(tree::check(records, classes.len()));
@@ -227,7 +251,7 @@ fn run(
     if !fit(records, facts, captured, arguments, work) {
         return Answer::Refused(1, 0);
     }
-    clear_all(facts, captured, arguments, work);
+    clear_start(facts, captured, arguments, work);
     let a = run_checked(records, classes, twice, facts, captured, arguments, work);
     clear_after(a, facts, captured, arguments, work);
     a

@@ -10,6 +10,5 @@ pub mod WorksLaws
 pub mod ScopeLaws
 pub mod WorksKept
 pub mod CapturesLaws
-pub mod Start
 pub mod Tied
 pub mod TiedLaws

@@ -10,13 +10,17 @@ pub mod entries;
 pub mod notes;
 pub mod scope;
 
-// The work table: the scope's map; an entry for each record; the captures' map; what is known of each capture, by
-// its place; and the binder's record of each captured entry, by its row.
-const ENTRIES: usize = 13312;
+// The work table: the scope's map, its hints last; an entry for each record; the captures' map, its hints last; what is known of each
+// capture, by its place; and the binder's record of each captured entry, by its row.
+pub const SCOPE_HINTS: usize = 12288;
 
-const CAPTURES: usize = 33792;
+pub const ENTRIES: usize = 13312;
 
-const TAKEN: usize = 47104;
+pub const CAPTURES: usize = 33792;
+
+pub const CAPTURES_HINTS: usize = 46080;
+
+pub const TAKEN: usize = 47104;
 
 pub const BINDERS: usize = 55296;
 

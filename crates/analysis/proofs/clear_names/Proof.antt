@@ -1,33 +1,33 @@
--- `clear_names`: the numbers before the binders become zeros.
-use mathlib.Core.List.{List, _++_}
-use mathlib.Core.Path.{ap, sym, _∙_}
-use Prim.Native.Nat.{ℕ}
-use lib.ListN.{replicate, drop}
-use lib.Seq.{length-take-le}
-use Rattle.work.specs.Works.{bindersFirst}
+-- `clear_names`: the hints and the entries become zeros.
+use mathlib.Core.Path.{ap, _∙_}
+use Rattle.scope_map.specs.Hints.{rowsLength, hintsLength}
+use Rattle.work.specs.Works.{entriesFirst, entriesLength, capturesFirst}
+use Rattle.analysis.specs.Steps.{zeroed}
 use borrow.Author.Needs.{needs}
 use Rattle.analysis.proofs.clear_names.Statement.{statement}
 use Rattle.analysis.proofs.clear_names.Tie as tie
 
-slice-relend-prefix-clear : tie.Need-slice-relend-prefix-clear
-slice-relend-prefix-clear c = search needs
+clear-part-requires : tie.Need-clear-part-requires
+clear-part-requires c κs = search needs
 
-slice-aggregate-clear : tie.Need-slice-aggregate-clear
-slice-aggregate-clear c = let o = c .before .before in sym (length-take-le bindersFirst (o .args .work .now) (o .pre))
+clear-part-requires-2 : tie.Need-clear-part-requires-2
+clear-part-requires-2 c κs = search needs
 
-clear-requires : tie.Need-clear-requires
-clear-requires c κs = search needs
+clear-part-requires-3 : tie.Need-clear-part-requires-3
+clear-part-requires-3 c κs = search needs
 
 same-length : tie.Need-same-length
 same-length c = search needs
 
 returns : tie.Need-returns
 returns c =
-    let o = c .before .before .before .before .before in
-    let w = o .args .work .now in
-    ap (λ (l : List ℕ). l ++ drop bindersFirst w) (c .before .before .clear .ensures ∙ ap (λ (n : ℕ). replicate n 0) (length-take-le bindersFirst w (o .pre)))
+    let k3 = c .before .before in
+    let k2 = k3 .before .before .before .before in
+    let k1 = k2 .before .before .before .before in
+    k3 .clear-part3 .ensures
+    ∙ ap (zeroed 46080 hintsLength) (k2 .clear-part2 .ensures ∙ ap (zeroed entriesFirst entriesLength) (k1 .clear-part .ensures))
 
 pub clear-names-spec : {M : Type 1} → statement M
 clear-names-spec =
     tie.close
-    (tie.spec slice-relend-prefix-clear slice-aggregate-clear clear-requires same-length returns)
+    (tie.spec clear-part-requires clear-part-requires-2 clear-part-requires-3 same-length returns)

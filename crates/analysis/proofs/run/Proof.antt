@@ -25,8 +25,8 @@ same-length-4 c = search needs
 returns : tie.Need-returns
 returns c = unfit-answers (sym (c .before .fit .ensures) ∙ not-true _ (c .if1 .taken))
 
-clear-all-requires : tie.Need-clear-all-requires
-clear-all-requires c κs =
+clear-start-requires : tie.Need-clear-start-requires
+clear-start-requires c κs =
     let i = c .before .before .before .before in
     fit-lengths _ _ (sym (i .before .fit .ensures) ∙ not-false _ (i .if1 .left))
 
@@ -41,10 +41,10 @@ clear-after-requires c κs =
     let a = i .before .before .before .before .before .before .before .before .before .before .before .before .args in
     still-fits (a .facts .now) (a .captured .now) (a .arguments .now) (a .work .now) _ _ _ _
     (fit-lengths _ _ (sym (i .before .fit .ensures) ∙ not-false _ (i .if1 .left)))
-    (r .run-checked .kept .1 .1 .1 .0 ∙ k .clear-all .kept .0)
-    (r .run-checked .kept .1 .1 .1 .1 .0 ∙ k .clear-all .kept .1 .0)
-    (r .run-checked .kept .1 .1 .1 .1 .1 .0 ∙ k .clear-all .kept .1 .1 .0)
-    (r .run-checked .kept .1 .1 .1 .1 .1 .1 .0 ∙ k .clear-all .kept .1 .1 .1 .0)
+    (r .run-checked .kept .1 .1 .1 .0 ∙ k .clear-start .kept .0)
+    (r .run-checked .kept .1 .1 .1 .1 .0 ∙ k .clear-start .kept .1 .0)
+    (r .run-checked .kept .1 .1 .1 .1 .1 .0 ∙ k .clear-start .kept .1 .1 .0)
+    (r .run-checked .kept .1 .1 .1 .1 .1 .1 .0 ∙ k .clear-start .kept .1 .1 .1 .0)
 
 same-length-5 : tie.Need-same-length-5
 same-length-5 c = search needs
@@ -75,7 +75,7 @@ run-spec =
     same-length-3
     same-length-4
     returns
-    clear-all-requires
+    clear-start-requires
     run-checked-requires
     clear-after-requires
     same-length-5

@@ -1,0 +1,65 @@
+-- `clear_start`: tables of their set lengths become blank.
+use native.Mathlib.Omega.{arith}
+use Rattle.analysis.proofs.Tables.{long, all-blank}
+use borrow.Author.Needs.{needs}
+use Rattle.analysis.proofs.clear_start.Statement.{statement}
+use Rattle.analysis.proofs.clear_start.Tie as tie
+
+clear-requires : tie.Need-clear-requires
+clear-requires c κs = search needs
+
+clear-requires-2 : tie.Need-clear-requires-2
+clear-requires-2 c κs = search needs
+
+clear-requires-3 : tie.Need-clear-requires-3
+clear-requires-3 c κs = search needs
+
+clear-names-requires : tie.Need-clear-names-requires
+clear-names-requires c κs =
+    let o = c .before .before .before .before .before .before .before .before .before .before .before .before .before .before .before .before .before in
+    long _ (o .pre) .work
+
+clear-part-requires : tie.Need-clear-part-requires
+clear-part-requires c κs =
+    let k4 = c .before .before .before in
+    let o = k4 .before .before .before .before .before .before .before .before .before .before .before .before .before .before .before .before .before .before in
+    (omega arith, omega (arith, k4 .clear-names .kept .0, long _ (o .pre) .work))
+
+same-length : tie.Need-same-length
+same-length c = search needs
+
+same-length-2 : tie.Need-same-length-2
+same-length-2 c = search needs
+
+same-length-3 : tie.Need-same-length-3
+same-length-3 c = search needs
+
+same-length-4 : tie.Need-same-length-4
+same-length-4 c = search needs
+
+returns : tie.Need-returns
+returns c =
+    let k5 = c .before .before in
+    let k4 = k5 .before .before .before .before in
+    let k3 = k4 .before .before .before .before in
+    let k2 = k3 .before .before .before .before in
+    let k1 = k2 .before .before .before .before in
+    let o = k1 .before .before .before .before .before .before in
+    let a = o .args in
+    all-blank (a .facts .now) (a .captured .now) (a .arguments .now) (a .work .now) _ _ _ _ (o .pre)
+    (k1 .clear .ensures) (k2 .clear2 .ensures) (k3 .clear3 .ensures) (k4 .clear-names .ensures) (k5 .clear-part .ensures)
+
+pub clear-start-spec : {M : Type 1} → statement M
+clear-start-spec =
+    tie.close
+    (tie.spec
+    clear-requires
+    clear-requires-2
+    clear-requires-3
+    clear-names-requires
+    clear-part-requires
+    same-length
+    same-length-2
+    same-length-3
+    same-length-4
+    returns)
