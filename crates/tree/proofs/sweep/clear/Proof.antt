@@ -68,7 +68,7 @@ open-requires c κs =
     let t = c .before .before .before in
     let l = t .before .before .before .before .before .before .before in
     let h = held l in
-    (omega (arith, t .take .ensures .1, t .before .before .if2 .left), (t .take .ensures .0 .long, l .loop .inv .places .levels))
+    (omega (arith, t .take .ensures .1), (t .take .ensures .0 .long, l .loop .inv .places .levels))
 
 add-i : tie.Need-add-i Inv-loop μ-loop
 add-i c = omega arith
@@ -81,7 +81,7 @@ loop-again c =
     let t = c .before .before .before .before in
     let d = t .before .before .before in
     let e = d .before in
-    sweep-next (e .before .before .before .loop .inv) (omega arith) (fit e) (d .due-after .ensures) refl (t .before .before .if2 .left) (t .take .ensures .0) (c .«open» .ensures) (c .before .children .ensures .0)
+    sweep-next (e .before .before .before .loop .inv) (omega arith) (fit e) (d .due-after .ensures) refl (omega arith) (t .take .ensures .0) (c .«open» .ensures) (c .before .children .ensures .0)
 
 returns-3 : tie.Need-returns-3 Inv-loop μ-loop
 returns-3 c t = sweep-end (c .before .loop .inv) (omega arith) (eqb-true _ _ t)
