@@ -1,4 +1,4 @@
-// What parts are handed, by value: a local is lent to the functions in place. The visits call these, and so lend no struct themselves.
+// What parts are handed, by value: a local is lent to the functions in place. A visit that calls these lends no struct itself.
 use crate::Flags;
 use crate::Part;
 use crate::in_place::enter;

@@ -64,7 +64,7 @@ impl Flags {
         }
     }
 
-    fn not_tail(mut self) -> Self
+    pub fn not_tail(mut self) -> Self
         ensures { λ r. ⌜ r ≡ atPart NotTail self ⌝ }
     {
         self.tail = false;
@@ -72,7 +72,7 @@ impl Flags {
         self
     }
 
-    fn same_tail(mut self) -> Self
+    pub fn same_tail(mut self) -> Self
         ensures { λ r. ⌜ r ≡ atPart SameTail self ⌝ }
     {
         self.direct = false;
@@ -102,7 +102,7 @@ impl Flags {
         }
     }
 
-    fn argument(mut self) -> Self
+    pub fn argument(mut self) -> Self
         ensures { λ r. ⌜ r ≡ atPart Argument self ⌝ }
     {
         self.tail = false;
@@ -111,7 +111,7 @@ impl Flags {
         self
     }
 
-    fn next(mut self) -> Self
+    pub fn next(mut self) -> Self
         requires { ⌜ self .height + 1 < Most ⌝ }
         ensures { λ r. ⌜ r ≡ atPart Next self ⌝ }
     {
@@ -119,7 +119,7 @@ impl Flags {
         self
     }
 
-    fn head(self, lambda: bool, k: u32) -> Self
+    pub fn head(self, lambda: bool, k: u32) -> Self
         requires { ⌜ self .height + k < Most ⌝ }
         ensures { λ r. ⌜ r ≡ atPart (Head lambda k) self ⌝ }
     {

@@ -28,6 +28,11 @@ use Rattle.flags.specs.declared.Flags.{Flags as Coded}
 use Rattle.visits.specs.Contract.{Fit, Done}
 use Rattle.visits.proofs.Views.{part-on, small, names-room}
 
+-- the context after it, told as the one before it
+pub context-told : {rs : List ℕ} {at k m : ℕ} {direct : Bool} {b : Says} {p p′ : Pass} {F w F′ w′ : List ℕ} → k ≡ m
+    → AfterDefine rs at direct k b p F w p′ F′ w′ → AfterDefine rs at direct m b p F w p′ F′ w′
+context-told {rs} {at} {direct = direct} {b} {p} {p′} {F} {w} {F′} {w′} e y = subst (λ (i : ℕ). AfterDefine rs at direct i b p F w p′ F′ w′) e y
+
 module _ {classes rs part : List ℕ} {at : ℕ} {g : Coded} {p : Pass} {F C A w : List ℕ} where
   pub record DefineView (x : Fit classes rs part at g (raw p F C A w)) : Type 0 where
     pub n : Node

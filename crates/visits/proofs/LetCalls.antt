@@ -1,11 +1,10 @@
 -- Let, as its function makes the calls: each on what the one before it gave back.
-use Prim.Native.Nat.{ℕ, _+_, _*_, _-_, _≤_}
+use Prim.Native.Nat.{ℕ, _+_, _*_, _≤_}
 use mathlib.Core.List.{List}
-use mathlib.Core.Path.{_≡_, sym, subst, _∙_}
+use mathlib.Core.Path.{_≡_, ap, sym, subst, _∙_}
 use native.Mathlib.Omega.{arith}
-use lib.ListN.{length, take, drop}
+use lib.ListN.{drop}
 use lib.Dec.{eqb}
-use Rattle.table.specs.Part.{part-is}
 use Rattle.tree.specs.Record.{width}
 use Rattle.tree.specs.RecordLaws.{nth}
 use Rattle.semantic.specs.Information.{NONE}
@@ -22,12 +21,12 @@ use Rattle.visits.specs.Contract.{Fit, Done, FitAll, DoneAll}
 use Rattle.visits.proofs.Bounds.{Span, whole}
 use Rattle.visits.proofs.LetCase.{let-long, initials-fit, body-long, names-fit, body-fits, end-fits, let-done}
 
--- the part after the let's own record and its k names, as the code cuts it
-pub initials-part : (l : List ℕ) (k : ℕ) → take (length l - (6 + 6 * k)) (drop (6 + 6 * k) l) ≡ drop (width * (1 + k)) l
-initials-part l k = let e : 6 + 6 * k ≡ width * (1 + k) = omega arith in part-is l e
-
 fewer : {rs part : List ℕ} {at n m : ℕ} → Span rs part at n → m ≤ n → Span rs part at m
 fewer s h = record { long = omega (arith, s .long, h); few = omega (arith, s .few, h); inside = omega (arith, s .inside, h) }
+
+-- the context that was read is put back
+pub put-back : (p p₁ : Pass) {p₅ : Pass} {k : ℕ} → k ≡ p .context → p₅ ≡ inContext k p₁ → p₅ ≡ inContext (p .context) p₁
+put-back p p₁ e d = d ∙ ap (λ (i : ℕ). inContext i p₁) e
 
 -- for another pass, or another number, that is the same
 

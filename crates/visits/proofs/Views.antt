@@ -2,7 +2,7 @@
 use Prim.Native.Nat.{ℕ, _+_, _-_, _*_, _≤_, _<_}
 use mathlib.Core.List.{List}
 use mathlib.Core.Option.{Option, some}
-use mathlib.Core.Path.{_≡_, ap, subst, _∙_}
+use mathlib.Core.Path.{_≡_, ap, sym, subst, _∙_}
 use native.Mathlib.Omega.{arith}
 use lib.ListN.{length, take, drop}
 use Rattle.table.specs.Part.{part-is}
@@ -27,6 +27,10 @@ use Rattle.work.specs.Known.{Known}
 use Rattle.work.specs.Works.{Beside, recordAt, rowOf}
 use Rattle.work.specs.Tied.{Raw, Tied}
 use Rattle.lists.specs.Contract.{Inside}
+use Rattle.flags.specs.Part.{atPart, Hands}
+use Rattle.flags.specs.PartLaws.{hands}
+use Rattle.flags.specs.declared.Flags.{Flags as Coded}
+use Rattle.flags.specs.declared.Part.{Part}
 use Rattle.forms.specs.Defines.{enterEach, children-entered}
 use Rattle.forms.specs.Contract.{NamesRoom, Shallow, ListsFit, EndFits}
 
@@ -45,6 +49,10 @@ small x k = k .few
 
 pub known : {N : ℕ} {rs : List ℕ} {x : Ident} → IdentAt N rs x → Known rs x
 known i = record { inside = i .inside; few = i .few; is = i .is }
+
+-- what a part is handed, from the core that made it
+pub handed : (p : Part) (g : Coded) {r : Coded} → r ≡ atPart p g → Hands p g r
+handed p g e = subst (Hands p g) (sym e) (hands p g)
 
 -- at the same record, told in another way
 

@@ -1,10 +1,12 @@
 // `run_with_scope`: a run over the top level.
-use crate::visit::Out;
 use crate::visit::visit;
 use flags::Flags;
 use forms::defines::enter_child;
 use forms::defines::enter_children;
 use names::define::enter_top_level_value;
+use registers::REGISTERS;
+use registers::load;
+use registers::store;
 use semantic::IdentifierStatus;
 use semantic::NONE;
 use table::wide;
@@ -18,8 +20,51 @@ ghost use lib.ListN.{length};
 ghost use Rattle.tree.specs.RecordLaws.{nth};
 ghost use Rattle.work.specs.Tied.{raw};
 ghost use Rattle.forms.specs.Contract.{DefineFits};
+ghost use Rattle.visits.specs.Contract.{Fit, Done};
 ghost use Rattle.visits.specs.Runs.{Ready, Runs};
 ghost use Rattle.visits.specs.Tops.{TopEnters, EntersTop, TopsEnter, EntersTops, BeforeTop, leavesTop, TopFits, VisitsTop, TopsFit, VisitsTops};
+
+// How many records a visit used, and what it threads on.
+pub struct Out {
+    pub used: usize,
+    pub pass: Pass,
+}
+
+// An expression at top level. The pass's numbers stand in a table while it is visited.
+fn visit_expression(
+    classes: &[u8],
+    all: &[u32],
+    rs: &[u32],
+    at: usize,
+    f: Flags,
+    p: Pass,
+    facts: &mut [u32],
+    captured: &mut [u32],
+    arguments: &mut [u32],
+    work: &mut [u32],
+) -> Out
+    requires { ⌜ Fit (now classes) (now all) (now rs) at f (raw p (now facts) (now captured) (now arguments) (now work)) ⌝ }
+    ensures { λ r. ⌜ Done (now (classes .entry)) (now (all .entry)) (now (rs .entry)) at f (raw p (now (facts .entry)) (now (captured .entry)) (now (arguments .entry)) (now (work .entry))) (r .used) (raw (r .pass) (now (facts .exit)) (now (captured .exit)) (now (arguments .exit)) (now (work .exit))) ⌝ }
+{
+    let mut r = [0; REGISTERS];
+    store(&mut r, p);
+    let used = visit(
+        classes,
+        all,
+        rs,
+        at,
+        f,
+        &mut r,
+        facts,
+        captured,
+        arguments,
+        work,
+    );
+    Out {
+        used,
+        pass: load(&r),
+    }
+}
 
 // The lambda defines at top level enter first, also those directly in a top-level begin.
 fn enter_top(
@@ -106,7 +151,7 @@ fn visit_top_define(
 {
     let b = body_at(classes, all, at + 2);
     let q = before_top_define(all, at, b, p, facts, work);
-    let o = visit(
+    let o = visit_expression(
         classes,
         all,
         &rs[12..],
@@ -142,7 +187,7 @@ fn visit_top(
     if tree::record::form(all, at) == 5 {
         return visit_top_define(classes, all, rs, at, p, facts, captured, arguments, work);
     }
-    visit(
+    visit_expression(
         classes,
         all,
         rs,

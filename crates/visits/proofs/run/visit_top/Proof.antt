@@ -35,8 +35,8 @@ no-define c e = c .if1 .left (c .before .form .ensures ∙ e)
 top-requires : tie.Need-top-requires
 top-requires c κs = search needs
 
-visit-requires : tie.Need-visit-requires
-visit-requires c κs = search needs
+visit-expression-requires : tie.Need-visit-expression-requires
+visit-expression-requires c κs = search needs
 
 same-length-5 : tie.Need-same-length-5
 same-length-5 c = search needs
@@ -54,7 +54,7 @@ returns-2 : tie.Need-returns-2
 returns-2 c =
     other-done (no-define (c .before .before .before .before .before .before .before .before .before .before .before .before .before .before))
     (c .before .before .before .before .before .before .before .before .before .before .before .before .before .top .ensures)
-    (c .before .before .before .before .before .before .before .before .visit .ensures)
+    (c .before .before .before .before .before .before .before .before .visit-expression .ensures)
 
 pub visit-top-spec : {M : Type 1} → statement M
 visit-top-spec =
@@ -68,7 +68,7 @@ visit-top-spec =
     same-length-4
     returns
     top-requires
-    visit-requires
+    visit-expression-requires
     same-length-5
     same-length-6
     same-length-7

@@ -19,29 +19,29 @@ before-top-define-requires c κs =
     let start = c .before .before .before .before .before .before .before .before .before .before in
     define-fits (start .pre .1) (start .pre .0)
 
-sub-visit : tie.Need-sub-visit
-sub-visit c =
+sub-visit-expression : tie.Need-sub-visit-expression
+sub-visit-expression c =
     let start = c .before .before .before .before .before .before .before .before .before .before .before .before .before .before .before in
     omega (arith, long (start .pre .1) (start .pre .0))
 
-part-visit-start : tie.Need-part-visit-start
-part-visit-start c =
+part-visit-expression-start : tie.Need-part-visit-expression-start
+part-visit-expression-start c =
     let start = c .before .before .before .before .before .before .before .before .before .before .before .before .before .before .before in
     omega (arith, long (start .pre .1) (start .pre .0))
 
-part-visit-end : tie.Need-part-visit-end
-part-visit-end c = search needs
+part-visit-expression-end : tie.Need-part-visit-expression-end
+part-visit-expression-end c = search needs
 
-add-visit : tie.Need-add-visit
-add-visit c =
+add-visit-expression : tie.Need-add-visit-expression
+add-visit-expression c =
     let start = c .before .before .before .before .before .before .before .before .before .before .before .before .before .before .before .before in
     omega (arith, few (start .pre .0))
 
 top-requires : tie.Need-top-requires
 top-requires c κs = search needs
 
-visit-requires : tie.Need-visit-requires
-visit-requires c κs =
+visit-expression-requires : tie.Need-visit-expression-requires
+visit-expression-requires c κs =
     let handed = c .before .before .before .before in
     let entered = handed .before .before .before .before .before .before in
     let told = entered .before .before .before in
@@ -61,14 +61,14 @@ add-t14 c =
     let start = told .before .before .before .before .before .before .before .before in
     let u =
     used-few (start .pre .1) (told .body-at .ensures) (entered .before-top-define .ensures) (handed .top .ensures)
-    (part (start .args .rs .now) 12) (visited .visit .ensures .used) (start .pre .0) in
+    (part (start .args .rs .now) 12) (visited .visit-expression .ensures .used) (start .pre .0) in
     omega (arith, u)
 
 same-length : tie.Need-same-length
 same-length c =
     let visited = c .before .before .before .before .before .before .before .before .before .before in
     let entered = visited .before .before .before .before .before .before .before .before .before .before .before in
-    omega (arith, visited .visit .kept, entered .before-top-define .kept)
+    omega (arith, visited .visit-expression .kept, entered .before-top-define .kept)
 
 same-length-2 : tie.Need-same-length-2
 same-length-2 c = search needs
@@ -80,7 +80,7 @@ same-length-4 : tie.Need-same-length-4
 same-length-4 c =
     let visited = c .before .before .before .before .before .before .before .before .before .before in
     let entered = visited .before .before .before .before .before .before .before .before .before .before .before in
-    omega (arith, visited .visit .kept, entered .before-top-define .kept)
+    omega (arith, visited .visit-expression .kept, entered .before-top-define .kept)
 
 returns : tie.Need-returns
 returns c =
@@ -90,7 +90,7 @@ returns c =
     let told = entered .before .before .before in
     let start = told .before .before .before .before .before .before .before .before in
     define-done (start .pre .1) (told .body-at .ensures) (entered .before-top-define .ensures) (handed .top .ensures)
-    (part (start .args .rs .now) 12) (visited .visit .ensures) (c .before .after-top-define .ensures)
+    (part (start .args .rs .now) 12) (visited .visit-expression .ensures) (c .before .after-top-define .ensures)
 
 pub visit-top-define-spec : {M : Type 1} → statement M
 visit-top-define-spec =
@@ -99,12 +99,12 @@ visit-top-define-spec =
     add-body-at
     body-at-requires
     before-top-define-requires
-    sub-visit
-    part-visit-start
-    part-visit-end
-    add-visit
+    sub-visit-expression
+    part-visit-expression-start
+    part-visit-expression-end
+    add-visit-expression
     top-requires
-    visit-requires
+    visit-expression-requires
     after-top-define-requires
     add-t14
     same-length

@@ -30,168 +30,174 @@ use Rattle.visits.proofs.visit.+visit+visit_arguments+visit_begin+visit
 use Rattle.visits.proofs.visit.visit_set.Reads as visit-set
 use Rattle.visits.proofs.visit.visit_set.Kinds as visit-set-kinds
 use Rattle.visits.proofs.visit.+visit+visit_arguments+visit_begin+visit_define+visit_if+visit_lambda_function+visit_let+visit_list+visit_set.Lts-visit_set as visit-set-lts
+use Rattle.flags.proofs.Flags.argument.Reads as argument-reads
+use Rattle.flags.proofs.Flags.head.Reads as head-reads
+use Rattle.flags.proofs.Flags.next.Reads as next-reads
+use Rattle.flags.proofs.Flags.not_tail.Reads as not-tail-reads
+use Rattle.flags.proofs.Flags.same_tail.Reads as same-tail-reads
 use Rattle.flags.proofs.by_value.part.Reads as part-reads
 use Rattle.flags.proofs.by_value.parts.Reads as parts-reads
+use Rattle.registers.proofs.steps.close_call.Reads as close-call-reads
+use Rattle.registers.proofs.steps.close_define.Reads as close-define-reads
+use Rattle.registers.proofs.steps.close_lambda.Reads as close-lambda-reads
+use Rattle.registers.proofs.steps.close_let.Reads as close-let-reads
+use Rattle.registers.proofs.steps.close_set.Reads as close-set-reads
+use Rattle.registers.proofs.steps.context.Reads as context-reads
+use Rattle.registers.proofs.steps.depth.Reads as depth-reads
+use Rattle.registers.proofs.steps.open_begin.Reads as open-begin-reads
+use Rattle.registers.proofs.steps.open_define.Reads as open-define-reads
+use Rattle.registers.proofs.steps.open_lambda.Reads as open-lambda-reads
+use Rattle.registers.proofs.steps.open_let.Reads as open-let-reads
+use Rattle.registers.proofs.steps.open_set.Reads as open-set-reads
+use Rattle.registers.proofs.steps.set_context.Reads as set-context-reads
+use Rattle.registers.proofs.steps.visit_atom.Reads as visit-atom-reads
 use Rattle.table.proofs.wide.Reads as wide-reads
 use Rattle.tree.proofs.record.count.Reads as count-reads
 use Rattle.tree.proofs.record.form.Reads as form-reads
 use Rattle.tree.proofs.record.id.Reads as id-reads
 use Rattle.tree.proofs.record.name.Reads as name-reads
-use Rattle.forms.proofs.defines.after_define.Reads as after-define-reads
-use Rattle.forms.proofs.defines.before_define.Reads as before-define-reads
-use Rattle.forms.proofs.calls.clear_context.Reads as clear-context-reads
-use Rattle.forms.proofs.calls.end_call.Reads as end-call-reads
-use Rattle.forms.proofs.defines.enter_children.Reads as enter-children-reads
-use Rattle.forms.proofs.lambda.enter_lambda.Reads as enter-lambda-reads
-use Rattle.forms.proofs.lets.enter_let.Reads as enter-let-reads
-use Rattle.forms.proofs.lambda.leave_lambda.Reads as leave-lambda-reads
-use Rattle.forms.proofs.lets.leave_let.Reads as leave-let-reads
-use Rattle.names.proofs.read.mutate.Reads as mutate-reads
-use Rattle.names.proofs.read.read.Reads as read-reads
 use Rattle.walk.proofs.body.body_at.Reads as body-at-reads
 use Rattle.walk.proofs.extent.extent_at.Reads as extent-at-reads
 use Rattle.walk.proofs.uses.holds_lambda.Reads as holds-lambda-reads
-use Rattle.work.proofs.Pass.depth.Reads as depth-reads
-use Rattle.work.proofs.Pass.with_context.Reads as with-context-reads
 use Rattle.work.proofs.narrow.Reads as narrow-reads
 
-abbrev pub μ-visit : Measures 7 visit-kinds.ps ℕ
+abbrev pub μ-visit : Measures 8 visit-kinds.ps ℕ
 μ-visit κs a = 3 * length (a .1 .1 .0 .now) + 1
 
-abbrev pub μ-visit-arguments : Measures 7 visit-arguments-kinds.ps ℕ
+abbrev pub μ-visit-arguments : Measures 8 visit-arguments-kinds.ps ℕ
 μ-visit-arguments κs a = 3 * length (a .1 .1 .0 .now) + 2
 
-abbrev pub μ-visit-begin : Measures 7 visit-begin-kinds.ps ℕ
+abbrev pub μ-visit-begin : Measures 8 visit-begin-kinds.ps ℕ
 μ-visit-begin κs a = 3 * length (a .1 .1 .0 .now)
 
-abbrev pub μ-visit-define : Measures 7 visit-define-kinds.ps ℕ
+abbrev pub μ-visit-define : Measures 8 visit-define-kinds.ps ℕ
 μ-visit-define κs a = 3 * length (a .1 .1 .0 .now)
 
-abbrev pub μ-visit-if : Measures 7 visit-if-kinds.ps ℕ
+abbrev pub μ-visit-if : Measures 8 visit-if-kinds.ps ℕ
 μ-visit-if κs a = 3 * length (a .1 .1 .0 .now)
 
-abbrev pub μ-visit-lambda-function : Measures 7 visit-lambda-function-kinds.ps ℕ
+abbrev pub μ-visit-lambda-function : Measures 8 visit-lambda-function-kinds.ps ℕ
 μ-visit-lambda-function κs a = 3 * length (a .1 .1 .0 .now)
 
-abbrev pub μ-visit-let : Measures 7 visit-let-kinds.ps ℕ
+abbrev pub μ-visit-let : Measures 8 visit-let-kinds.ps ℕ
 μ-visit-let κs a = 3 * length (a .1 .1 .0 .now)
 
-abbrev pub μ-visit-list : Measures 7 visit-list-kinds.ps ℕ
+abbrev pub μ-visit-list : Measures 8 visit-list-kinds.ps ℕ
 μ-visit-list κs a = 3 * length (a .1 .1 .0 .now)
 
-abbrev pub μ-visit-set : Measures 7 visit-set-kinds.ps ℕ
+abbrev pub μ-visit-set : Measures 8 visit-set-kinds.ps ℕ
 μ-visit-set κs a = 3 * length (a .1 .1 .0 .now)
 
-abbrev pub visit-at : ℕ → In 7 visit-kinds.ps
-visit-at t = and 7 visit-kinds.ps (is 7 visit-kinds.ps μ-visit t) visit.Pre
+abbrev pub visit-at : ℕ → In 8 visit-kinds.ps
+visit-at t = and 8 visit-kinds.ps (is 8 visit-kinds.ps μ-visit t) visit.Pre
 
-abbrev pub visit-below : ℕ → In 7 visit-kinds.ps
-visit-below t = and 7 visit-kinds.ps (falls 7 visit-kinds.ps _<_ μ-visit t) visit.Pre
+abbrev pub visit-below : ℕ → In 8 visit-kinds.ps
+visit-below t = and 8 visit-kinds.ps (falls 8 visit-kinds.ps _<_ μ-visit t) visit.Pre
 
-abbrev pub visit-arguments-at : ℕ → In 7 visit-arguments-kinds.ps
+abbrev pub visit-arguments-at : ℕ → In 8 visit-arguments-kinds.ps
 visit-arguments-at t =
     and
-    7
+    8
     visit-arguments-kinds.ps
-    (is 7 visit-arguments-kinds.ps μ-visit-arguments t)
+    (is 8 visit-arguments-kinds.ps μ-visit-arguments t)
     visit-arguments.Pre
 
-abbrev pub visit-arguments-below : ℕ → In 7 visit-arguments-kinds.ps
+abbrev pub visit-arguments-below : ℕ → In 8 visit-arguments-kinds.ps
 visit-arguments-below t =
     and
-    7
+    8
     visit-arguments-kinds.ps
-    (falls 7 visit-arguments-kinds.ps _<_ μ-visit-arguments t)
+    (falls 8 visit-arguments-kinds.ps _<_ μ-visit-arguments t)
     visit-arguments.Pre
 
-abbrev pub visit-begin-at : ℕ → In 7 visit-begin-kinds.ps
+abbrev pub visit-begin-at : ℕ → In 8 visit-begin-kinds.ps
 visit-begin-at t =
-    and 7 visit-begin-kinds.ps (is 7 visit-begin-kinds.ps μ-visit-begin t) visit-begin.Pre
+    and 8 visit-begin-kinds.ps (is 8 visit-begin-kinds.ps μ-visit-begin t) visit-begin.Pre
 
-abbrev pub visit-begin-below : ℕ → In 7 visit-begin-kinds.ps
+abbrev pub visit-begin-below : ℕ → In 8 visit-begin-kinds.ps
 visit-begin-below t =
-    and 7 visit-begin-kinds.ps (falls 7 visit-begin-kinds.ps _<_ μ-visit-begin t) visit-begin.Pre
+    and 8 visit-begin-kinds.ps (falls 8 visit-begin-kinds.ps _<_ μ-visit-begin t) visit-begin.Pre
 
-abbrev pub visit-define-at : ℕ → In 7 visit-define-kinds.ps
+abbrev pub visit-define-at : ℕ → In 8 visit-define-kinds.ps
 visit-define-at t =
-    and 7 visit-define-kinds.ps (is 7 visit-define-kinds.ps μ-visit-define t) visit-define.Pre
+    and 8 visit-define-kinds.ps (is 8 visit-define-kinds.ps μ-visit-define t) visit-define.Pre
 
-abbrev pub visit-define-below : ℕ → In 7 visit-define-kinds.ps
+abbrev pub visit-define-below : ℕ → In 8 visit-define-kinds.ps
 visit-define-below t =
     and
-    7
+    8
     visit-define-kinds.ps
-    (falls 7 visit-define-kinds.ps _<_ μ-visit-define t)
+    (falls 8 visit-define-kinds.ps _<_ μ-visit-define t)
     visit-define.Pre
 
-abbrev pub visit-if-at : ℕ → In 7 visit-if-kinds.ps
-visit-if-at t = and 7 visit-if-kinds.ps (is 7 visit-if-kinds.ps μ-visit-if t) visit-if.Pre
+abbrev pub visit-if-at : ℕ → In 8 visit-if-kinds.ps
+visit-if-at t = and 8 visit-if-kinds.ps (is 8 visit-if-kinds.ps μ-visit-if t) visit-if.Pre
 
-abbrev pub visit-if-below : ℕ → In 7 visit-if-kinds.ps
+abbrev pub visit-if-below : ℕ → In 8 visit-if-kinds.ps
 visit-if-below t =
-    and 7 visit-if-kinds.ps (falls 7 visit-if-kinds.ps _<_ μ-visit-if t) visit-if.Pre
+    and 8 visit-if-kinds.ps (falls 8 visit-if-kinds.ps _<_ μ-visit-if t) visit-if.Pre
 
-abbrev pub visit-lambda-function-at : ℕ → In 7 visit-lambda-function-kinds.ps
+abbrev pub visit-lambda-function-at : ℕ → In 8 visit-lambda-function-kinds.ps
 visit-lambda-function-at t =
     and
-    7
+    8
     visit-lambda-function-kinds.ps
-    (is 7 visit-lambda-function-kinds.ps μ-visit-lambda-function t)
+    (is 8 visit-lambda-function-kinds.ps μ-visit-lambda-function t)
     visit-lambda-function.Pre
 
-abbrev pub visit-lambda-function-below : ℕ → In 7 visit-lambda-function-kinds.ps
+abbrev pub visit-lambda-function-below : ℕ → In 8 visit-lambda-function-kinds.ps
 visit-lambda-function-below t =
     and
-    7
+    8
     visit-lambda-function-kinds.ps
-    (falls 7 visit-lambda-function-kinds.ps _<_ μ-visit-lambda-function t)
+    (falls 8 visit-lambda-function-kinds.ps _<_ μ-visit-lambda-function t)
     visit-lambda-function.Pre
 
-abbrev pub visit-let-at : ℕ → In 7 visit-let-kinds.ps
-visit-let-at t = and 7 visit-let-kinds.ps (is 7 visit-let-kinds.ps μ-visit-let t) visit-let.Pre
+abbrev pub visit-let-at : ℕ → In 8 visit-let-kinds.ps
+visit-let-at t = and 8 visit-let-kinds.ps (is 8 visit-let-kinds.ps μ-visit-let t) visit-let.Pre
 
-abbrev pub visit-let-below : ℕ → In 7 visit-let-kinds.ps
+abbrev pub visit-let-below : ℕ → In 8 visit-let-kinds.ps
 visit-let-below t =
-    and 7 visit-let-kinds.ps (falls 7 visit-let-kinds.ps _<_ μ-visit-let t) visit-let.Pre
+    and 8 visit-let-kinds.ps (falls 8 visit-let-kinds.ps _<_ μ-visit-let t) visit-let.Pre
 
-abbrev pub visit-list-at : ℕ → In 7 visit-list-kinds.ps
+abbrev pub visit-list-at : ℕ → In 8 visit-list-kinds.ps
 visit-list-at t =
-    and 7 visit-list-kinds.ps (is 7 visit-list-kinds.ps μ-visit-list t) visit-list.Pre
+    and 8 visit-list-kinds.ps (is 8 visit-list-kinds.ps μ-visit-list t) visit-list.Pre
 
-abbrev pub visit-list-below : ℕ → In 7 visit-list-kinds.ps
+abbrev pub visit-list-below : ℕ → In 8 visit-list-kinds.ps
 visit-list-below t =
-    and 7 visit-list-kinds.ps (falls 7 visit-list-kinds.ps _<_ μ-visit-list t) visit-list.Pre
+    and 8 visit-list-kinds.ps (falls 8 visit-list-kinds.ps _<_ μ-visit-list t) visit-list.Pre
 
-abbrev pub visit-set-at : ℕ → In 7 visit-set-kinds.ps
-visit-set-at t = and 7 visit-set-kinds.ps (is 7 visit-set-kinds.ps μ-visit-set t) visit-set.Pre
+abbrev pub visit-set-at : ℕ → In 8 visit-set-kinds.ps
+visit-set-at t = and 8 visit-set-kinds.ps (is 8 visit-set-kinds.ps μ-visit-set t) visit-set.Pre
 
-abbrev pub visit-set-below : ℕ → In 7 visit-set-kinds.ps
+abbrev pub visit-set-below : ℕ → In 8 visit-set-kinds.ps
 visit-set-below t =
-    and 7 visit-set-kinds.ps (falls 7 visit-set-kinds.ps _<_ μ-visit-set t) visit-set.Pre
+    and 8 visit-set-kinds.ps (falls 8 visit-set-kinds.ps _<_ μ-visit-set t) visit-set.Pre
 
 abbrev pub visit-calls : ℕ → visit-lts.Claims
-visit-calls t = (form-reads.Asked, form-reads.Learnt, read-reads.Asked, read-reads.Learnt, visit-if-below t, visit-if.Post, visit-let-below t, visit-let.Post, visit-define-below t, visit-define.Post, visit-lambda-function-below t, visit-lambda-function.Post, visit-begin-below t, visit-begin.Post, visit-list-below t, visit-list.Post, visit-set-below t, visit-set.Post)
+visit-calls t = (form-reads.Asked, form-reads.Learnt, visit-atom-reads.Asked, visit-atom-reads.Learnt, visit-if-below t, visit-if.Post, visit-let-below t, visit-let.Post, visit-define-below t, visit-define.Post, visit-lambda-function-below t, visit-lambda-function.Post, visit-begin-below t, visit-begin.Post, visit-list-below t, visit-list.Post, visit-set-below t, visit-set.Post)
 
 abbrev pub visit-arguments-calls : ℕ → visit-arguments-lts.Claims
-visit-arguments-calls t = (visit-below t, visit.Post, part-reads.Asked, part-reads.Learnt)
+visit-arguments-calls t = (visit-below t, visit.Post, next-reads.Asked, next-reads.Learnt)
 
 abbrev pub visit-begin-calls : ℕ → visit-begin-lts.Claims
-visit-begin-calls t = (count-reads.Asked, count-reads.Learnt, wide-reads.Asked, wide-reads.Learnt, enter-children-reads.Asked, enter-children-reads.Learnt, part-reads.Asked, part-reads.Learnt, visit-below t, visit.Post)
+visit-begin-calls t = (count-reads.Asked, count-reads.Learnt, wide-reads.Asked, wide-reads.Learnt, open-begin-reads.Asked, open-begin-reads.Learnt, part-reads.Asked, part-reads.Learnt, visit-below t, visit.Post)
 
 abbrev pub visit-define-calls : ℕ → visit-define-lts.Claims
-visit-define-calls t = (body-at-reads.Asked, body-at-reads.Learnt, before-define-reads.Asked, before-define-reads.Learnt, part-reads.Asked, part-reads.Learnt, visit-below t, visit.Post, after-define-reads.Asked, after-define-reads.Learnt)
+visit-define-calls t = (body-at-reads.Asked, body-at-reads.Learnt, context-reads.Asked, context-reads.Learnt, open-define-reads.Asked, open-define-reads.Learnt, part-reads.Asked, part-reads.Learnt, visit-below t, visit.Post, close-define-reads.Asked, close-define-reads.Learnt)
 
 abbrev pub visit-if-calls : ℕ → visit-if-lts.Claims
-visit-if-calls t = (parts-reads.Asked, parts-reads.Learnt, visit-below t, visit.Post)
+visit-if-calls t = (same-tail-reads.Asked, same-tail-reads.Learnt, not-tail-reads.Asked, not-tail-reads.Learnt, visit-below t, visit.Post)
 
 abbrev pub visit-lambda-function-calls : ℕ → visit-lambda-function-lts.Claims
-visit-lambda-function-calls t = (count-reads.Asked, count-reads.Learnt, wide-reads.Asked, wide-reads.Learnt, enter-lambda-reads.Asked, enter-lambda-reads.Learnt, id-reads.Asked, id-reads.Learnt, part-reads.Asked, part-reads.Learnt, visit-below t, visit.Post, holds-lambda-reads.Asked, holds-lambda-reads.Learnt, leave-lambda-reads.Asked, leave-lambda-reads.Learnt)
+visit-lambda-function-calls t = (count-reads.Asked, count-reads.Learnt, wide-reads.Asked, wide-reads.Learnt, open-lambda-reads.Asked, open-lambda-reads.Learnt, id-reads.Asked, id-reads.Learnt, part-reads.Asked, part-reads.Learnt, visit-below t, visit.Post, holds-lambda-reads.Asked, holds-lambda-reads.Learnt, close-lambda-reads.Asked, close-lambda-reads.Learnt)
 
 abbrev pub visit-let-calls : ℕ → visit-let-lts.Claims
-visit-let-calls t = (count-reads.Asked, count-reads.Learnt, wide-reads.Asked, wide-reads.Learnt, depth-reads.Asked, depth-reads.Learnt, parts-reads.Asked, parts-reads.Learnt, with-context-reads.Asked, with-context-reads.Learnt, visit-arguments-below t, visit-arguments.Post, enter-let-reads.Asked, enter-let-reads.Learnt, visit-below t, visit.Post, leave-let-reads.Asked, leave-let-reads.Learnt)
+visit-let-calls t = (count-reads.Asked, count-reads.Learnt, wide-reads.Asked, wide-reads.Learnt, depth-reads.Asked, depth-reads.Learnt, context-reads.Asked, context-reads.Learnt, parts-reads.Asked, parts-reads.Learnt, set-context-reads.Asked, set-context-reads.Learnt, visit-arguments-below t, visit-arguments.Post, open-let-reads.Asked, open-let-reads.Learnt, visit-below t, visit.Post, close-let-reads.Asked, close-let-reads.Learnt)
 
 abbrev pub visit-list-calls : ℕ → visit-list-lts.Claims
-visit-list-calls t = (count-reads.Asked, count-reads.Learnt, wide-reads.Asked, wide-reads.Learnt, extent-at-reads.Asked, extent-at-reads.Learnt, form-reads.Asked, form-reads.Learnt, narrow-reads.Asked, narrow-reads.Learnt, parts-reads.Asked, parts-reads.Learnt, visit-arguments-below t, visit-arguments.Post, visit-below t, visit.Post, end-call-reads.Asked, end-call-reads.Learnt)
+visit-list-calls t = (count-reads.Asked, count-reads.Learnt, wide-reads.Asked, wide-reads.Learnt, extent-at-reads.Asked, extent-at-reads.Learnt, form-reads.Asked, form-reads.Learnt, argument-reads.Asked, argument-reads.Learnt, visit-arguments-below t, visit-arguments.Post, narrow-reads.Asked, narrow-reads.Learnt, head-reads.Asked, head-reads.Learnt, visit-below t, visit.Post, close-call-reads.Asked, close-call-reads.Learnt)
 
 abbrev pub visit-set-calls : ℕ → visit-set-lts.Claims
-visit-set-calls t = (clear-context-reads.Asked, clear-context-reads.Learnt, part-reads.Asked, part-reads.Learnt, visit-below t, visit.Post, name-reads.Asked, name-reads.Learnt, mutate-reads.Asked, mutate-reads.Learnt, read-reads.Asked, read-reads.Learnt)
+visit-set-calls t = (open-set-reads.Asked, open-set-reads.Learnt, part-reads.Asked, part-reads.Learnt, visit-below t, visit.Post, name-reads.Asked, name-reads.Learnt, close-set-reads.Asked, close-set-reads.Learnt, visit-atom-reads.Asked, visit-atom-reads.Learnt)

@@ -11,49 +11,58 @@ use Rattle.visits.proofs.visit.+visit+visit_arguments+visit_begin+visit
 
 module _ (t : ℕ) where
   abbrev begun : lts.After-form (visit-calls t) (visit-at t) reads.Post → lts.Start (visit-calls t) (visit-at t) reads.Post
-  begun c = c .before .before .before .before .before .before .before .before
+  begun c = c .before .before .before .before .before .before .before .before .before
 
   pub form-requires : lts.Need-form-requires (visit-calls t) (visit-at t) reads.Post
-  form-requires c κs = let x = (c .before .before .before .before .before .before .before) .pre .1 in omega (arith, bounds.whole x, bounds.some x)
+  form-requires c κs = let x = c .before .before .before .before .before .before .before .before .pre .1 .1 in omega (arith, bounds.whole x, bounds.some x)
 
-  pub read-requires : lts.Need-read-requires (visit-calls t) (visit-at t) reads.Post
-  read-requires c κs =
-      let f = c .before .before .before .before in
+  pub visit-atom-requires : lts.Need-visit-atom-requires (visit-calls t) (visit-at t) reads.Post
+  visit-atom-requires c κs =
+      let f = c .before .before .before .before .before in
       let o = begun f in
-      ident-reads {g = o .args .f} (sym (f .form .ensures) ∙ c .before .before .before .match .keys1) (o .pre .1)
+      (o .pre .1 .0, ident-reads {g = o .args .f} (sym (f .form .ensures) ∙ c .before .before .before .before .match .keys1) (o .pre .1 .1))
 
   pub visit-if-requires : lts.Need-visit-if-requires (visit-calls t) (visit-at t) reads.Post
-  visit-if-requires c κs = search needs
+  visit-if-requires c κs =
+      let f = c .before .before .before .before .before .before in
+      let o = begun f in
+      (omega (arith, o .pre .0), (o .pre .1 .0, o .pre .1 .1, sym (f .form .ensures) ∙ c .before .before .before .before .before .match .keys2))
 
   pub visit-let-requires : lts.Need-visit-let-requires (visit-calls t) (visit-at t) reads.Post
-  visit-let-requires c κs = search needs
+  visit-let-requires c κs =
+      let f = c .before .before .before .before .before .before in
+      let o = begun f in
+      (omega (arith, o .pre .0), (o .pre .1 .0, o .pre .1 .1, sym (f .form .ensures) ∙ c .before .before .before .before .before .match .keys3))
 
   pub visit-define-requires : lts.Need-visit-define-requires (visit-calls t) (visit-at t) reads.Post
-  visit-define-requires c κs = search needs
+  visit-define-requires c κs =
+      let f = c .before .before .before .before .before .before in
+      let o = begun f in
+      (omega (arith, o .pre .0), (o .pre .1 .0, o .pre .1 .1, sym (f .form .ensures) ∙ c .before .before .before .before .before .match .keys4))
 
   pub visit-lambda-function-requires : lts.Need-visit-lambda-function-requires (visit-calls t) (visit-at t) reads.Post
   visit-lambda-function-requires c κs =
-      let f = c .before .before .before .before .before in
+      let f = c .before .before .before .before .before .before in
       let o = begun f in
-      (omega (arith, o .pre .0), (o .pre .1, sym (f .form .ensures) ∙ c .before .before .before .before .match .keys5))
+      (omega (arith, o .pre .0), (o .pre .1 .0, o .pre .1 .1, sym (f .form .ensures) ∙ c .before .before .before .before .before .match .keys5))
 
   pub visit-begin-requires : lts.Need-visit-begin-requires (visit-calls t) (visit-at t) reads.Post
   visit-begin-requires c κs =
-      let f = c .before .before .before .before .before in
+      let f = c .before .before .before .before .before .before in
       let o = begun f in
-      (omega (arith, o .pre .0), (o .pre .1, sym (f .form .ensures) ∙ c .before .before .before .before .match .keys6))
+      (omega (arith, o .pre .0), (o .pre .1 .0, o .pre .1 .1, sym (f .form .ensures) ∙ c .before .before .before .before .before .match .keys6))
 
   pub visit-list-requires : lts.Need-visit-list-requires (visit-calls t) (visit-at t) reads.Post
   visit-list-requires c κs =
-      let f = c .before .before .before .before .before in
+      let f = c .before .before .before .before .before .before in
       let o = begun f in
-      (omega (arith, o .pre .0), (o .pre .1, sym (f .form .ensures) ∙ c .before .before .before .before .match .keys7))
+      (omega (arith, o .pre .0), (o .pre .1 .0, o .pre .1 .1, sym (f .form .ensures) ∙ c .before .before .before .before .before .match .keys7))
 
   pub visit-set-requires : lts.Need-visit-set-requires (visit-calls t) (visit-at t) reads.Post
   visit-set-requires c κs =
-      let f = c .before .before .before .before .before in
+      let f = c .before .before .before .before .before .before in
       let o = begun f in
-      (omega (arith, o .pre .0), (o .pre .1, sym (f .form .ensures) ∙ c .before .before .before .before .match .keys8))
+      (omega (arith, o .pre .0), (o .pre .1 .0, o .pre .1 .1, sym (f .form .ensures) ∙ c .before .before .before .before .before .match .keys8))
 
   pub same-length : lts.Need-same-length (visit-calls t) (visit-at t) reads.Post
   same-length c = search needs
@@ -64,14 +73,11 @@ module _ (t : ℕ) where
   pub same-length-3 : lts.Need-same-length-3 (visit-calls t) (visit-at t) reads.Post
   same-length-3 c = search needs
 
-  pub returns : lts.Need-returns (visit-calls t) (visit-at t) reads.Post
-  returns c =
-      let f = c .before .before .before .before .before .before .before .before .before in
-      let k = c .before .before .before .before .before .before .before .before .match .keys1 in
-      ident-done (sym (f .form .ensures) ∙ k) (c .before .before .before .before .read .ensures)
-
   pub same-length-4 : lts.Need-same-length-4 (visit-calls t) (visit-at t) reads.Post
   same-length-4 c = search needs
+
+  pub returns : lts.Need-returns (visit-calls t) (visit-at t) reads.Post
+  returns c = ident-done (sym (c .before .before .before .before .before .before .before .before .before .before .before .before .form .ensures) ∙ c .before .before .before .before .before .before .before .before .before .before .before .match .keys1) (c .before .before .before .before .before .before .visit-atom .ensures)
 
   pub same-length-5 : lts.Need-same-length-5 (visit-calls t) (visit-at t) reads.Post
   same-length-5 c = search needs
@@ -82,23 +88,20 @@ module _ (t : ℕ) where
   pub same-length-7 : lts.Need-same-length-7 (visit-calls t) (visit-at t) reads.Post
   same-length-7 c = search needs
 
-  pub returns-2 : lts.Need-returns-2 (visit-calls t) (visit-at t) reads.Post
-  returns-2 c = search needs
-
   pub same-length-8 : lts.Need-same-length-8 (visit-calls t) (visit-at t) reads.Post
   same-length-8 c = search needs
 
   pub same-length-9 : lts.Need-same-length-9 (visit-calls t) (visit-at t) reads.Post
   same-length-9 c = search needs
 
+  pub returns-2 : lts.Need-returns-2 (visit-calls t) (visit-at t) reads.Post
+  returns-2 c = search needs
+
   pub same-length-10 : lts.Need-same-length-10 (visit-calls t) (visit-at t) reads.Post
   same-length-10 c = search needs
 
   pub same-length-11 : lts.Need-same-length-11 (visit-calls t) (visit-at t) reads.Post
   same-length-11 c = search needs
-
-  pub returns-3 : lts.Need-returns-3 (visit-calls t) (visit-at t) reads.Post
-  returns-3 c = search needs
 
   pub same-length-12 : lts.Need-same-length-12 (visit-calls t) (visit-at t) reads.Post
   same-length-12 c = search needs
@@ -109,11 +112,11 @@ module _ (t : ℕ) where
   pub same-length-14 : lts.Need-same-length-14 (visit-calls t) (visit-at t) reads.Post
   same-length-14 c = search needs
 
+  pub returns-3 : lts.Need-returns-3 (visit-calls t) (visit-at t) reads.Post
+  returns-3 c = search needs
+
   pub same-length-15 : lts.Need-same-length-15 (visit-calls t) (visit-at t) reads.Post
   same-length-15 c = search needs
-
-  pub returns-4 : lts.Need-returns-4 (visit-calls t) (visit-at t) reads.Post
-  returns-4 c = search needs
 
   pub same-length-16 : lts.Need-same-length-16 (visit-calls t) (visit-at t) reads.Post
   same-length-16 c = search needs
@@ -127,8 +130,8 @@ module _ (t : ℕ) where
   pub same-length-19 : lts.Need-same-length-19 (visit-calls t) (visit-at t) reads.Post
   same-length-19 c = search needs
 
-  pub returns-5 : lts.Need-returns-5 (visit-calls t) (visit-at t) reads.Post
-  returns-5 c = search needs
+  pub returns-4 : lts.Need-returns-4 (visit-calls t) (visit-at t) reads.Post
+  returns-4 c = search needs
 
   pub same-length-20 : lts.Need-same-length-20 (visit-calls t) (visit-at t) reads.Post
   same-length-20 c = search needs
@@ -142,11 +145,11 @@ module _ (t : ℕ) where
   pub same-length-23 : lts.Need-same-length-23 (visit-calls t) (visit-at t) reads.Post
   same-length-23 c = search needs
 
-  pub returns-6 : lts.Need-returns-6 (visit-calls t) (visit-at t) reads.Post
-  returns-6 c = search needs
-
   pub same-length-24 : lts.Need-same-length-24 (visit-calls t) (visit-at t) reads.Post
   same-length-24 c = search needs
+
+  pub returns-5 : lts.Need-returns-5 (visit-calls t) (visit-at t) reads.Post
+  returns-5 c = search needs
 
   pub same-length-25 : lts.Need-same-length-25 (visit-calls t) (visit-at t) reads.Post
   same-length-25 c = search needs
@@ -157,20 +160,47 @@ module _ (t : ℕ) where
   pub same-length-27 : lts.Need-same-length-27 (visit-calls t) (visit-at t) reads.Post
   same-length-27 c = search needs
 
-  pub returns-7 : lts.Need-returns-7 (visit-calls t) (visit-at t) reads.Post
-  returns-7 c = search needs
-
   pub same-length-28 : lts.Need-same-length-28 (visit-calls t) (visit-at t) reads.Post
   same-length-28 c = search needs
 
   pub same-length-29 : lts.Need-same-length-29 (visit-calls t) (visit-at t) reads.Post
   same-length-29 c = search needs
 
+  pub returns-6 : lts.Need-returns-6 (visit-calls t) (visit-at t) reads.Post
+  returns-6 c = search needs
+
   pub same-length-30 : lts.Need-same-length-30 (visit-calls t) (visit-at t) reads.Post
   same-length-30 c = search needs
 
   pub same-length-31 : lts.Need-same-length-31 (visit-calls t) (visit-at t) reads.Post
   same-length-31 c = search needs
+
+  pub same-length-32 : lts.Need-same-length-32 (visit-calls t) (visit-at t) reads.Post
+  same-length-32 c = search needs
+
+  pub same-length-33 : lts.Need-same-length-33 (visit-calls t) (visit-at t) reads.Post
+  same-length-33 c = search needs
+
+  pub same-length-34 : lts.Need-same-length-34 (visit-calls t) (visit-at t) reads.Post
+  same-length-34 c = search needs
+
+  pub returns-7 : lts.Need-returns-7 (visit-calls t) (visit-at t) reads.Post
+  returns-7 c = search needs
+
+  pub same-length-35 : lts.Need-same-length-35 (visit-calls t) (visit-at t) reads.Post
+  same-length-35 c = search needs
+
+  pub same-length-36 : lts.Need-same-length-36 (visit-calls t) (visit-at t) reads.Post
+  same-length-36 c = search needs
+
+  pub same-length-37 : lts.Need-same-length-37 (visit-calls t) (visit-at t) reads.Post
+  same-length-37 c = search needs
+
+  pub same-length-38 : lts.Need-same-length-38 (visit-calls t) (visit-at t) reads.Post
+  same-length-38 c = search needs
+
+  pub same-length-39 : lts.Need-same-length-39 (visit-calls t) (visit-at t) reads.Post
+  same-length-39 c = search needs
 
   pub returns-8 : lts.Need-returns-8 (visit-calls t) (visit-at t) reads.Post
   returns-8 c = search needs

@@ -1,12 +1,17 @@
 -- The needs of `visit_if`.
 use Prim.Native.Nat.{ℕ, _+_, _*_, _≤_}
-use mathlib.Core.Path.{_∙_}
+use mathlib.Core.Path.{_≡_, _∙_}
+use lib.ListN.{length}
 use Rattle.tree.specs.Tree.{size}
 use Rattle.table.specs.Part.{part, part-length}
-use Rattle.visits.proofs.Bounds as bounds
-use Rattle.visits.proofs.IfCase.{if-long, test-fits, then-long, then-fits, else-long, else-fits, if-done}
-use Rattle.work.specs.Tied.{raw}
+use Rattle.pass.specs.Visit.{notTail, sameTail}
+use Rattle.flags.specs.Flags.{Handed}
+use Rattle.flags.specs.declared.Part.the-variants.{NotTail, SameTail}
+use Rattle.registers.specs.Registers.{registersLength, held}
 use Rattle.visits.specs.Contract.{Done}
+use Rattle.visits.proofs.Bounds as bounds
+use Rattle.visits.proofs.Views.{handed}
+use Rattle.visits.proofs.IfCase.{if-long, test-fits, then-long, then-fits, else-long, else-fits, if-done}
 use borrow.Author.Needs.{needs}
 use native.Mathlib.Omega.{arith}
 use Rattle.visits.proofs.visit.+visit+visit_arguments+visit_begin+visit_define+visit_if+visit_lambda_function+visit_let+visit_list+visit_set.Lts-visit_if as lts
@@ -16,58 +21,68 @@ use Rattle.visits.proofs.visit.+visit+visit_arguments+visit_begin+visit
 module _ (t : ℕ) where
   -- the places that are looked back to, each from the one after it
 
-  abbrev entry : lts.After-parts (visit-if-calls t) (visit-if-at t) reads.Post → lts.Start (visit-if-calls t) (visit-if-at t) reads.Post
-  entry c = c .before .before .before .before .before .before .before .before
+  abbrev entry : lts.After-same-tail (visit-if-calls t) (visit-if-at t) reads.Post → lts.Start (visit-if-calls t) (visit-if-at t) reads.Post
+  entry c = c .before .before .before .before .before .before .before .before .before
 
-  abbrev handed : lts.After-visit (visit-if-calls t) (visit-if-at t) reads.Post → lts.After-parts (visit-if-calls t) (visit-if-at t) reads.Post
-  handed c = c .before .before .before .before .before .before
+  abbrev flagged : lts.After-visit (visit-if-calls t) (visit-if-at t) reads.Post → lts.After-not-tail (visit-if-calls t) (visit-if-at t) reads.Post
+  flagged c = c .before .before .before .before .before .before
 
   abbrev tested : lts.After-visit2 (visit-if-calls t) (visit-if-at t) reads.Post → lts.After-visit (visit-if-calls t) (visit-if-at t) reads.Post
-  tested c = c .before .before .before .before .before .before .before .before .before .before .before .before .before .before .before .before
+  tested c = c .before .before .before .before .before .before .before .before .before .before .before .before .before .before .before .before .before
 
   abbrev chosen : lts.After-visit3 (visit-if-calls t) (visit-if-at t) reads.Post → lts.After-visit2 (visit-if-calls t) (visit-if-at t) reads.Post
-  chosen c = c .before .before .before .before .before .before .before .before .before .before .before .before .before .before .before .before
+  chosen c = c .before .before .before .before .before .before .before .before .before .before .before .before .before .before .before .before .before
 
   abbrev start : lts.After-visit (visit-if-calls t) (visit-if-at t) reads.Post → lts.Start (visit-if-calls t) (visit-if-at t) reads.Post
-  start c = entry (handed c)
+  start c = entry (flagged c .before .before)
 
-  first : (c : lts.Start (visit-if-calls t) (visit-if-at t) reads.Post) → 4 ≤ size (c .pre .1 .0 .t)
-  first c = if-long (c .pre .1 .1) (c .pre .1 .0)
+  -- what the test and both branches are handed
 
-  second : (c : lts.After-visit (visit-if-calls t) (visit-if-at t) reads.Post) → c .visit .result .used + 3 ≤ size (start c .pre .1 .0 .t)
-  second c = let o = start c in then-long (o .pre .1 .1) (handed c .parts .ensures .0) (part (o .args .rs .now) 6) (c .visit .ensures) (o .pre .1 .0)
+  test : (c : lts.After-not-tail (visit-if-calls t) (visit-if-at t) reads.Post) → Handed (entry (c .before .before) .args .f) notTail (c .not-tail .result)
+  test c = handed NotTail (entry (c .before .before) .args .f) (c .not-tail .ensures)
 
-  third : (c : lts.After-visit2 (visit-if-calls t) (visit-if-at t) reads.Post)
-      → tested c .visit .result .used + c .visit2 .result .used + 2 ≤ size (start (tested c) .pre .1 .0 .t)
+  branch : (c : lts.After-same-tail (visit-if-calls t) (visit-if-at t) reads.Post) → Handed (entry c .args .f) sameTail (c .same-tail .result)
+  branch c = handed SameTail (entry c .args .f) (c .same-tail .ensures)
+
+  first : (c : lts.Start (visit-if-calls t) (visit-if-at t) reads.Post) → 4 ≤ size (c .pre .1 .1 .t)
+  first c = if-long (c .pre .1 .2) (c .pre .1 .1)
+
+  second : (c : lts.After-visit (visit-if-calls t) (visit-if-at t) reads.Post) → c .visit .result + 3 ≤ size (start c .pre .1 .1 .t)
+  second c = let o = start c in then-long (o .pre .1 .2) (test (flagged c)) (part (o .args .rs .now) 6) (c .visit .ensures) (o .pre .1 .1)
+
+  third : (c : lts.After-visit2 (visit-if-calls t) (visit-if-at t) reads.Post) → tested c .visit .result + c .visit2 .result + 2 ≤ size (start (tested c) .pre .1 .1 .t)
   third c = let a = tested c in
       let o = start a in
       let rs = o .args .rs .now in
-      let h = handed a .parts .ensures in
-      else-long (o .pre .1 .1) (h .0) (h .1) (part rs 6) (a .visit .ensures) (part rs (6 * (1 + a .visit .result .used))) (c .visit2 .ensures) (o .pre .1 .0)
+      else-long (o .pre .1 .2) (test (flagged a)) (branch (flagged a .before .before)) (part rs 6) (a .visit .ensures) (part rs (6 * (1 + a .visit .result)))
+      (c .visit2 .ensures) (o .pre .1 .1)
 
   done : (c : lts.After-visit3 (visit-if-calls t) (visit-if-at t) reads.Post)
       → let o = start (tested (chosen c)) .args in
-      Done (o .classes .now) (o .all .now) (o .rs .now) (o .at) (o .f) (raw (o .p) (o .facts .now) (o .captured .now) (o .arguments .now) (o .work .now))
-      (1 + tested (chosen c) .visit .result .used + chosen c .visit2 .result .used + c .visit3 .result .used)
-      (raw (c .visit3 .result .pass) (c .visit3 .last .1 .1 .1 .1 .1 .1 .0) (c .visit3 .last .1 .1 .1 .1 .1 .1 .1 .0)
-      (c .visit3 .last .1 .1 .1 .1 .1 .1 .1 .1 .0) (c .visit3 .last .1 .1 .1 .1 .1 .1 .1 .1 .1 .0))
+      Done (o .classes .now) (o .all .now) (o .rs .now) (o .at) (o .f) (held (o .r .now) (o .facts .now) (o .captured .now) (o .arguments .now) (o .work .now))
+      (1 + tested (chosen c) .visit .result + chosen c .visit2 .result + c .visit3 .result)
+      (held (c .visit3 .last .1 .1 .1 .1 .1 .0) (c .visit3 .last .1 .1 .1 .1 .1 .1 .0) (c .visit3 .last .1 .1 .1 .1 .1 .1 .1 .0) (c .visit3 .last .1 .1 .1 .1 .1 .1 .1 .1 .0) (c .visit3 .last .1 .1 .1 .1 .1 .1 .1 .1 .1 .0))
   done c = let d = chosen c in
       let a = tested d in
       let o = start a in
       let rs = o .args .rs .now in
-      let h = handed a .parts .ensures in
-      let i = 1 + a .visit .result .used in
-      let j = i + d .visit2 .result .used in
-      if-done (o .pre .1 .1) (h .0) (h .1) (part rs 6) (a .visit .ensures) (part rs (6 * i)) (d .visit2 .ensures) (h .1) (part rs (6 * j)) (c .visit3 .ensures)
+      let k = branch (flagged a .before .before) in
+      let i = 1 + a .visit .result in
+      let j = i + d .visit2 .result in
+      if-done (o .pre .1 .2) (test (flagged a)) k (part rs 6) (a .visit .ensures) (part rs (6 * i)) (d .visit2 .ensures) k (part rs (6 * j)) (c .visit3 .ensures)
 
-  pub parts-requires : lts.Need-parts-requires (visit-if-calls t) (visit-if-at t) reads.Post
-  parts-requires c κs = (tt, tt)
+  -- the table of the pass's numbers keeps its length
+  sized : (c : lts.After-visit (visit-if-calls t) (visit-if-at t) reads.Post) → length (c .visit .last .1 .1 .1 .1 .1 .0) ≡ registersLength
+  sized c = c .visit .kept .1 .1 .1 .1 .1 .0 ∙ start c .pre .1 .0
+
+  pub same-tail-requires : lts.Need-same-tail-requires (visit-if-calls t) (visit-if-at t) reads.Post
+  same-tail-requires c κs = search needs
 
   pub sub-visit : lts.Need-sub-visit (visit-if-calls t) (visit-if-at t) reads.Post
-  sub-visit c = let o = entry c in omega (arith, first o, bounds.whole (o .pre .1 .0))
+  sub-visit c = let o = entry c in omega (arith, first o, bounds.whole (o .pre .1 .1))
 
   pub part-visit-start : lts.Need-part-visit-start (visit-if-calls t) (visit-if-at t) reads.Post
-  part-visit-start c = let o = entry c in omega (arith, first o, bounds.whole (o .pre .1 .0))
+  part-visit-start c = let o = entry c in omega (arith, first o, bounds.whole (o .pre .1 .1))
 
   pub part-visit-end : lts.Need-part-visit-end (visit-if-calls t) (visit-if-at t) reads.Post
   part-visit-end c = search needs
@@ -75,103 +90,106 @@ module _ (t : ℕ) where
   pub add-visit : lts.Need-add-visit (visit-if-calls t) (visit-if-at t) reads.Post
   add-visit c = search needs
 
+  pub not-tail-requires : lts.Need-not-tail-requires (visit-if-calls t) (visit-if-at t) reads.Post
+  not-tail-requires c κs = search needs
+
   pub visit-requires : lts.Need-visit-requires (visit-if-calls t) (visit-if-at t) reads.Post
   visit-requires c κs = let h = c .before .before .before .before .before in
-      let o = entry h in
+      let o = entry (h .before .before) in
       let rs = o .args .rs .now in
-      let x = o .pre .1 .0 in (
+      let x = o .pre .1 .1 in (
         omega (arith, o .pre .0, first o, bounds.whole x, part-length rs 6),
-        test-fits (o .pre .1 .1) (h .parts .ensures .0) (part rs 6) x,
+        (o .pre .1 .0, test-fits (o .pre .1 .2) (test h) (part rs 6) x),
       )
 
   pub add-i : lts.Need-add-i (visit-if-calls t) (visit-if-at t) reads.Post
-  add-i c = let a = c .before .before .before .before .before .before .before .before .before in omega (arith, second a, bounds.whole (start a .pre .1 .0))
+  add-i c = let a = c .before .before .before .before .before .before .before .before .before .before in omega (arith, second a, bounds.whole (start a .pre .1 .1))
 
   pub mul-start : lts.Need-mul-start (visit-if-calls t) (visit-if-at t) reads.Post
-  mul-start c = let a = c .before .before .before .before .before .before .before .before .before .before in omega (arith, second a, bounds.whole (start a .pre .1 .0))
+  mul-start c = let a = c .before .before .before .before .before .before .before .before .before .before in omega (arith, second a, bounds.whole (start a .pre .1 .1))
 
   pub mul-visit : lts.Need-mul-visit (visit-if-calls t) (visit-if-at t) reads.Post
-  mul-visit c = let a = c .before .before .before .before .before .before .before .before .before .before in omega (arith, second a, bounds.whole (start a .pre .1 .0))
+  mul-visit c = let a = c .before .before .before .before .before .before .before .before .before .before in omega (arith, second a, bounds.whole (start a .pre .1 .1))
 
   pub sub-visit-2 : lts.Need-sub-visit-2 (visit-if-calls t) (visit-if-at t) reads.Post
-  sub-visit-2 c = let a = c .before .before .before .before .before .before .before .before .before .before in omega (arith, second a, bounds.whole (start a .pre .1 .0))
+  sub-visit-2 c = let a = c .before .before .before .before .before .before .before .before .before .before in omega (arith, second a, bounds.whole (start a .pre .1 .1))
 
   pub part-visit-start-2 : lts.Need-part-visit-start-2 (visit-if-calls t) (visit-if-at t) reads.Post
-  part-visit-start-2 c = let a = c .before .before .before .before .before .before .before .before .before .before in omega (arith, second a, bounds.whole (start a .pre .1 .0))
+  part-visit-start-2 c = let a = c .before .before .before .before .before .before .before .before .before .before in omega (arith, second a, bounds.whole (start a .pre .1 .1))
 
   pub part-visit-end-2 : lts.Need-part-visit-end-2 (visit-if-calls t) (visit-if-at t) reads.Post
   part-visit-end-2 c = search needs
 
   pub add-visit-2 : lts.Need-add-visit-2 (visit-if-calls t) (visit-if-at t) reads.Post
-  add-visit-2 c = let a = c .before .before .before .before .before .before .before .before .before .before .before in omega (arith, second a, bounds.whole (start a .pre .1 .0))
+  add-visit-2 c = let a = c .before .before .before .before .before .before .before .before .before .before .before in omega (arith, second a, bounds.whole (start a .pre .1 .1))
 
   pub visit-requires-2 : lts.Need-visit-requires-2 (visit-if-calls t) (visit-if-at t) reads.Post
-  visit-requires-2 c κs = let a = c .before .before .before .before .before .before .before .before .before .before .before .before .before .before .before in
+  visit-requires-2 c κs = let a = c .before .before .before .before .before .before .before .before .before .before .before .before .before .before .before .before in
       let o = start a in
       let rs = o .args .rs .now in
-      let x = o .pre .1 .0 in
-      let h = handed a .parts .ensures in
-      let i = 1 + a .visit .result .used in (
+      let x = o .pre .1 .1 in
+      let i = 1 + a .visit .result in (
         omega (arith, o .pre .0, second a, bounds.whole x, part-length rs (6 * i)),
-        then-fits (o .pre .1 .1) (h .0) (h .1) (part rs 6) (a .visit .ensures) (part rs (6 * i)) x,
+        (
+          sized a,
+          then-fits (o .pre .1 .2) (test (flagged a)) (branch (flagged a .before .before)) (part rs 6) (a .visit .ensures) (part rs (6 * i)) x,
+        ),
       )
 
   pub add-j : lts.Need-add-j (visit-if-calls t) (visit-if-at t) reads.Post
-  add-j c = let a = c .before .before .before .before .before .before .before .before .before in omega (arith, third a, bounds.whole (start (tested a) .pre .1 .0))
+  add-j c = let a = c .before .before .before .before .before .before .before .before .before .before in omega (arith, third a, bounds.whole (start (tested a) .pre .1 .1))
 
   pub mul-next : lts.Need-mul-next (visit-if-calls t) (visit-if-at t) reads.Post
-  mul-next c = let a = c .before .before .before .before .before .before .before .before .before .before in omega (arith, third a, bounds.whole (start (tested a) .pre .1 .0))
+  mul-next c = let a = c .before .before .before .before .before .before .before .before .before .before in omega (arith, third a, bounds.whole (start (tested a) .pre .1 .1))
 
   pub mul-visit-2 : lts.Need-mul-visit-2 (visit-if-calls t) (visit-if-at t) reads.Post
-  mul-visit-2 c = let a = c .before .before .before .before .before .before .before .before .before .before in omega (arith, third a, bounds.whole (start (tested a) .pre .1 .0))
+  mul-visit-2 c = let a = c .before .before .before .before .before .before .before .before .before .before in omega (arith, third a, bounds.whole (start (tested a) .pre .1 .1))
 
   pub sub-visit-3 : lts.Need-sub-visit-3 (visit-if-calls t) (visit-if-at t) reads.Post
-  sub-visit-3 c = let a = c .before .before .before .before .before .before .before .before .before .before in omega (arith, third a, bounds.whole (start (tested a) .pre .1 .0))
+  sub-visit-3 c = let a = c .before .before .before .before .before .before .before .before .before .before in omega (arith, third a, bounds.whole (start (tested a) .pre .1 .1))
 
   pub part-visit-start-3 : lts.Need-part-visit-start-3 (visit-if-calls t) (visit-if-at t) reads.Post
-  part-visit-start-3 c = let a = c .before .before .before .before .before .before .before .before .before .before in omega (arith, third a, bounds.whole (start (tested a) .pre .1 .0))
+  part-visit-start-3 c = let a = c .before .before .before .before .before .before .before .before .before .before in omega (arith, third a, bounds.whole (start (tested a) .pre .1 .1))
 
   pub part-visit-end-3 : lts.Need-part-visit-end-3 (visit-if-calls t) (visit-if-at t) reads.Post
   part-visit-end-3 c = search needs
 
   pub add-visit-3 : lts.Need-add-visit-3 (visit-if-calls t) (visit-if-at t) reads.Post
-  add-visit-3 c = let a = c .before .before .before .before .before .before .before .before .before .before .before in omega (arith, third a, bounds.whole (start (tested a) .pre .1 .0))
+  add-visit-3 c = let a = c .before .before .before .before .before .before .before .before .before .before .before in omega (arith, third a, bounds.whole (start (tested a) .pre .1 .1))
 
   pub visit-requires-3 : lts.Need-visit-requires-3 (visit-if-calls t) (visit-if-at t) reads.Post
-  visit-requires-3 c κs = let d = c .before .before .before .before .before .before .before .before .before .before .before .before .before .before .before in
+  visit-requires-3 c κs = let d = c .before .before .before .before .before .before .before .before .before .before .before .before .before .before .before .before in
       let a = tested d in
       let o = start a in
       let rs = o .args .rs .now in
-      let x = o .pre .1 .0 in
-      let h = handed a .parts .ensures in
-      let i = 1 + a .visit .result .used in
-      let j = i + d .visit2 .result .used in (
+      let x = o .pre .1 .1 in
+      let k = branch (flagged a .before .before) in
+      let i = 1 + a .visit .result in
+      let j = i + d .visit2 .result in (
         omega (arith, o .pre .0, third d, bounds.whole x, part-length rs (6 * j)),
-        else-fits (o .pre .1 .1) (h .0) (h .1) (part rs 6) (a .visit .ensures) (part rs (6 * i)) (d .visit2 .ensures) (h .1) (part rs (6 * j)) x,
+        (
+          d .visit2 .kept .1 .1 .1 .1 .1 .0 ∙ sized a,
+          else-fits (o .pre .1 .2) (test (flagged a)) k (part rs 6) (a .visit .ensures) (part rs (6 * i)) (d .visit2 .ensures) k (part rs (6 * j)) x,
+        ),
       )
 
-  pub add-t25 : lts.Need-add-t25 (visit-if-calls t) (visit-if-at t) reads.Post
-  add-t25 c = let e = c .before .before .before .before .before .before .before .before .before .before in omega (arith, bounds.used (start (tested (chosen e)) .pre .1 .0) (done e))
+  pub add-result : lts.Need-add-result (visit-if-calls t) (visit-if-at t) reads.Post
+  add-result c = let e = c .before .before .before .before .before .before .before .before .before .before in omega (arith, bounds.used (start (tested (chosen e)) .pre .1 .1) (done e))
 
   pub same-length : lts.Need-same-length (visit-if-calls t) (visit-if-at t) reads.Post
-  same-length c = let e = c .before .before .before .before .before .before .before .before .before .before in
-      let d = chosen e in
-      e .visit3 .kept .1 .1 .1 .1 .1 .1 .0 ∙ d .visit2 .kept .1 .1 .1 .1 .1 .1 .0 ∙ tested d .visit .kept .1 .1 .1 .1 .1 .1 .0
+  same-length c = let e = c .before .before .before .before .before .before .before .before .before .before in let d = chosen e in e .visit3 .kept .1 .1 .1 .1 .1 .0 ∙ d .visit2 .kept .1 .1 .1 .1 .1 .0 ∙ tested d .visit .kept .1 .1 .1 .1 .1 .0
 
   pub same-length-2 : lts.Need-same-length-2 (visit-if-calls t) (visit-if-at t) reads.Post
-  same-length-2 c = let e = c .before .before .before .before .before .before .before .before .before .before in
-      let d = chosen e in
-      e .visit3 .kept .1 .1 .1 .1 .1 .1 .1 .0 ∙ d .visit2 .kept .1 .1 .1 .1 .1 .1 .1 .0 ∙ tested d .visit .kept .1 .1 .1 .1 .1 .1 .1 .0
+  same-length-2 c = let e = c .before .before .before .before .before .before .before .before .before .before in let d = chosen e in e .visit3 .kept .1 .1 .1 .1 .1 .1 .0 ∙ d .visit2 .kept .1 .1 .1 .1 .1 .1 .0 ∙ tested d .visit .kept .1 .1 .1 .1 .1 .1 .0
 
   pub same-length-3 : lts.Need-same-length-3 (visit-if-calls t) (visit-if-at t) reads.Post
-  same-length-3 c = let e = c .before .before .before .before .before .before .before .before .before .before in
-      let d = chosen e in
-      e .visit3 .kept .1 .1 .1 .1 .1 .1 .1 .1 .0 ∙ d .visit2 .kept .1 .1 .1 .1 .1 .1 .1 .1 .0 ∙ tested d .visit .kept .1 .1 .1 .1 .1 .1 .1 .1 .0
+  same-length-3 c = let e = c .before .before .before .before .before .before .before .before .before .before in let d = chosen e in e .visit3 .kept .1 .1 .1 .1 .1 .1 .1 .0 ∙ d .visit2 .kept .1 .1 .1 .1 .1 .1 .1 .0 ∙ tested d .visit .kept .1 .1 .1 .1 .1 .1 .1 .0
 
   pub same-length-4 : lts.Need-same-length-4 (visit-if-calls t) (visit-if-at t) reads.Post
-  same-length-4 c = let e = c .before .before .before .before .before .before .before .before .before .before in
-      let d = chosen e in
-      e .visit3 .kept .1 .1 .1 .1 .1 .1 .1 .1 .1 .0 ∙ d .visit2 .kept .1 .1 .1 .1 .1 .1 .1 .1 .1 .0 ∙ tested d .visit .kept .1 .1 .1 .1 .1 .1 .1 .1 .1 .0
+  same-length-4 c = let e = c .before .before .before .before .before .before .before .before .before .before in let d = chosen e in e .visit3 .kept .1 .1 .1 .1 .1 .1 .1 .1 .0 ∙ d .visit2 .kept .1 .1 .1 .1 .1 .1 .1 .1 .0 ∙ tested d .visit .kept .1 .1 .1 .1 .1 .1 .1 .1 .0
+
+  pub same-length-5 : lts.Need-same-length-5 (visit-if-calls t) (visit-if-at t) reads.Post
+  same-length-5 c = let e = c .before .before .before .before .before .before .before .before .before .before in let d = chosen e in e .visit3 .kept .1 .1 .1 .1 .1 .1 .1 .1 .1 .0 ∙ d .visit2 .kept .1 .1 .1 .1 .1 .1 .1 .1 .1 .0 ∙ tested d .visit .kept .1 .1 .1 .1 .1 .1 .1 .1 .1 .0
 
   pub returns : lts.Need-returns (visit-if-calls t) (visit-if-at t) reads.Post
   returns c = done (c .before .before .before .before .before .before .before .before .before .before)

@@ -1,17 +1,16 @@
 -- The needs of `visit_lambda_function`.
-use Prim.Native.Nat.{ℕ, _+_, _-_, _*_, _≤_}
-use mathlib.Core.List.{List}
+use Prim.Native.Nat.{ℕ, _+_, _*_, _≤_}
 use mathlib.Core.Path.{_≡_, subst, sym, _∙_}
-use lib.ListN.{length, take, drop}
-use Rattle.tree.specs.Record.{width}
+use lib.ListN.{length}
 use Rattle.tree.specs.RecordLaws.{nth}
 use Rattle.tree.specs.Tree.{size}
 use Rattle.tree.specs.StandsLaws.{tree-few}
-use Rattle.table.specs.Part.{part-is, part-length}
-use Rattle.work.specs.Tied.{raw}
+use Rattle.table.specs.Part.{part-length}
 use Rattle.flags.specs.Flags.{HandsBody}
 use Rattle.flags.specs.declared.Flags.{Flags as Coded}
+use Rattle.registers.specs.Registers.{registersLength, held}
 use Rattle.visits.specs.Contract.{Done}
+use Rattle.visits.proofs.Views.{part-after}
 use Rattle.visits.proofs.Bounds as bounds
 use Rattle.visits.proofs.LambdaCase.{lambda-long, lambda-fits, body-fits, body-stands, end-fit, lambda-done}
 use borrow.Author.Needs.{needs}
@@ -21,114 +20,72 @@ use Rattle.visits.proofs.visit.visit_lambda_function.Reads as reads
 use Rattle.visits.proofs.visit.+visit+visit_arguments+visit_begin+visit_define+visit_if+visit_lambda_function+visit_let+visit_list+visit_set.Proof.Base.{visit-lambda-function-at, visit-lambda-function-calls}
 
 module _ (t : ℕ) where
-  abbrev to-start :
-      lts.After-count (visit-lambda-function-calls t) (visit-lambda-function-at t) reads.Post →
-      lts.Start (visit-lambda-function-calls t) (visit-lambda-function-at t) reads.Post
-  to-start c = c .before .before .before .before .before .before .before .before
+  -- the places that are looked back to, each from the one after it
 
-  abbrev to-count :
-      lts.After-wide (visit-lambda-function-calls t) (visit-lambda-function-at t) reads.Post →
-      lts.After-count (visit-lambda-function-calls t) (visit-lambda-function-at t) reads.Post
-  to-count c = c .before
+  abbrev to-start : lts.After-wide (visit-lambda-function-calls t) (visit-lambda-function-at t) reads.Post → lts.Start (visit-lambda-function-calls t) (visit-lambda-function-at t) reads.Post
+  to-start c = c .before .before .before .before .before .before .before .before .before .before
 
-  abbrev to-wide :
-      lts.After-enter-lambda (visit-lambda-function-calls t) (visit-lambda-function-at t) reads.Post →
-      lts.After-wide (visit-lambda-function-calls t) (visit-lambda-function-at t) reads.Post
-  to-wide c = c .before .before .before .before .before
+  abbrev to-wide : lts.After-open-lambda (visit-lambda-function-calls t) (visit-lambda-function-at t) reads.Post → lts.After-wide (visit-lambda-function-calls t) (visit-lambda-function-at t) reads.Post
+  to-wide c = c .before .before .before .before .before .before
 
-  abbrev to-enter-lambda :
-      lts.After-id (visit-lambda-function-calls t) (visit-lambda-function-at t) reads.Post →
-      lts.After-enter-lambda (visit-lambda-function-calls t) (visit-lambda-function-at t) reads.Post
-  to-enter-lambda c = c .before .before .before .before .before .before .before .before
+  abbrev to-open-lambda : lts.After-id (visit-lambda-function-calls t) (visit-lambda-function-at t) reads.Post → lts.After-open-lambda (visit-lambda-function-calls t) (visit-lambda-function-at t) reads.Post
+  to-open-lambda c = c .before .before .before .before .before .before .before .before .before .before
 
-  abbrev to-id :
-      lts.After-part (visit-lambda-function-calls t) (visit-lambda-function-at t) reads.Post →
-      lts.After-id (visit-lambda-function-calls t) (visit-lambda-function-at t) reads.Post
+  abbrev to-id : lts.After-part (visit-lambda-function-calls t) (visit-lambda-function-at t) reads.Post → lts.After-id (visit-lambda-function-calls t) (visit-lambda-function-at t) reads.Post
   to-id c = c .before
 
-  abbrev to-body :
-      lts.After-visit (visit-lambda-function-calls t) (visit-lambda-function-at t) reads.Post →
-      lts.After-part (visit-lambda-function-calls t) (visit-lambda-function-at t) reads.Post
-  to-body c = c .before .before .before .before .before
+  abbrev to-body : lts.After-visit (visit-lambda-function-calls t) (visit-lambda-function-at t) reads.Post → lts.After-part (visit-lambda-function-calls t) (visit-lambda-function-at t) reads.Post
+  to-body c = c .before .before .before .before .before .before
 
-  abbrev to-visit :
-      lts.After-holds-lambda (visit-lambda-function-calls t) (visit-lambda-function-at t) reads.Post →
-      lts.After-visit (visit-lambda-function-calls t) (visit-lambda-function-at t) reads.Post
-  to-visit c = c .before .before .before .before .before .before .before .before .before .before
+  abbrev to-visit : lts.After-holds-lambda (visit-lambda-function-calls t) (visit-lambda-function-at t) reads.Post → lts.After-visit (visit-lambda-function-calls t) (visit-lambda-function-at t) reads.Post
+  to-visit c = c .before .before .before .before .before .before .before .before .before .before .before
 
-  abbrev to-holds-lambda :
-      lts.After-leave-lambda (visit-lambda-function-calls t) (visit-lambda-function-at t) reads.Post →
-      lts.After-holds-lambda (visit-lambda-function-calls t) (visit-lambda-function-at t) reads.Post
-  to-holds-lambda c = c .before .before .before .before .before
+  abbrev to-holds-lambda : lts.After-close-lambda (visit-lambda-function-calls t) (visit-lambda-function-at t) reads.Post → lts.After-holds-lambda (visit-lambda-function-calls t) (visit-lambda-function-at t) reads.Post
+  to-holds-lambda c = c .before .before .before .before .before .before
+
+  abbrev opened : lts.After-part (visit-lambda-function-calls t) (visit-lambda-function-at t) reads.Post → lts.After-open-lambda (visit-lambda-function-calls t) (visit-lambda-function-at t) reads.Post
+  opened c = to-open-lambda (to-id c)
+
+  abbrev start : lts.After-open-lambda (visit-lambda-function-calls t) (visit-lambda-function-at t) reads.Post → lts.Start (visit-lambda-function-calls t) (visit-lambda-function-at t) reads.Post
+  start c = to-start (to-wide c)
 
   hands : {g h : Coded} {at i j k m : ℕ} → i ≡ j → m ≡ k → HandsBody g at i k h → HandsBody g at j m h
   hands {g} {h} {at} {i} {j} {k} {m} e d b = subst (λ (l : ℕ). HandsBody g at l m h) e (subst (λ (l : ℕ). HandsBody g at i l h) (sym d) b)
 
-  -- the part after the names
-  rest : (l : List ℕ) (k : ℕ) → take (length l - (6 + 6 * k)) (drop (6 + 6 * k) l) ≡ drop (width * (1 + k)) l
-  rest l k = part-is l {k = 6 + 6 * k} {j = width * (1 + k)} (omega arith)
+  tells : (c : lts.After-wide (visit-lambda-function-calls t) (visit-lambda-function-at t) reads.Post) → c .wide .result ≡ nth (to-start c .args .all .now) (to-start c .args .at) .count
+  tells c = c .wide .ensures ∙ c .before .count .ensures
 
-  tells : (c : lts.After-wide (visit-lambda-function-calls t) (visit-lambda-function-at t) reads.Post) →
-      let count = to-count c in
-      let start = to-start count in
-      c .wide .result ≡ nth (start .args .all .now) (start .args .at) .count
-  tells c =
-      let count = to-count c in
-      c .wide .ensures ∙ count .count .ensures
-
-  long : (c : lts.After-wide (visit-lambda-function-calls t) (visit-lambda-function-at t) reads.Post) →
-      let count = to-count c in
-      let start = to-start count in
-      c .wide .result + 2 ≤ size (start .pre .1 .0 .t)
-  long c =
-      let count = to-count c in
-      let start = to-start count in
-      lambda-long (start .pre .1 .1) (tells c) (start .pre .1 .0)
+  long : (c : lts.After-wide (visit-lambda-function-calls t) (visit-lambda-function-at t) reads.Post) → c .wide .result + 2 ≤ size (to-start c .pre .1 .1 .t)
+  long c = let o = to-start c in lambda-long (o .pre .1 .2) (tells c) (o .pre .1 .1)
 
   handed : (c : lts.After-part (visit-lambda-function-calls t) (visit-lambda-function-at t) reads.Post) →
-      let id = to-id c in
-      let enter-lambda = to-enter-lambda id in
-      let wide = to-wide enter-lambda in
-      let count = to-count wide in
-      let start = to-start count in
-      HandsBody (start .args .f) (start .args .at) (nth (start .args .all .now) (start .args .at) .id) (wide .wide .result) (c .part .result)
-  handed c =
-      let id = to-id c in
-      let enter-lambda = to-enter-lambda id in
-      let wide = to-wide enter-lambda in
-      hands (id .id .ensures) (wide .wide .ensures) (c .part .ensures)
+      let o = start (opened c) .args in
+      HandsBody (o .f) (o .at) (nth (o .all .now) (o .at) .id) (to-wide (opened c) .wide .result) (c .part .result)
+  handed c = hands (to-id c .id .ensures) (to-wide (opened c) .wide .ensures) (c .part .ensures)
 
-  done : (c : lts.After-leave-lambda (visit-lambda-function-calls t) (visit-lambda-function-at t) reads.Post) →
-      let holds-lambda = to-holds-lambda c in
-      let visit = to-visit holds-lambda in
-      let body = to-body visit in
-      let id = to-id body in
-      let enter-lambda = to-enter-lambda id in
-      let wide = to-wide enter-lambda in
-      let count = to-count wide in
-      let start = to-start count in
-      Done (start .args .classes .now) (start .args .all .now) (start .args .rs .now) (start .args .at) (start .args .f)
-      (raw (start .args .p) (start .args .facts .now) (start .args .captured .now) (start .args .arguments .now) (start .args .work .now))
-      (1 + wide .wide .result + visit .visit .result .used)
-      (raw (c .leave-lambda .result) (c .leave-lambda .last .1 .1 .1 .1 .1 .0) (c .leave-lambda .last .1 .1 .1 .1 .1 .1 .0)
-      (c .leave-lambda .last .1 .1 .1 .1 .1 .1 .1 .0) (c .leave-lambda .last .1 .1 .1 .1 .1 .1 .1 .1 .0))
+  done : (c : lts.After-close-lambda (visit-lambda-function-calls t) (visit-lambda-function-at t) reads.Post) →
+      let visit = to-visit (to-holds-lambda c) in
+      let enter = opened (to-body visit) in
+      let o = start enter .args in
+      Done (o .classes .now) (o .all .now) (o .rs .now) (o .at) (o .f) (held (o .r .now) (o .facts .now) (o .captured .now) (o .arguments .now) (o .work .now))
+      (1 + to-wide enter .wide .result + visit .visit .result)
+      (held (c .close-lambda .last .1 .1 .1 .1 .0) (c .close-lambda .last .1 .1 .1 .1 .1 .0) (c .close-lambda .last .1 .1 .1 .1 .1 .1 .0) (c .close-lambda .last .1 .1 .1 .1 .1 .1 .1 .0) (c .close-lambda .last .1 .1 .1 .1 .1 .1 .1 .1 .0))
   done c =
       let holds-lambda = to-holds-lambda c in
       let visit = to-visit holds-lambda in
       let body = to-body visit in
-      let id = to-id body in
-      let enter-lambda = to-enter-lambda id in
-      let wide = to-wide enter-lambda in
-      let count = to-count wide in
-      let start = to-start count in
-      let k = wide .wide .result in
-      lambda-done (start .pre .1 .1) (tells wide) (enter-lambda .enter-lambda .ensures) (handed body)
-      (rest (start .args .rs .now) k) (visit .visit .ensures) (holds-lambda .holds-lambda .ensures) (c .leave-lambda .ensures)
+      let enter = opened body in
+      let wide = to-wide enter in
+      let o = start enter in
+      lambda-done (o .pre .1 .2) (tells wide) (enter .open-lambda .ensures) (handed body) (part-after (o .args .rs .now) (wide .wide .result))
+      (visit .visit .ensures) (holds-lambda .holds-lambda .ensures) (c .close-lambda .ensures)
+
+  -- the table of the pass's numbers keeps its length
+  sized : (c : lts.After-open-lambda (visit-lambda-function-calls t) (visit-lambda-function-at t) reads.Post) → length (c .open-lambda .last .1 .1 .1 .0) ≡ registersLength
+  sized c = c .open-lambda .kept .1 .1 .1 .0 ∙ start c .pre .1 .0
 
   pub count-requires : lts.Need-count-requires (visit-lambda-function-calls t) (visit-lambda-function-at t) reads.Post
-  count-requires c κs =
-      let start = c .before .before .before .before .before .before .before in
-      omega (arith, bounds.whole (start .pre .1 .0), bounds.some (start .pre .1 .0))
+  count-requires c κs = let x = c .before .before .before .before .before .before .before .before .pre .1 .1 in omega (arith, bounds.whole x, bounds.some x)
 
   pub wide-requires : lts.Need-wide-requires (visit-lambda-function-calls t) (visit-lambda-function-at t) reads.Post
   wide-requires c κs = search needs
@@ -136,12 +93,11 @@ module _ (t : ℕ) where
   pub add-start : lts.Need-add-start (visit-lambda-function-calls t) (visit-lambda-function-at t) reads.Post
   add-start c = search needs
 
-  pub enter-lambda-requires : lts.Need-enter-lambda-requires (visit-lambda-function-calls t) (visit-lambda-function-at t) reads.Post
-  enter-lambda-requires c κs =
-      let wide = c .before .before .before .before in
-      let count = to-count wide in
-      let start = to-start count in
-      lambda-fits (start .pre .1 .1) (tells wide) (start .pre .1 .0)
+  pub open-lambda-requires : lts.Need-open-lambda-requires (visit-lambda-function-calls t) (visit-lambda-function-at t) reads.Post
+  open-lambda-requires c κs =
+      let wide = c .before .before .before .before .before in
+      let o = to-start wide in
+      (o .pre .1 .0, lambda-fits (o .pre .1 .2) (tells wide) (o .pre .1 .1))
 
   pub mul-start : lts.Need-mul-start (visit-lambda-function-calls t) (visit-lambda-function-at t) reads.Post
   mul-start c = search needs
@@ -150,186 +106,122 @@ module _ (t : ℕ) where
   add-start-2 c = search needs
 
   pub add-first : lts.Need-add-first (visit-lambda-function-calls t) (visit-lambda-function-at t) reads.Post
-  add-first c =
-      let enter-lambda = c .before .before .before .before .before .before in
-      let wide = to-wide enter-lambda in
-      let count = to-count wide in
-      let start = to-start count in
-      omega (arith, long wide, bounds.whole (start .pre .1 .0))
+  add-first c = let wide = c .before .before .before .before .before .before .before .before .before .before .before .before .before .before in omega (arith, long wide, bounds.whole (to-start wide .pre .1 .1))
 
   pub add-first-2 : lts.Need-add-first-2 (visit-lambda-function-calls t) (visit-lambda-function-at t) reads.Post
-  add-first-2 c =
-      let enter-lambda = c .before .before .before .before .before .before in
-      let wide = to-wide enter-lambda in
-      let count = to-count wide in
-      let start = to-start count in
-      omega (arith, long wide, bounds.whole (start .pre .1 .0))
+  add-first-2 c = let wide = c .before .before .before .before .before .before .before .before .before .before .before .before .before .before in omega (arith, long wide, bounds.whole (to-start wide .pre .1 .1))
 
   pub mul-visit : lts.Need-mul-visit (visit-lambda-function-calls t) (visit-lambda-function-at t) reads.Post
   mul-visit c = search needs
 
   pub sub-visit : lts.Need-sub-visit (visit-lambda-function-calls t) (visit-lambda-function-at t) reads.Post
-  sub-visit c =
-      let enter-lambda = c .before .before .before .before .before .before in
-      let wide = to-wide enter-lambda in
-      let count = to-count wide in
-      let start = to-start count in
-      omega (arith, long wide, bounds.whole (start .pre .1 .0))
+  sub-visit c = let wide = c .before .before .before .before .before .before .before .before .before .before .before .before .before .before in omega (arith, long wide, bounds.whole (to-start wide .pre .1 .1))
 
   pub part-visit-start : lts.Need-part-visit-start (visit-lambda-function-calls t) (visit-lambda-function-at t) reads.Post
-  part-visit-start c =
-      let enter-lambda = c .before .before .before .before .before .before in
-      let wide = to-wide enter-lambda in
-      let count = to-count wide in
-      let start = to-start count in
-      omega (arith, long wide, bounds.whole (start .pre .1 .0))
+  part-visit-start c = let wide = c .before .before .before .before .before .before .before .before .before .before .before .before .before .before in omega (arith, long wide, bounds.whole (to-start wide .pre .1 .1))
 
   pub part-visit-end : lts.Need-part-visit-end (visit-lambda-function-calls t) (visit-lambda-function-at t) reads.Post
   part-visit-end c = search needs
 
   pub id-requires : lts.Need-id-requires (visit-lambda-function-calls t) (visit-lambda-function-at t) reads.Post
-  id-requires c κs =
-      let enter-lambda = c .before .before .before .before .before .before .before in
-      let wide = to-wide enter-lambda in
-      let count = to-count wide in
-      let start = to-start count in
-      omega (arith, bounds.whole (start .pre .1 .0), bounds.some (start .pre .1 .0))
+  id-requires c κs = let x = start (c .before .before .before .before .before .before .before .before .before) .pre .1 .1 in omega (arith, bounds.whole x, bounds.some x)
 
   pub part-requires : lts.Need-part-requires (visit-lambda-function-calls t) (visit-lambda-function-at t) reads.Post
-  part-requires c κs =
-      let enter-lambda = to-enter-lambda c in
-      let wide = to-wide enter-lambda in
-      let count = to-count wide in
-      let start = to-start count in
-      let x = start .pre .1 .0 in omega (arith, x .flags .counter, x .fits .ample .counter)
+  part-requires c κs = let x = start (c .before .before .before .before .before .before .before .before .before .before) .pre .1 .1 in omega (arith, x .flags .counter, x .fits .ample .counter)
 
   pub visit-requires : lts.Need-visit-requires (visit-lambda-function-calls t) (visit-lambda-function-at t) reads.Post
   visit-requires c κs =
-      let body = c .before .before .before .before in
-      let id = to-id body in
-      let enter-lambda = to-enter-lambda id in
-      let wide = to-wide enter-lambda in
-      let count = to-count wide in
-      let start = to-start count in
-      let rs = start .args .rs .now in
-      let x = start .pre .1 .0 in
+      let body = c .before .before .before .before .before in
+      let enter = opened body in
+      let wide = to-wide enter in
+      let o = start enter in
+      let rs = o .args .rs .now in
+      let x = o .pre .1 .1 in
       let k = wide .wide .result in (
-        omega (arith, start .pre .0, long wide, bounds.whole x, part-length rs (6 + 6 * k)),
-        body-fits (start .pre .1 .1) (tells wide) (enter-lambda .enter-lambda .ensures) (handed body) (rest rs k) x,
+        omega (arith, o .pre .0, long wide, bounds.whole x, part-length rs (6 + 6 * k)),
+        (sized enter, body-fits (o .pre .1 .2) (tells wide) (enter .open-lambda .ensures) (handed body) (part-after rs k) x),
       )
 
   pub add-end : lts.Need-add-end (visit-lambda-function-calls t) (visit-lambda-function-at t) reads.Post
   add-end c =
-      let visit = c .before .before .before .before .before .before .before .before .before in
+      let visit = c .before .before .before .before .before .before .before .before .before .before in
       let body = to-body visit in
-      let id = to-id body in
-      let enter-lambda = to-enter-lambda id in
-      let wide = to-wide enter-lambda in
-      let count = to-count wide in
-      let start = to-start count in
-      let k = wide .wide .result in
-      let b = body-stands (start .pre .1 .1) (tells wide) (enter-lambda .enter-lambda .ensures) (handed body)
-      (rest (start .args .rs .now) k) (visit .visit .ensures) (start .pre .1 .0) in
+      let enter = opened body in
+      let wide = to-wide enter in
+      let o = start enter in
+      let b = body-stands (o .pre .1 .2) (tells wide) (enter .open-lambda .ensures) (handed body) (part-after (o .args .rs .now) (wide .wide .result))
+      (visit .visit .ensures) (o .pre .1 .1) in
       omega (arith, b .ends, tree-few (b .stands))
 
   pub holds-lambda-requires : lts.Need-holds-lambda-requires (visit-lambda-function-calls t) (visit-lambda-function-at t) reads.Post
   holds-lambda-requires c κs =
-      let visit = c .before .before .before .before .before .before .before .before .before in
+      let visit = c .before .before .before .before .before .before .before .before .before .before in
       let body = to-body visit in
-      let id = to-id body in
-      let enter-lambda = to-enter-lambda id in
-      let wide = to-wide enter-lambda in
-      let count = to-count wide in
-      let start = to-start count in
-      let k = wide .wide .result in
-      body-stands (start .pre .1 .1) (tells wide) (enter-lambda .enter-lambda .ensures) (handed body)
-      (rest (start .args .rs .now) k) (visit .visit .ensures) (start .pre .1 .0)
+      let enter = opened body in
+      let wide = to-wide enter in
+      let o = start enter in
+      body-stands (o .pre .1 .2) (tells wide) (enter .open-lambda .ensures) (handed body) (part-after (o .args .rs .now) (wide .wide .result))
+      (visit .visit .ensures) (o .pre .1 .1)
 
-  pub leave-lambda-requires : lts.Need-leave-lambda-requires (visit-lambda-function-calls t) (visit-lambda-function-at t) reads.Post
-  leave-lambda-requires c κs =
-      let holds-lambda = c .before .before .before .before in
+  pub close-lambda-requires : lts.Need-close-lambda-requires (visit-lambda-function-calls t) (visit-lambda-function-at t) reads.Post
+  close-lambda-requires c κs =
+      let holds-lambda = c .before .before .before .before .before in
       let visit = to-visit holds-lambda in
       let body = to-body visit in
-      let id = to-id body in
-      let enter-lambda = to-enter-lambda id in
-      let wide = to-wide enter-lambda in
-      let count = to-count wide in
-      let start = to-start count in
-      let k = wide .wide .result in
-      end-fit (start .pre .1 .1) (tells wide) (enter-lambda .enter-lambda .ensures) (handed body)
-      (rest (start .args .rs .now) k) (visit .visit .ensures) (holds-lambda .holds-lambda .ensures) (start .pre .1 .0)
+      let enter = opened body in
+      let wide = to-wide enter in
+      let o = start enter in (
+        visit .visit .kept .1 .1 .1 .1 .1 .0 ∙ sized enter,
+        end-fit (o .pre .1 .2) (tells wide) (enter .open-lambda .ensures) (handed body) (part-after (o .args .rs .now) (wide .wide .result))
+            (visit .visit .ensures) (holds-lambda .holds-lambda .ensures) (o .pre .1 .1),
+      )
 
-  pub add-t21 : lts.Need-add-t21 (visit-lambda-function-calls t) (visit-lambda-function-at t) reads.Post
-  add-t21 c =
-      let leave-lambda = c .before .before .before .before .before .before .before .before in
-      let holds-lambda = to-holds-lambda leave-lambda in
-      let visit = to-visit holds-lambda in
-      let body = to-body visit in
-      let id = to-id body in
-      let enter-lambda = to-enter-lambda id in
-      let wide = to-wide enter-lambda in
-      let count = to-count wide in
-      let start = to-start count in
-      omega (arith, long wide, bounds.whole (start .pre .1 .0))
+  pub add-result : lts.Need-add-result (visit-lambda-function-calls t) (visit-lambda-function-at t) reads.Post
+  add-result c = let wide = to-wide (opened (to-body (c .before .before .before .before .before .before .before .before .before .before .before .before .before .before .before .before .before .before .before .before .before .before .before .before .before .before .before))) in omega (arith, long wide, bounds.whole (to-start wide .pre .1 .1))
 
-  pub add-t31 : lts.Need-add-t31 (visit-lambda-function-calls t) (visit-lambda-function-at t) reads.Post
-  add-t31 c =
-      let leave-lambda = c .before .before .before .before .before .before .before .before .before in
-      let holds-lambda = to-holds-lambda leave-lambda in
-      let visit = to-visit holds-lambda in
-      let body = to-body visit in
-      let id = to-id body in
-      let enter-lambda = to-enter-lambda id in
-      let wide = to-wide enter-lambda in
-      let count = to-count wide in
-      let start = to-start count in
-      omega (arith, bounds.used (start .pre .1 .0) (done leave-lambda))
+  pub add-result-2 : lts.Need-add-result-2 (visit-lambda-function-calls t) (visit-lambda-function-at t) reads.Post
+  add-result-2 c =
+      let close-lambda = c .before .before .before .before .before .before .before .before .before .before in
+      let o = start (opened (to-body (to-visit (to-holds-lambda close-lambda)))) in
+      omega (arith, bounds.used (o .pre .1 .1) (done close-lambda))
 
   pub same-length : lts.Need-same-length (visit-lambda-function-calls t) (visit-lambda-function-at t) reads.Post
   same-length c =
-      let leave-lambda = c .before .before .before .before .before .before .before .before .before in
-      let holds-lambda = to-holds-lambda leave-lambda in
-      let visit = to-visit holds-lambda in
-      let body = to-body visit in
-      let id = to-id body in
-      let enter-lambda = to-enter-lambda id in
-      leave-lambda .leave-lambda .kept .1 .1 .1 .1 .1 .0
-      ∙ visit .visit .kept .1 .1 .1 .1 .1 .1 .0
-      ∙ enter-lambda .enter-lambda .kept .1 .1 .1 .1 .0
+      let close-lambda = c .before .before .before .before .before .before .before .before .before .before in
+      let visit = to-visit (to-holds-lambda close-lambda) in
+      close-lambda .close-lambda .kept .1 .1 .1 .1 .0
+      ∙ visit .visit .kept .1 .1 .1 .1 .1 .0
+      ∙ opened (to-body visit) .open-lambda .kept .1 .1 .1 .0
 
   pub same-length-2 : lts.Need-same-length-2 (visit-lambda-function-calls t) (visit-lambda-function-at t) reads.Post
   same-length-2 c =
-      let leave-lambda = c .before .before .before .before .before .before .before .before .before in
-      let holds-lambda = to-holds-lambda leave-lambda in
-      let visit = to-visit holds-lambda in
-      let body = to-body visit in
-      let id = to-id body in
-      let enter-lambda = to-enter-lambda id in
-      leave-lambda .leave-lambda .kept .1 .1 .1 .1 .1 .1 .0
-      ∙ visit .visit .kept .1 .1 .1 .1 .1 .1 .1 .0
-      ∙ enter-lambda .enter-lambda .kept .1 .1 .1 .1 .1 .0
+      let close-lambda = c .before .before .before .before .before .before .before .before .before .before in
+      let visit = to-visit (to-holds-lambda close-lambda) in
+      close-lambda .close-lambda .kept .1 .1 .1 .1 .1 .0
+      ∙ visit .visit .kept .1 .1 .1 .1 .1 .1 .0
+      ∙ opened (to-body visit) .open-lambda .kept .1 .1 .1 .1 .0
 
   pub same-length-3 : lts.Need-same-length-3 (visit-lambda-function-calls t) (visit-lambda-function-at t) reads.Post
   same-length-3 c =
-      let leave-lambda = c .before .before .before .before .before .before .before .before .before in
-      let holds-lambda = to-holds-lambda leave-lambda in
-      let visit = to-visit holds-lambda in
-      leave-lambda .leave-lambda .kept .1 .1 .1 .1 .1 .1 .1 .0
-      ∙ visit .visit .kept .1 .1 .1 .1 .1 .1 .1 .1 .0
+      let close-lambda = c .before .before .before .before .before .before .before .before .before .before in
+      let visit = to-visit (to-holds-lambda close-lambda) in
+      close-lambda .close-lambda .kept .1 .1 .1 .1 .1 .1 .0
+      ∙ visit .visit .kept .1 .1 .1 .1 .1 .1 .1 .0
+      ∙ opened (to-body visit) .open-lambda .kept .1 .1 .1 .1 .1 .0
 
   pub same-length-4 : lts.Need-same-length-4 (visit-lambda-function-calls t) (visit-lambda-function-at t) reads.Post
   same-length-4 c =
-      let leave-lambda = c .before .before .before .before .before .before .before .before .before in
-      let holds-lambda = to-holds-lambda leave-lambda in
-      let visit = to-visit holds-lambda in
-      let body = to-body visit in
-      let id = to-id body in
-      let enter-lambda = to-enter-lambda id in
-      leave-lambda .leave-lambda .kept .1 .1 .1 .1 .1 .1 .1 .1 .0
+      let close-lambda = c .before .before .before .before .before .before .before .before .before .before in
+      close-lambda .close-lambda .kept .1 .1 .1 .1 .1 .1 .1 .0
+      ∙ to-visit (to-holds-lambda close-lambda) .visit .kept .1 .1 .1 .1 .1 .1 .1 .1 .0
+
+  pub same-length-5 : lts.Need-same-length-5 (visit-lambda-function-calls t) (visit-lambda-function-at t) reads.Post
+  same-length-5 c =
+      let close-lambda = c .before .before .before .before .before .before .before .before .before .before in
+      let visit = to-visit (to-holds-lambda close-lambda) in
+      close-lambda .close-lambda .kept .1 .1 .1 .1 .1 .1 .1 .1 .0
       ∙ visit .visit .kept .1 .1 .1 .1 .1 .1 .1 .1 .1 .0
-      ∙ enter-lambda .enter-lambda .kept .1 .1 .1 .1 .1 .1 .1 .0
+      ∙ opened (to-body visit) .open-lambda .kept .1 .1 .1 .1 .1 .1 .1 .0
 
   pub returns : lts.Need-returns (visit-lambda-function-calls t) (visit-lambda-function-at t) reads.Post
-  returns c =
-      let leave-lambda = c .before .before .before .before .before .before .before .before .before in
-      done leave-lambda
+  returns c = done (c .before .before .before .before .before .before .before .before .before .before)

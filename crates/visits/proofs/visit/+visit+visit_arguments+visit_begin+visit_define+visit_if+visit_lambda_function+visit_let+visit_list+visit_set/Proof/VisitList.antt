@@ -2,11 +2,15 @@
 use Prim.Native.Nat.{ℕ, suc, _+_, _-_, _*_, _≤_}
 use mathlib.Core.Path.{_≡_, subst, _∙_}
 use lib.Dec.{eqb}
+use lib.ListN.{length}
 use Rattle.table.specs.Part.{part, part-length}
 use Rattle.tree.specs.RecordLaws.{nth}
 use Rattle.tree.specs.Tree.{size}
-use Rattle.flags.specs.Flags.{HandsHead}
-use Rattle.visits.proofs.Views.{part-after}
+use Rattle.pass.specs.Visit.{argumentFlags}
+use Rattle.flags.specs.Flags.{Handed, HandsHead}
+use Rattle.flags.specs.declared.Part.the-variants.{Argument, Head}
+use Rattle.registers.specs.Registers.{registersLength}
+use Rattle.visits.proofs.Views.{part-after, handed}
 use Rattle.visits.proofs.Bounds as bounds
 use Rattle.visits.proofs.CallCase.{form-lambda, call-long, operator-stands, operator-long, operands-fit, operator-fits, call-fits, call-done}
 use borrow.Author.Needs.{needs}
@@ -19,40 +23,57 @@ module _ (t : ℕ) where
   -- the places that are looked back to, each from the one after it
 
   abbrev entry : lts.After-wide (visit-list-calls t) (visit-list-at t) reads.Post → lts.Start (visit-list-calls t) (visit-list-at t) reads.Post
-  entry c = c .before .before .before .before .before .before .before .before .before
+  entry c = c .before .before .before .before .before .before .before .before .before .before
 
   abbrev counted : lts.After-extent-at (visit-list-calls t) (visit-list-at t) reads.Post → lts.After-wide (visit-list-calls t) (visit-list-at t) reads.Post
   counted c = c .before
 
-  abbrev measured : lts.After-parts (visit-list-calls t) (visit-list-at t) reads.Post → lts.After-extent-at (visit-list-calls t) (visit-list-at t) reads.Post
-  measured c = c .before .before .before
+  abbrev measured : lts.After-form (visit-list-calls t) (visit-list-at t) reads.Post → lts.After-extent-at (visit-list-calls t) (visit-list-at t) reads.Post
+  measured c = c .before
 
-  abbrev handed : lts.After-visit-arguments (visit-list-calls t) (visit-list-at t) reads.Post → lts.After-parts (visit-list-calls t) (visit-list-at t) reads.Post
-  handed c = c .before .before .before .before .before .before
+  abbrev formed : lts.After-argument (visit-list-calls t) (visit-list-at t) reads.Post → lts.After-form (visit-list-calls t) (visit-list-at t) reads.Post
+  formed c = c .before .before
 
-  abbrev visited : lts.After-visit (visit-list-calls t) (visit-list-at t) reads.Post → lts.After-visit-arguments (visit-list-calls t) (visit-list-at t) reads.Post
-  visited c = c .before .before .before .before .before .before .before .before .before .before .before .before .before .before .before
+  abbrev flagged : lts.After-visit-arguments (visit-list-calls t) (visit-list-at t) reads.Post → lts.After-argument (visit-list-calls t) (visit-list-at t) reads.Post
+  flagged c = c .before .before .before .before .before .before
 
-  abbrev inside : lts.After-end-call (visit-list-calls t) (visit-list-at t) reads.Post → lts.After-visit (visit-list-calls t) (visit-list-at t) reads.Post
-  inside c = c .before .before .before .before .before .before .before .before .before .before .before .before
+  abbrev visited : lts.After-head (visit-list-calls t) (visit-list-at t) reads.Post → lts.After-visit-arguments (visit-list-calls t) (visit-list-at t) reads.Post
+  visited c = c .before .before .before .before .before .before .before .before .before .before .before .before .before
 
-  abbrev start : lts.After-parts (visit-list-calls t) (visit-list-at t) reads.Post → lts.Start (visit-list-calls t) (visit-list-at t) reads.Post
-  start c = entry (counted (measured c))
+  abbrev headed : lts.After-visit (visit-list-calls t) (visit-list-at t) reads.Post → lts.After-head (visit-list-calls t) (visit-list-at t) reads.Post
+  headed c = c .before .before .before .before .before .before
+
+  abbrev inside : lts.After-close-call (visit-list-calls t) (visit-list-at t) reads.Post → lts.After-visit (visit-list-calls t) (visit-list-at t) reads.Post
+  inside c = c .before .before .before .before .before .before .before .before .before .before .before .before .before .before
+
+  abbrev start : lts.After-argument (visit-list-calls t) (visit-list-at t) reads.Post → lts.Start (visit-list-calls t) (visit-list-at t) reads.Post
+  start c = entry (counted (measured (formed c)))
 
   many : (c : lts.After-wide (visit-list-calls t) (visit-list-at t) reads.Post) → suc (c .wide .result - 1) ≡ nth (entry c .args .all .now) (entry c .args .at) .count
-  many c = let o = entry c in omega (arith, c .wide .ensures, c .before .count .ensures, call-long (o .pre .1 .1) (o .pre .1 .0) .2)
+  many c = let o = entry c in omega (arith, c .wide .ensures, c .before .count .ensures, call-long (o .pre .1 .2) (o .pre .1 .1) .2)
 
-  reach : (c : lts.After-extent-at (visit-list-calls t) (visit-list-at t) reads.Post) → 1 + c .extent-at .result ≤ size (entry (counted c) .pre .1 .0 .t)
-  reach c = let o = entry (counted c) in operator-long (o .pre .1 .1) (c .extent-at .ensures) (o .pre .1 .0)
+  reach : (c : lts.After-extent-at (visit-list-calls t) (visit-list-at t) reads.Post) → 1 + c .extent-at .result ≤ size (entry (counted c) .pre .1 .1 .t)
+  reach c = let o = entry (counted c) in operator-long (o .pre .1 .2) (c .extent-at .ensures) (o .pre .1 .1)
+
+  -- what the arguments are handed
+  operand : (c : lts.After-argument (visit-list-calls t) (visit-list-at t) reads.Post) → Handed (start c .args .f) argumentFlags (c .argument .result)
+  operand c = handed Argument (start c .args .f) (c .argument .ensures)
 
   -- what the head is handed
-  operator : (c : lts.After-parts (visit-list-calls t) (visit-list-at t) reads.Post)
-      → HandsHead (start c .args .f) (eqb (c .before .before .form .result) 6) (counted (measured c) .wide .result - 1) (c .parts .result .second)
-  operator c = subst (λ (j : ℕ). HandsHead (start c .args .f) (eqb (c .before .before .form .result) 6) j (c .parts .result .second))
-      (c .before .narrow .ensures) (c .parts .ensures .1)
+  operator : (c : lts.After-head (visit-list-calls t) (visit-list-at t) reads.Post)
+      → let a = flagged (visited c) in
+      HandsHead (start a .args .f) (eqb (formed a .form .result) 6) (counted (measured (formed a)) .wide .result - 1) (c .head .result)
+  operator c =
+      let a = flagged (visited c) in
+      let b = eqb (formed a .form .result) 6 in
+      subst (λ (j : ℕ). HandsHead (start a .args .f) b j (c .head .result)) (c .before .narrow .ensures) (handed (Head b (c .before .narrow .result)) (start a .args .f) (c .head .ensures))
+
+  -- the table of the pass's numbers keeps its length
+  sized : (c : lts.After-visit-arguments (visit-list-calls t) (visit-list-at t) reads.Post) → length (c .visit-arguments .last .1 .1 .1 .1 .1 .1 .0) ≡ registersLength
+  sized c = c .visit-arguments .kept .1 .1 .1 .1 .1 .1 .0 ∙ start (flagged c) .pre .1 .0
 
   pub count-requires : lts.Need-count-requires (visit-list-calls t) (visit-list-at t) reads.Post
-  count-requires c κs = let x = c .before .before .before .before .before .before .before .pre .1 .0 in omega (arith, bounds.whole x, bounds.some x)
+  count-requires c κs = let x = c .before .before .before .before .before .before .before .before .pre .1 .1 in omega (arith, bounds.whole x, bounds.some x)
 
   pub wide-requires : lts.Need-wide-requires (visit-list-calls t) (visit-list-at t) reads.Post
   wide-requires c κs = search needs
@@ -64,137 +85,150 @@ module _ (t : ℕ) where
   add-extent-at c = search needs
 
   pub extent-at-requires : lts.Need-extent-at-requires (visit-list-calls t) (visit-list-at t) reads.Post
-  extent-at-requires c κs = let o = entry c in operator-stands (o .pre .1 .1) (o .pre .1 .0)
+  extent-at-requires c κs = let o = entry c in operator-stands (o .pre .1 .2) (o .pre .1 .1)
 
   pub add-first : lts.Need-add-first (visit-list-calls t) (visit-list-at t) reads.Post
   add-first c = search needs
 
   pub add-first-2 : lts.Need-add-first-2 (visit-list-calls t) (visit-list-at t) reads.Post
-  add-first-2 c = omega (arith, reach c, bounds.whole (entry (counted c) .pre .1 .0))
+  add-first-2 c = omega (arith, reach c, bounds.whole (entry (counted c) .pre .1 .1))
 
   pub add-form : lts.Need-add-form (visit-list-calls t) (visit-list-at t) reads.Post
-  add-form c = let o = entry (counted c) in let x = o .pre .1 .0 in omega (arith, call-long (o .pre .1 .1) x .0, bounds.whole x)
+  add-form c = let o = entry (counted c) in let x = o .pre .1 .1 in omega (arith, call-long (o .pre .1 .2) x .0, bounds.whole x)
 
   pub form-requires : lts.Need-form-requires (visit-list-calls t) (visit-list-at t) reads.Post
-  form-requires c κs = let o = entry (counted c) in let x = o .pre .1 .0 in omega (arith, call-long (o .pre .1 .1) x .0, bounds.whole x)
-
-  pub narrow-requires : lts.Need-narrow-requires (visit-list-calls t) (visit-list-at t) reads.Post
-  narrow-requires c κs = search needs
-
-  pub parts-requires : lts.Need-parts-requires (visit-list-calls t) (visit-list-at t) reads.Post
-  parts-requires c κs = let w = c .before .before .before in
-      let o = entry w in
-      let x = o .pre .1 .0 in (
-        tt,
-        omega (arith, c .narrow .ensures, w .wide .ensures, w .before .count .ensures, call-long (o .pre .1 .1) x .1, x .flags .height, x .fits .ample .height),
-      )
+  form-requires c κs = let o = entry (counted c) in let x = o .pre .1 .1 in omega (arith, call-long (o .pre .1 .2) x .0, bounds.whole x)
 
   pub mul-start : lts.Need-mul-start (visit-list-calls t) (visit-list-at t) reads.Post
-  mul-start c = let m = measured c in omega (arith, reach m, bounds.whole (entry (counted m) .pre .1 .0))
+  mul-start c = let m = measured c in omega (arith, reach m, bounds.whole (entry (counted m) .pre .1 .1))
 
   pub add-start : lts.Need-add-start (visit-list-calls t) (visit-list-at t) reads.Post
-  add-start c = let m = measured c in omega (arith, reach m, bounds.whole (entry (counted m) .pre .1 .0))
+  add-start c = let m = measured c in omega (arith, reach m, bounds.whole (entry (counted m) .pre .1 .1))
 
   pub mul-visit-arguments : lts.Need-mul-visit-arguments (visit-list-calls t) (visit-list-at t) reads.Post
-  mul-visit-arguments c = let m = measured c in omega (arith, reach m, bounds.whole (entry (counted m) .pre .1 .0))
+  mul-visit-arguments c = let m = measured c in omega (arith, reach m, bounds.whole (entry (counted m) .pre .1 .1))
 
   pub sub-visit-arguments : lts.Need-sub-visit-arguments (visit-list-calls t) (visit-list-at t) reads.Post
-  sub-visit-arguments c = let m = measured c in omega (arith, reach m, bounds.whole (entry (counted m) .pre .1 .0))
+  sub-visit-arguments c = let m = measured c in omega (arith, reach m, bounds.whole (entry (counted m) .pre .1 .1))
 
   pub part-visit-arguments-start : lts.Need-part-visit-arguments-start (visit-list-calls t) (visit-list-at t) reads.Post
-  part-visit-arguments-start c = let m = measured c in omega (arith, reach m, bounds.whole (entry (counted m) .pre .1 .0))
+  part-visit-arguments-start c = let m = measured c in omega (arith, reach m, bounds.whole (entry (counted m) .pre .1 .1))
 
   pub part-visit-arguments-end : lts.Need-part-visit-arguments-end (visit-list-calls t) (visit-list-at t) reads.Post
   part-visit-arguments-end c = search needs
 
+  pub argument-requires : lts.Need-argument-requires (visit-list-calls t) (visit-list-at t) reads.Post
+  argument-requires c κs = search needs
+
   pub visit-arguments-requires : lts.Need-visit-arguments-requires (visit-list-calls t) (visit-list-at t) reads.Post
   visit-arguments-requires c κs = let h = c .before .before .before .before .before in
-      let m = measured h in
+      let m = measured (formed h) in
       let o = start h in
       let rs = o .args .rs .now in
-      let x = o .pre .1 .0 in
+      let x = o .pre .1 .1 in
       let k = m .extent-at .result in (
         omega (arith, o .pre .0, reach m, bounds.whole x, part-length rs (6 + 6 * k)),
-        operands-fit (o .pre .1 .1) (many (counted m)) (m .extent-at .ensures) (h .parts .ensures .0) (part-after rs k) x,
+        (o .pre .1 .0, operands-fit (o .pre .1 .2) (many (counted m)) (m .extent-at .ensures) (operand h) (part-after rs k) x),
       )
 
   pub sub-visit : lts.Need-sub-visit (visit-list-calls t) (visit-list-at t) reads.Post
-  sub-visit c = let o = start (handed (c .before .before .before .before .before .before .before .before .before)) in let x = o .pre .1 .0 in omega (arith, call-long (o .pre .1 .1) x .0, bounds.whole x)
+  sub-visit c = let o = start (flagged (c .before .before .before .before .before .before .before .before .before .before)) in let x = o .pre .1 .1 in omega (arith, call-long (o .pre .1 .2) x .0, bounds.whole x)
 
   pub part-visit-start : lts.Need-part-visit-start (visit-list-calls t) (visit-list-at t) reads.Post
-  part-visit-start c = let o = start (handed (c .before .before .before .before .before .before .before .before .before)) in let x = o .pre .1 .0 in omega (arith, call-long (o .pre .1 .1) x .0, bounds.whole x)
+  part-visit-start c = let o = start (flagged (c .before .before .before .before .before .before .before .before .before .before)) in let x = o .pre .1 .1 in omega (arith, call-long (o .pre .1 .2) x .0, bounds.whole x)
 
   pub part-visit-end : lts.Need-part-visit-end (visit-list-calls t) (visit-list-at t) reads.Post
   part-visit-end c = search needs
 
   pub add-visit : lts.Need-add-visit (visit-list-calls t) (visit-list-at t) reads.Post
-  add-visit c = let o = start (handed (c .before .before .before .before .before .before .before .before .before .before)) in let x = o .pre .1 .0 in omega (arith, call-long (o .pre .1 .1) x .0, bounds.whole x)
+  add-visit c = let o = start (flagged (c .before .before .before .before .before .before .before .before .before .before .before)) in let x = o .pre .1 .1 in omega (arith, call-long (o .pre .1 .2) x .0, bounds.whole x)
+
+  pub narrow-requires : lts.Need-narrow-requires (visit-list-calls t) (visit-list-at t) reads.Post
+  narrow-requires c κs = let w = counted (measured (formed (flagged (c .before .before .before .before .before .before .before .before .before .before .before)))) in
+      let o = entry w in
+      let x = o .pre .1 .1 in
+      omega (arith, w .wide .ensures, w .before .count .ensures, call-long (o .pre .1 .2) x .1, x .fits .ample .height)
+
+  pub head-requires : lts.Need-head-requires (visit-list-calls t) (visit-list-at t) reads.Post
+  head-requires c κs = let w = counted (measured (formed (flagged (c .before .before .before .before .before .before .before .before .before .before .before .before)))) in
+      let o = entry w in
+      let x = o .pre .1 .1 in
+      omega (arith, c .narrow .ensures, w .wide .ensures, w .before .count .ensures, call-long (o .pre .1 .2) x .1, x .flags .height, x .fits .ample .height)
 
   pub visit-requires : lts.Need-visit-requires (visit-list-calls t) (visit-list-at t) reads.Post
-  visit-requires c κs = let a = c .before .before .before .before .before .before .before .before .before .before .before .before .before .before in
-      let h = handed a in
-      let m = measured h in
+  visit-requires c κs = let d = c .before .before .before .before .before in
+      let a = visited d in
+      let h = flagged a in
+      let m = measured (formed h) in
       let o = start h in
       let rs = o .args .rs .now in
-      let x = o .pre .1 .0 in (
-        omega (arith, o .pre .0, call-long (o .pre .1 .1) x .0, bounds.whole x, part-length rs 6),
-        operator-fits (o .pre .1 .1) (many (counted m)) (m .extent-at .ensures) (h .parts .ensures .0) (part-after rs (m .extent-at .result))
-            (a .visit-arguments .ensures) (form-lambda (h .before .before .form .ensures)) (operator h) (part rs 6) x,
+      let x = o .pre .1 .1 in (
+        omega (arith, o .pre .0, call-long (o .pre .1 .2) x .0, bounds.whole x, part-length rs 6),
+        (
+          sized a,
+          operator-fits (o .pre .1 .2) (many (counted m)) (m .extent-at .ensures) (operand h) (part-after rs (m .extent-at .result))
+              (a .visit-arguments .ensures) (form-lambda (formed h .form .ensures)) (operator d) (part rs 6) x,
+        ),
       )
 
-  pub end-call-requires : lts.Need-end-call-requires (visit-list-calls t) (visit-list-at t) reads.Post
-  end-call-requires c κs = let v = c .before .before .before .before .before .before .before .before .before .before .before in
-      let a = visited v in
-      let h = handed a in
-      let m = measured h in
+  pub close-call-requires : lts.Need-close-call-requires (visit-list-calls t) (visit-list-at t) reads.Post
+  close-call-requires c κs = let v = c .before .before .before .before .before .before .before .before .before .before .before .before .before in
+      let d = headed v in
+      let a = visited d in
+      let h = flagged a in
+      let m = measured (formed h) in
       let o = start h in
-      let rs = o .args .rs .now in
-      call-fits (o .pre .1 .1) (many (counted m)) (m .extent-at .ensures) (h .parts .ensures .0) (part-after rs (m .extent-at .result))
-      (a .visit-arguments .ensures) (form-lambda (h .before .before .form .ensures)) (operator h) (part rs 6) (v .visit .ensures) (o .pre .1 .0)
+      let rs = o .args .rs .now in (
+        v .visit .kept .1 .1 .1 .1 .1 .0 ∙ sized a,
+        call-fits (o .pre .1 .2) (many (counted m)) (m .extent-at .ensures) (operand h) (part-after rs (m .extent-at .result))
+            (a .visit-arguments .ensures) (form-lambda (formed h .form .ensures)) (operator d) (part rs 6) (v .visit .ensures) (o .pre .1 .1),
+      )
 
-  pub add-t21 : lts.Need-add-t21 (visit-list-calls t) (visit-list-at t) reads.Post
-  add-t21 c = let a = visited (inside (c .before .before)) in
-      let h = handed a in
-      let m = measured h in
+  pub add-result : lts.Need-add-result (visit-list-calls t) (visit-list-at t) reads.Post
+  add-result c = let a = visited (headed (c .before .before .before .before .before .before .before .before .before .before .before .before .before .before .before .before)) in
+      let h = flagged a in
+      let m = measured (formed h) in
       let o = start h in
       let rs = o .args .rs .now in
-      let x = o .pre .1 .0 in
-      let all = operands-fit (o .pre .1 .1) (many (counted m)) (m .extent-at .ensures) (h .parts .ensures .0) (part-after rs (m .extent-at .result)) x in
+      let x = o .pre .1 .1 in
+      let all = operands-fit (o .pre .1 .2) (many (counted m)) (m .extent-at .ensures) (operand h) (part-after rs (m .extent-at .result)) x in
       omega (arith, reach m, bounds.whole x, bounds.used-all all (a .visit-arguments .ensures))
 
-  pub add-t26 : lts.Need-add-t26 (visit-list-calls t) (visit-list-at t) reads.Post
-  add-t26 c = let a = visited (inside (c .before .before .before)) in
-      let h = handed a in
-      let m = measured h in
+  pub add-result-2 : lts.Need-add-result-2 (visit-list-calls t) (visit-list-at t) reads.Post
+  add-result-2 c = let a = visited (headed (c .before .before .before .before .before .before .before .before .before .before .before .before .before .before .before .before)) in
+      let h = flagged a in
+      let m = measured (formed h) in
       let o = start h in
       let rs = o .args .rs .now in
-      let x = o .pre .1 .0 in
-      let all = operands-fit (o .pre .1 .1) (many (counted m)) (m .extent-at .ensures) (h .parts .ensures .0) (part-after rs (m .extent-at .result)) x in
+      let x = o .pre .1 .1 in
+      let all = operands-fit (o .pre .1 .2) (many (counted m)) (m .extent-at .ensures) (operand h) (part-after rs (m .extent-at .result)) x in
       omega (arith, reach m, bounds.whole x, bounds.used-all all (a .visit-arguments .ensures))
 
   pub same-length : lts.Need-same-length (visit-list-calls t) (visit-list-at t) reads.Post
-  same-length c = let e = c .before .before .before in
-      e .end-call .kept .1 .1 .1 .1 .1 .1 .1 .0 ∙ inside e .visit .kept .1 .1 .1 .1 .1 .1 .0 ∙ visited (inside e) .visit-arguments .kept .1 .1 .1 .1 .1 .1 .1 .0
+  same-length c = let v = c .before .before .before .before .before .before .before .before .before .before .before .before .before .before .before .before in v .visit .kept .1 .1 .1 .1 .1 .0 ∙ visited (headed v) .visit-arguments .kept .1 .1 .1 .1 .1 .1 .0
 
   pub same-length-2 : lts.Need-same-length-2 (visit-list-calls t) (visit-list-at t) reads.Post
-  same-length-2 c = let e = c .before .before .before in
-      inside e .visit .kept .1 .1 .1 .1 .1 .1 .1 .0 ∙ visited (inside e) .visit-arguments .kept .1 .1 .1 .1 .1 .1 .1 .1 .0
+  same-length-2 c = let e = c .before .before in
+      let v = inside e in
+      e .close-call .kept .1 .1 .1 .1 .1 .1 .1 .0 ∙ v .visit .kept .1 .1 .1 .1 .1 .1 .0 ∙ visited (headed v) .visit-arguments .kept .1 .1 .1 .1 .1 .1 .1 .0
 
   pub same-length-3 : lts.Need-same-length-3 (visit-list-calls t) (visit-list-at t) reads.Post
-  same-length-3 c = let e = c .before .before .before in
-      inside e .visit .kept .1 .1 .1 .1 .1 .1 .1 .1 .0 ∙ visited (inside e) .visit-arguments .kept .1 .1 .1 .1 .1 .1 .1 .1 .1 .0
+  same-length-3 c = let v = c .before .before .before .before .before .before .before .before .before .before .before .before .before .before .before .before in v .visit .kept .1 .1 .1 .1 .1 .1 .1 .0 ∙ visited (headed v) .visit-arguments .kept .1 .1 .1 .1 .1 .1 .1 .1 .0
 
   pub same-length-4 : lts.Need-same-length-4 (visit-list-calls t) (visit-list-at t) reads.Post
-  same-length-4 c = let e = c .before .before .before in
-      inside e .visit .kept .1 .1 .1 .1 .1 .1 .1 .1 .1 .0 ∙ visited (inside e) .visit-arguments .kept .1 .1 .1 .1 .1 .1 .1 .1 .1 .1 .0
+  same-length-4 c = let v = c .before .before .before .before .before .before .before .before .before .before .before .before .before .before .before .before in v .visit .kept .1 .1 .1 .1 .1 .1 .1 .1 .0 ∙ visited (headed v) .visit-arguments .kept .1 .1 .1 .1 .1 .1 .1 .1 .1 .0
+
+  pub same-length-5 : lts.Need-same-length-5 (visit-list-calls t) (visit-list-at t) reads.Post
+  same-length-5 c = let v = c .before .before .before .before .before .before .before .before .before .before .before .before .before .before .before .before in v .visit .kept .1 .1 .1 .1 .1 .1 .1 .1 .1 .0 ∙ visited (headed v) .visit-arguments .kept .1 .1 .1 .1 .1 .1 .1 .1 .1 .1 .0
 
   pub returns : lts.Need-returns (visit-list-calls t) (visit-list-at t) reads.Post
-  returns c = let e = c .before .before .before in
+  returns c = let e = c .before .before in
       let v = inside e in
-      let a = visited v in
-      let h = handed a in
-      let m = measured h in
+      let d = headed v in
+      let a = visited d in
+      let h = flagged a in
+      let m = measured (formed h) in
       let o = start h in
       let rs = o .args .rs .now in
-      call-done (o .pre .1 .1) (many (counted m)) (m .extent-at .ensures) (h .parts .ensures .0) (part-after rs (m .extent-at .result))
-      (a .visit-arguments .ensures) (form-lambda (h .before .before .form .ensures)) (operator h) (part rs 6) (v .visit .ensures) (e .end-call .ensures)
+      call-done (o .pre .1 .2) (many (counted m)) (m .extent-at .ensures) (operand h) (part-after rs (m .extent-at .result))
+      (a .visit-arguments .ensures) (form-lambda (formed h .form .ensures)) (operator d) (part rs 6) (v .visit .ensures) (e .close-call .ensures)

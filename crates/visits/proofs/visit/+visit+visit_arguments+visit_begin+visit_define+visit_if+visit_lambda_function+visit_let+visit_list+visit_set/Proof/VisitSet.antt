@@ -1,9 +1,11 @@
 -- The needs of `visit_set`.
 use Prim.Native.Nat.{ℕ, _≤_}
-use mathlib.Core.Path.{_∙_}
+use mathlib.Core.Path.{_≡_, _∙_}
+use lib.ListN.{length}
 use Rattle.table.specs.Part.{part, part-length}
 use Rattle.tree.specs.Tree.{size}
 use Rattle.forms.specs.FitsLaws.{facts-length}
+use Rattle.registers.specs.Registers.{registersLength}
 use Rattle.visits.proofs.Bounds as bounds
 use Rattle.visits.proofs.SetCase.{set-long, expression-fits, target-sets, target-reads, set-done}
 use borrow.Author.Needs.{needs}
@@ -13,45 +15,49 @@ use Rattle.visits.proofs.visit.visit_set.Reads as reads
 use Rattle.visits.proofs.visit.+visit+visit_arguments+visit_begin+visit_define+visit_if+visit_lambda_function+visit_let+visit_list+visit_set.Proof.Base.{visit-set-at, visit-set-calls}
 
 module _ (t : ℕ) where
-  -- the place before a call
+  -- the places that are looked back to, each from the one after it
+
+  abbrev to-start : lts.After-open-set (visit-set-calls t) (visit-set-at t) reads.Post → lts.Start (visit-set-calls t) (visit-set-at t) reads.Post
+  to-start c = c .before .before .before .before .before .before .before .before .before .before .before
+
+  abbrev to-open-set : lts.After-part (visit-set-calls t) (visit-set-at t) reads.Post → lts.After-open-set (visit-set-calls t) (visit-set-at t) reads.Post
+  to-open-set c = c .before .before .before .before
+
+  abbrev to-part : lts.After-visit (visit-set-calls t) (visit-set-at t) reads.Post → lts.After-part (visit-set-calls t) (visit-set-at t) reads.Post
+  to-part c = c .before .before .before .before .before .before
+
+  abbrev to-visit : lts.After-name (visit-set-calls t) (visit-set-at t) reads.Post → lts.After-visit (visit-set-calls t) (visit-set-at t) reads.Post
+  to-visit c = c .before .before .before .before .before .before .before .before .before .before .before
+
+  abbrev to-name : lts.After-close-set (visit-set-calls t) (visit-set-at t) reads.Post → lts.After-name (visit-set-calls t) (visit-set-at t) reads.Post
+  to-name c = c .before .before .before .before
+
+  abbrev to-close-set : lts.After-visit-atom (visit-set-calls t) (visit-set-at t) reads.Post → lts.After-close-set (visit-set-calls t) (visit-set-at t) reads.Post
+  to-close-set c = c .before .before .before .before .before .before .before .before .before
 
   abbrev from-visit : lts.After-visit (visit-set-calls t) (visit-set-at t) reads.Post → lts.Start (visit-set-calls t) (visit-set-at t) reads.Post
-  from-visit c = c .before .before .before .before .before .before .before .before .before .before .before .before .before .before .before .before
+  from-visit c = to-start (to-open-set (to-part c))
 
-  abbrev from-mutate : lts.After-mutate (visit-set-calls t) (visit-set-at t) reads.Post → lts.After-visit (visit-set-calls t) (visit-set-at t) reads.Post
-  from-mutate c = c .before .before .before .before .before .before .before .before .before .before .before .before .before
+  long : (c : lts.Start (visit-set-calls t) (visit-set-at t) reads.Post) → 3 ≤ size (c .pre .1 .1 .t)
+  long c = set-long (c .pre .1 .2) (c .pre .1 .1)
 
-  long : (c : lts.Start (visit-set-calls t) (visit-set-at t) reads.Post) → 3 ≤ size (c .pre .1 .0 .t)
-  long c = set-long (c .pre .1 .1) (c .pre .1 .0)
+  -- the table of the pass's numbers keeps its length
+  sized : (c : lts.After-visit (visit-set-calls t) (visit-set-at t) reads.Post) → length (c .visit .last .1 .1 .1 .1 .1 .0) ≡ registersLength
+  sized c = c .visit .kept .1 .1 .1 .1 .1 .0 ∙ to-open-set (to-part c) .open-set .kept .1 .0 ∙ from-visit c .pre .1 .0
 
-  pub add-clear-context : lts.Need-add-clear-context (visit-set-calls t) (visit-set-at t) reads.Post
-  add-clear-context c = search needs
+  pub add-open-set : lts.Need-add-open-set (visit-set-calls t) (visit-set-at t) reads.Post
+  add-open-set c = search needs
 
-  pub clear-context-requires : lts.Need-clear-context-requires (visit-set-calls t) (visit-set-at t) reads.Post
-  clear-context-requires c κs = let o = (c .before .before .before .before .before .before .before .before) in let x = o .pre .1 .0 in (
-    omega (
-      arith,
-      long o,
-      bounds.whole x,
-    ),
-    facts-length (x .tied) (x .fits .ample .rows),
-  )
+  pub open-set-requires : lts.Need-open-set-requires (visit-set-calls t) (visit-set-at t) reads.Post
+  open-set-requires c κs = let o = c .before .before .before .before .before .before .before .before .before .before in
+      let x = o .pre .1 .1 in
+      (o .pre .1 .0, omega (arith, long o, bounds.whole x), facts-length (x .tied) (x .fits .ample .rows))
 
   pub sub-visit : lts.Need-sub-visit (visit-set-calls t) (visit-set-at t) reads.Post
-  sub-visit c = omega (
-    arith,
-    long (c .before .before .before .before .before .before .before .before .before),
-    bounds.whole ((c .before .before .before
-        .before .before .before .before .before .before) .pre .1 .0),
-  )
+  sub-visit c = let o = to-start (c .before .before) in omega (arith, long o, bounds.whole (o .pre .1 .1))
 
   pub part-visit-start : lts.Need-part-visit-start (visit-set-calls t) (visit-set-at t) reads.Post
-  part-visit-start c = omega (
-    arith,
-    long (c .before .before .before .before .before .before .before .before .before),
-    bounds.whole ((c .before .before
-        .before .before .before .before .before .before .before) .pre .1 .0),
-  )
+  part-visit-start c = let o = to-start (c .before .before) in omega (arith, long o, bounds.whole (o .pre .1 .1))
 
   pub part-visit-end : lts.Need-part-visit-end (visit-set-calls t) (visit-set-at t) reads.Post
   part-visit-end c = search needs
@@ -63,90 +69,77 @@ module _ (t : ℕ) where
   part-requires c κs = search needs
 
   pub visit-requires : lts.Need-visit-requires (visit-set-calls t) (visit-set-at t) reads.Post
-  visit-requires c κs = let o = (c .before .before .before .before .before .before .before .before .before .before .before .before .before .before .before) in
+  visit-requires c κs = let p = c .before .before .before .before .before in
+      let s = to-open-set p in
+      let o = to-start s in
       let rs = o .args .rs .now in
-      let x = o .pre .1 .0 in (
+      let x = o .pre .1 .1 in (
         omega (arith, o .pre .0, long o, bounds.whole x, part-length rs 12),
-        expression-fits (o .pre .1 .1) ((c .before .before .before .before .part)
-            .ensures) ((c .before .before .before .before .before .before .clear-context) .ensures) (part rs 12) x,
+        (s .open-set .kept .1 .0 ∙ o .pre .1 .0, expression-fits (o .pre .1 .2) (p .part .ensures) (s .open-set .ensures) (part rs 12) x),
       )
 
   pub add-name : lts.Need-add-name (visit-set-calls t) (visit-set-at t) reads.Post
-  add-name c = omega (
-    arith,
-    long (from-visit (c .before .before .before .before .before .before .before .before .before)),
-    bounds.whole ((from-visit (c
-        .before .before .before .before .before .before .before .before .before)) .pre .1 .0),
-  )
+  add-name c = let o = from-visit (c .before .before .before .before .before .before .before .before .before .before) in omega (arith, long o, bounds.whole (o .pre .1 .1))
 
   pub name-requires : lts.Need-name-requires (visit-set-calls t) (visit-set-at t) reads.Post
-  name-requires c κs = omega (
-    arith,
-    long (from-visit (c .before .before .before .before .before .before .before .before .before)),
-    bounds.whole ((from-visit
-        (c .before .before .before .before .before .before .before .before .before)) .pre .1 .0),
-  )
+  name-requires c κs = let o = from-visit (c .before .before .before .before .before .before .before .before .before .before) in omega (arith, long o, bounds.whole (o .pre .1 .1))
 
-  pub mutate-requires : lts.Need-mutate-requires (visit-set-calls t) (visit-set-at t) reads.Post
-  mutate-requires c κs = let o = (from-visit (c .before .before .before .before .before .before .before .before .before .before .before .before)) in
-      target-sets (o .pre .1 .1) ((c .before .before .before .before .before .before .before .before .before .before .before .before .before .before .before
-      .before .before .part) .ensures) ((c .before .before .before .before .before .before .before .before .before .before .before .before .before
-      .before .before .before .before .before .before .clear-context) .ensures) (part (o .args .rs .now) 12) ((c .before .before .before .before .before
-      .before .before .before .before .before .before .before .visit) .ensures) (o .pre .1 .0)
-
-  pub add-read : lts.Need-add-read (visit-set-calls t) (visit-set-at t) reads.Post
-  add-read c = omega (
-    arith,
-    long (from-visit (from-mutate (c .before .before .before .before))),
-    bounds.whole ((from-visit (from-mutate (c .before .before
-        .before .before))) .pre .1 .0),
-  )
-
-  pub read-requires : lts.Need-read-requires (visit-set-calls t) (visit-set-at t) reads.Post
-  read-requires c κs = let o = (from-visit (from-mutate (c .before .before .before .before .before .before .before))) in
-      target-reads (o .pre .1 .1) ((from-mutate (c .before .before .before .before .before .before .before) .before .before .before .before .before
-      .part) .ensures) ((from-mutate (c .before .before .before .before .before .before .before) .before .before .before .before .before .before .before
-      .clear-context) .ensures) (part (o .args .rs .now) 12) ((from-mutate (c .before .before .before .before .before .before .before) .visit) .ensures) ((c
-      .before .before .before .before .before .before .before .before .before .before .name) .ensures) ((c .before .before .before .before .before .before
-      .before .mutate) .ensures) (o .pre .1 .0)
-
-  pub add-t15 : lts.Need-add-t15 (visit-set-calls t) (visit-set-at t) reads.Post
-  add-t15 c = let o = (from-visit (from-mutate (c .before .before .before .before .before .before .before .before .before .before .before .before .before)))
-      in
-      omega (
-        arith,
-        bounds.used (expression-fits (o .pre .1 .1) ((from-mutate (c .before .before .before .before .before .before .before .before .before
-            .before .before .before .before) .before .before .before .before .before .part) .ensures) ((from-mutate (c .before .before .before .before .before
-            .before .before .before .before .before .before .before .before) .before .before .before .before .before .before .before .clear-context) .ensures)
-            (part (o .args .rs .now) 12) (o .pre .1 .0)) ((from-mutate (c .before .before .before .before .before .before .before .before .before .before .before
-            .before .before) .visit) .ensures),
+  pub close-set-requires : lts.Need-close-set-requires (visit-set-calls t) (visit-set-at t) reads.Post
+  close-set-requires c κs = let v = c .before .before .before .before .before .before .before .before .before .before .before .before .before .before in
+      let p = to-part v in
+      let o = from-visit v in (
+        sized v,
+        target-sets (o .pre .1 .2) (p .part .ensures) (to-open-set p .open-set .ensures) (part (o .args .rs .now) 12) (v .visit .ensures) (o .pre .1 .1),
       )
 
+  pub add-visit-atom : lts.Need-add-visit-atom (visit-set-calls t) (visit-set-at t) reads.Post
+  add-visit-atom c = let o = from-visit (c .before .before .before .before .before .before .before .before .before .before .before .before .before .before .before .before .before .before .before) in omega (arith, long o, bounds.whole (o .pre .1 .1))
+
+  pub visit-atom-requires : lts.Need-visit-atom-requires (visit-set-calls t) (visit-set-at t) reads.Post
+  visit-atom-requires c κs = let m = c .before .before .before .before .before .before .before .before in
+      let n = to-name m in
+      let v = to-visit n in
+      let p = to-part v in
+      let o = from-visit v in (
+        sized v,
+        target-reads (o .pre .1 .2) (p .part .ensures) (to-open-set p .open-set .ensures) (part (o .args .rs .now) 12) (v .visit .ensures) (n .name .ensures)
+            (m .close-set .ensures) (o .pre .1 .1),
+      )
+
+  pub add-result : lts.Need-add-result (visit-set-calls t) (visit-set-at t) reads.Post
+  add-result c = let v = c .before .before .before .before .before .before .before .before .before .before .before .before .before .before .before .before .before .before .before .before .before .before .before .before .before .before .before .before .before .before in
+      let p = to-part v in
+      let o = from-visit v in
+      let x = expression-fits (o .pre .1 .2) (p .part .ensures) (to-open-set p .open-set .ensures) (part (o .args .rs .now) 12) (o .pre .1 .1) in
+      omega (arith, bounds.used x (v .visit .ensures))
+
   pub same-length : lts.Need-same-length (visit-set-calls t) (visit-set-at t) reads.Post
-  same-length c = (c .before .before .before .before .before .read) .kept .1 .1 .1 .1 .0 ∙ (c .before .before .before .before .before .before .before .before
-      .before .before .before .before .before .mutate) .kept .1 .1 .0 ∙ (from-mutate (c .before .before .before .before .before .before .before .before
-      .before .before .before .before .before) .visit) .kept .1 .1 .1 .1 .1 .1 .0
+  same-length c = let a = c .before .before .before .before .before .before in
+      let v = to-visit (to-name (to-close-set a)) in
+      a .visit-atom .kept .1 .1 .1 .0 ∙ v .visit .kept .1 .1 .1 .1 .1 .0 ∙ to-open-set (to-part v) .open-set .kept .1 .0
 
   pub same-length-2 : lts.Need-same-length-2 (visit-set-calls t) (visit-set-at t) reads.Post
-  same-length-2 c = (from-mutate (c .before .before .before .before .before .before .before .before .before .before .before .before .before) .visit) .kept .1
-      .1 .1 .1 .1 .1 .1 .0
+  same-length-2 c = let a = c .before .before .before .before .before .before in
+      let m = to-close-set a in
+      a .visit-atom .kept .1 .1 .1 .1 .0 ∙ m .close-set .kept .1 .1 .0 ∙ to-visit (to-name m) .visit .kept .1 .1 .1 .1 .1 .1 .0
 
   pub same-length-3 : lts.Need-same-length-3 (visit-set-calls t) (visit-set-at t) reads.Post
-  same-length-3 c = (from-mutate (c .before .before .before .before .before .before .before .before .before .before .before .before .before) .visit) .kept .1
-      .1 .1 .1 .1 .1 .1 .1 .0
+  same-length-3 c = c .before .before .before .before .before .before .before .before .before .before .before .before .before .before .before .before .before .before .before .before .before .before .before .before .before .before .before .before .before .before .visit .kept .1 .1 .1 .1 .1 .1 .1 .0
 
   pub same-length-4 : lts.Need-same-length-4 (visit-set-calls t) (visit-set-at t) reads.Post
-  same-length-4 c = (c .before .before .before .before .before .read) .kept .1 .1 .1 .1 .1 .1 .0 ∙ (c .before .before .before .before .before .before .before
-      .before .before .before .before .before .before .mutate) .kept .1 .1 .1 .0 ∙ (from-mutate (c .before .before .before .before .before .before .before
-      .before .before .before .before .before .before) .visit) .kept .1 .1 .1 .1 .1 .1 .1 .1 .1 .0
+  same-length-4 c = c .before .before .before .before .before .before .before .before .before .before .before .before .before .before .before .before .before .before .before .before .before .before .before .before .before .before .before .before .before .before .visit .kept .1 .1 .1 .1 .1 .1 .1 .1 .0
+
+  pub same-length-5 : lts.Need-same-length-5 (visit-set-calls t) (visit-set-at t) reads.Post
+  same-length-5 c = let a = c .before .before .before .before .before .before in
+      let m = to-close-set a in
+      a .visit-atom .kept .1 .1 .1 .1 .1 .1 .0 ∙ m .close-set .kept .1 .1 .1 .0 ∙ to-visit (to-name m) .visit .kept .1 .1 .1 .1 .1 .1 .1 .1 .1 .0
 
   pub returns : lts.Need-returns (visit-set-calls t) (visit-set-at t) reads.Post
-  returns c = let o = (from-visit (from-mutate (c .before .before .before .before .before .before .before .before .before .before .before .before .before)))
-      in
-      set-done (o .pre .1 .1) ((from-mutate (c .before .before .before .before .before .before .before .before .before .before .before .before .before)
-      .before .before .before .before .before .part) .ensures) ((from-mutate (c .before .before .before .before .before .before .before .before .before
-      .before .before .before .before) .before .before .before .before .before .before .before .clear-context) .ensures) (part (o .args .rs .now) 12)
-      ((from-mutate (c .before .before .before .before .before .before .before .before .before .before .before .before .before) .visit) .ensures) ((c .before
-      .before .before .before .before .before .before .before .before .before .before .before .before .before .before .before .name) .ensures) ((c .before
-      .before .before .before .before .before .before .before .before .before .before .before .before .mutate) .ensures) ((c .before .before .before .before
-      .before .read) .ensures)
+  returns c = let a = c .before .before .before .before .before .before in
+      let m = to-close-set a in
+      let n = to-name m in
+      let v = to-visit n in
+      let p = to-part v in
+      let o = from-visit v in
+      set-done (o .pre .1 .2) (p .part .ensures) (to-open-set p .open-set .ensures) (part (o .args .rs .now) 12) (v .visit .ensures) (n .name .ensures)
+      (m .close-set .ensures) (a .visit-atom .ensures)

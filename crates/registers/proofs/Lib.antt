@@ -1,0 +1,2 @@
+pub mod LoadCase
+pub mod StoreCase

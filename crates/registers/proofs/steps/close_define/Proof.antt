@@ -1,0 +1,37 @@
+-- `close_define`: `after_define` of the pass that the table holds, and its answer is stored.
+use borrow.Author.Needs.{needs}
+use Rattle.registers.proofs.steps.close_define.Statement.{statement}
+use Rattle.registers.proofs.steps.close_define.Tie as tie
+
+load-requires : tie.Need-load-requires
+load-requires c κs = search needs
+
+after-define-requires : tie.Need-after-define-requires
+after-define-requires c κs = rw (c .before .before .load .ensures) (c .before .before .before .before .before .before .before .before .pre .1)
+
+store-requires : tie.Need-store-requires
+store-requires c κs = search needs
+
+same-length : tie.Need-same-length
+same-length c = search needs
+
+same-length-2 : tie.Need-same-length-2
+same-length-2 c = search needs
+
+same-length-3 : tie.Need-same-length-3
+same-length-3 c = search needs
+
+returns : tie.Need-returns
+returns c = rw (c .before .before .store .ensures, ← c .before .before .before .before .before .before .before .before .before .before .before .load .ensures) (c .before .before .before .before .before .before .before .before .after-define .ensures)
+
+pub close-define-spec : {M : Type 1} → statement M
+close-define-spec =
+    tie.close
+    (tie.spec
+    load-requires
+    after-define-requires
+    store-requires
+    same-length
+    same-length-2
+    same-length-3
+    returns)

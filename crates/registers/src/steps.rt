@@ -1,0 +1,254 @@
+// What a visit does beside visiting the parts of its expression, with the pass's numbers in their table.
+use crate::load;
+use crate::store;
+use flags::Around;
+use forms::calls::clear_context;
+use forms::calls::end_call;
+use forms::defines::after_define;
+use forms::defines::before_define;
+use forms::defines::enter_children;
+use forms::lambda::enter_lambda;
+use forms::lambda::leave_lambda;
+use forms::lets::enter_let;
+use forms::lets::leave_let;
+use lists::amend::Ending;
+use names::read::mutate;
+use names::read::read;
+use semantic::IdentifierStatus;
+use walk::body::Body;
+use walk::uses::Names;
+ghost use mathlib.Core.Path.{_≡_};
+ghost use Prim.Native.Nat.{_<_};
+ghost use lib.ListN.{length};
+ghost use Rattle.semantic.specs.declared.IdentifierStatus.the-variants.{LocallyDefinedFunction};
+ghost use Rattle.pass.specs.Read.{read};
+ghost use Rattle.pass.specs.Run.{rowsMost, factsLength};
+ghost use Rattle.work.specs.Passes.{inContext};
+ghost use Rattle.names.specs.Contract.{Readable, Does, Settable, Mutates};
+ghost use Rattle.forms.specs.Contract.{LetFits, EntersLet, LetEnds, LeavesLet, DefineFits, BeforeDefine, AfterDefine, LambdaFits, EntersLambda, LambdaEnds, LeavesLambda, ChildrenFit, EntersChildren, CallFits, EndsCall, ClearsContext};
+ghost use Rattle.registers.specs.Registers.{registersLength, passIn};
+
+pub fn visit_atom(
+    classes: &[u8],
+    all: &[u32],
+    at: usize,
+    r: &mut [usize],
+    facts: &mut [u32],
+    captured: &[u32],
+    work: &mut [u32],
+)
+    requires { ⌜ (length (now r) ≡ registersLength) × Readable (length (now classes)) (now all) at (passIn (now r)) (now facts) (now captured) (now work) ⌝ }
+    ensures { λ _. ⌜ Does (now (all .entry)) at (passIn (now (r .entry))) (now (facts .entry)) (now (captured .entry)) (now (work .entry)) (read (now (classes .entry))) (passIn (now (r .exit))) (now (facts .exit)) (now (work .exit)) ⌝ }
+{
+    let p = load(r);
+    let q = read(classes, all, at, p, facts, captured, work);
+    store(r, q);
+}
+
+pub fn context(r: &[usize]) -> u32
+    requires { ⌜ (length (now r) ≡ registersLength) ⌝ }
+    ensures { λ x. ⌜ x ≡ passIn (now (r .entry)) .context ⌝ }
+{
+    let p = load(r);
+    p.context
+}
+
+pub fn depth(r: &[usize]) -> u32
+    requires { ⌜ (length (now r) ≡ registersLength) ⌝ }
+    ensures { λ x. ⌜ x ≡ passIn (now (r .entry)) .scope .depth ⌝ }
+{
+    let p = load(r);
+    p.depth()
+}
+
+pub fn set_context(r: &mut [usize], context: u32)
+    requires { ⌜ (length (now r) ≡ registersLength) ⌝ }
+    ensures { λ _. ⌜ passIn (now (r .exit)) ≡ inContext context (passIn (now (r .entry))) ⌝ }
+{
+    let p = load(r);
+    store(r, p.with_context(context));
+}
+
+pub fn open_let(
+    all: &[u32],
+    at: usize,
+    names: Names,
+    height: u32,
+    f: Around,
+    r: &mut [usize],
+    facts: &mut [u32],
+    captured: &[u32],
+    arguments: &[u32],
+    work: &mut [u32],
+)
+    requires { ⌜ (length (now r) ≡ registersLength) × LetFits (now all) at names height f (passIn (now r)) (now facts) (now captured) (now arguments) (now work) ⌝ }
+    ensures { λ _. ⌜ EntersLet (now (all .entry)) at names height f (passIn (now (r .entry))) (now (facts .entry)) (now (captured .entry)) (now (arguments .entry)) (now (work .entry)) (passIn (now (r .exit))) (now (facts .exit)) (now (work .exit)) ⌝ }
+{
+    let p = load(r);
+    let q = enter_let(
+        all,
+        at,
+        names,
+        height,
+        f,
+        p,
+        facts,
+        captured,
+        arguments,
+        work,
+    );
+    store(r, q);
+}
+
+pub fn close_let(
+    all: &[u32],
+    opened: bool,
+    at: usize,
+    names: Names,
+    height: u32,
+    f: Around,
+    r: &mut [usize],
+    facts: &mut [u32],
+    arguments: &mut [u32],
+    work: &mut [u32],
+)
+    requires { ⌜ (length (now r) ≡ registersLength) × LetEnds (now all) at names f (passIn (now r)) (now facts) (now arguments) (now work) ⌝ }
+    ensures { λ _. ⌜ LeavesLet (now (all .entry)) opened at names height f (passIn (now (r .entry))) (now (facts .entry)) (now (arguments .entry)) (now (work .entry)) (passIn (now (r .exit))) (now (facts .exit)) (now (arguments .exit)) (now (work .exit)) ⌝ }
+{
+    let p = load(r);
+    let q = leave_let(all, opened, at, names, height, f, p, facts, arguments, work);
+    store(r, q);
+}
+
+pub fn open_define(
+    all: &[u32],
+    at: usize,
+    direct: bool,
+    b: Body,
+    r: &mut [usize],
+    facts: &mut [u32],
+    work: &mut [u32],
+)
+    requires { ⌜ (length (now r) ≡ registersLength) × DefineFits (now all) at (passIn (now r)) (now facts) (now work) ⌝ }
+    ensures { λ _. ⌜ BeforeDefine (now (all .entry)) at direct b (passIn (now (r .entry))) (now (facts .entry)) (now (work .entry)) (passIn (now (r .exit))) (now (facts .exit)) (now (work .exit)) ⌝ }
+{
+    let p = load(r);
+    let q = before_define(all, at, direct, b, p, facts, work);
+    store(r, q);
+}
+
+pub fn close_define(
+    all: &[u32],
+    at: usize,
+    direct: bool,
+    context: u32,
+    b: Body,
+    r: &mut [usize],
+    facts: &mut [u32],
+    work: &mut [u32],
+)
+    requires { ⌜ (length (now r) ≡ registersLength) × DefineFits (now all) at (passIn (now r)) (now facts) (now work) ⌝ }
+    ensures { λ _. ⌜ AfterDefine (now (all .entry)) at direct context b (passIn (now (r .entry))) (now (facts .entry)) (now (work .entry)) (passIn (now (r .exit))) (now (facts .exit)) (now (work .exit)) ⌝ }
+{
+    let p = load(r);
+    let q = after_define(all, at, direct, context, b, p, facts, work);
+    store(r, q);
+}
+
+pub fn open_lambda(
+    all: &[u32],
+    at: usize,
+    names: Names,
+    r: &mut [usize],
+    facts: &mut [u32],
+    captured: &mut [u32],
+    arguments: &[u32],
+    work: &mut [u32],
+)
+    requires { ⌜ (length (now r) ≡ registersLength) × LambdaFits (now all) at names (passIn (now r)) (now facts) (now captured) (now arguments) (now work) ⌝ }
+    ensures { λ _. ⌜ EntersLambda (now (all .entry)) at names (passIn (now (r .entry))) (now (facts .entry)) (now (captured .entry)) (now (arguments .entry)) (now (work .entry)) (passIn (now (r .exit))) (now (facts .exit)) (now (captured .exit)) (now (work .exit)) ⌝ }
+{
+    let p = load(r);
+    let q = enter_lambda(all, at, names, p, facts, captured, arguments, work);
+    store(r, q);
+}
+
+pub fn close_lambda(
+    all: &[u32],
+    at: usize,
+    d: Ending,
+    escapes: bool,
+    r: &mut [usize],
+    facts: &mut [u32],
+    captured: &mut [u32],
+    arguments: &mut [u32],
+    work: &mut [u32],
+)
+    requires { ⌜ (length (now r) ≡ registersLength) × LambdaEnds (now all) at d (passIn (now r)) (now facts) (now captured) (now arguments) (now work) ⌝ }
+    ensures { λ _. ⌜ LeavesLambda (now (all .entry)) at d escapes (passIn (now (r .entry))) (now (facts .entry)) (now (captured .entry)) (now (arguments .entry)) (now (work .entry)) (passIn (now (r .exit))) (now (facts .exit)) (now (captured .exit)) (now (arguments .exit)) (now (work .exit)) ⌝ }
+{
+    let p = load(r);
+    let q = leave_lambda(all, at, d, escapes, p, facts, captured, arguments, work);
+    store(r, q);
+}
+
+pub fn open_begin(
+    classes: &[u8],
+    all: &[u32],
+    first: usize,
+    k: usize,
+    r: &mut [usize],
+    facts: &mut [u32],
+    work: &mut [u32],
+)
+    requires { ⌜ (length (now r) ≡ registersLength) × ChildrenFit (length (now classes)) (now all) first k (passIn (now r)) (now facts) (now work) ⌝ }
+    ensures { λ _. ⌜ EntersChildren (now (classes .entry)) (now (all .entry)) first k LocallyDefinedFunction (passIn (now (r .entry))) (now (facts .entry)) (now (work .entry)) (passIn (now (r .exit))) (now (facts .exit)) (now (work .exit)) ⌝ }
+{
+    let p = load(r);
+    let q = enter_children(
+        classes,
+        all,
+        first,
+        k,
+        IdentifierStatus::LocallyDefinedFunction,
+        p,
+        facts,
+        work,
+    );
+    store(r, q);
+}
+
+pub fn close_call(
+    all: &[u32],
+    at: usize,
+    first: usize,
+    k: usize,
+    tail: bool,
+    counter: u32,
+    r: &[usize],
+    facts: &mut [u32],
+    work: &[u32],
+)
+    requires { ⌜ (length (now r) ≡ registersLength) × CallFits (now all) at first k (passIn (now r)) (now facts) (now work) ⌝ }
+    ensures { λ _. ⌜ EndsCall (now (all .entry)) at first k tail counter (passIn (now (r .entry))) (now (facts .entry)) (now (work .entry)) (now (facts .exit)) ⌝ }
+{
+    let p = load(r);
+    end_call(all, at, first, k, tail, counter, p, facts, work);
+}
+
+pub fn open_set(at: usize, r: &mut [usize], facts: &[u32])
+    requires { ⌜ (length (now r) ≡ registersLength) × (at < rowsMost) × (length (now facts) ≡ factsLength) ⌝ }
+    ensures { λ _. ⌜ ClearsContext at (passIn (now (r .entry))) (now (facts .entry)) (passIn (now (r .exit))) ⌝ }
+{
+    let p = load(r);
+    let q = clear_context(at, p, facts);
+    store(r, q);
+}
+
+pub fn close_set(name: u32, r: &[usize], facts: &mut [u32], work: &mut [u32])
+    requires { ⌜ (length (now r) ≡ registersLength) × Settable (passIn (now r)) (now facts) (now work) ⌝ }
+    ensures { λ _. ⌜ Mutates name (passIn (now (r .entry))) (now (facts .entry)) (now (work .entry)) (now (facts .exit)) (now (work .exit)) ⌝ }
+{
+    let p = load(r);
+    mutate(name, p, facts, work);
+}
