@@ -1,5 +1,5 @@
 -- begin: its lambda defines enter, then its children are visited one after another.
-use Prim.Native.Nat.{ℕ, suc, _+_, _-_, _*_, _≤_, _<_}
+use Prim.Native.Nat.{ℕ, suc, _+_, _-_, _*_, _<_}
 use mathlib.Core.List.{List}
 use mathlib.Core.Bool.{Bool}
 use mathlib.Core.Path.{_≡_, ap, sym, subst, _∙_}
@@ -10,7 +10,6 @@ use lib.Dec.{eqb}
 use Rattle.tree.specs.Record.{width}
 use Rattle.tree.specs.RecordLaws.{nth}
 use Rattle.tree.specs.Tree.{Node, Tree, Trees, begin, nil, cons, many, size, sizes}
-use Rattle.tree.specs.TreeLaws.{size-pos}
 use Rattle.tree.specs.Stands.{StandAll}
 use Rattle.tree.specs.StandsLaws.{first-tree, later-trees}
 use Rattle.tree.specs.StandsParts.{BeginParts}
@@ -30,7 +29,6 @@ use Rattle.flags.specs.declared.Flags.{Flags as Coded}
 use Rattle.visits.specs.Contract.{Fit, Done}
 use Rattle.visits.proofs.Views.{part-on, small, stand-all-at, children-at, names-room, entered-children}
 
--- the i-th of k is the last one
 module _ {classes rs part : List ℕ} {at : ℕ} {g : Coded} {p : Pass} {F C A w : List ℕ} where
   pub record BeginView (x : Fit classes rs part at g (raw p F C A w)) : Type 0 where
     pub n : Node
@@ -116,13 +114,6 @@ module _ {classes rs part : List ℕ} {at : ℕ} {g : Coded} {p : Pass} {F C A w
           → StandAll (length classes) rs (at + used) ts → visitChildren classes ts (x .f) (l .s) ≡ visit classes (x .t) (x .f) (x .s) → Next x used m z
       go nil c e v u q = absurd (omega arith)
       go (cons t ts) c e v u q = record { t = t; rest = ts; s = l .s; count = c; span = e; tied = l .tied; fits = v; stand = u; state = q }
-
-  pub next-long : {x : Fit classes rs part at g (raw p F C A w)} {used m : ℕ} {z : Raw} → Next x used m z → used + 1 ≤ size (x .t)
-  unfolding size
-  next-long n = omega (arith, n .span, size-pos (n .t))
-
-  pub left-at : {x : Fit classes rs part at g (raw p F C A w)} {used m l : ℕ} {z : Raw} → m ≡ l → Left x used m z → Left x used l z
-  left-at {x} {used} {z = z} e v = subst (λ (i : ℕ). Left x used i z) e v
 
   -- the last child is told by the count
   last-is : {x : Fit classes rs part at g (raw p F C A w)} {used m : ℕ} {z : Raw} {last : Bool} → (n : Next x used m z) → last ≡ eqb m 1 → last ≡ isNil (n .rest)

@@ -8,7 +8,7 @@ use borrow.Author.Tests.{eqb-true, eqb-false, eq-eqb, ne-eqb}
 use lib.Dec.{eqb}
 use lib.ListN.{length}
 use Rattle.tree.specs.Record.{width}
-use Rattle.tree.specs.Tree.{size, sizes}
+use Rattle.tree.specs.Tree.{size}
 use Rattle.tree.specs.TreeLaws.{size-pos}
 use Rattle.work.specs.Tied.{Raw, raw}
 use Rattle.work.specs.declared.Pass.{Pass}

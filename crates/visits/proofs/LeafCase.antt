@@ -11,7 +11,7 @@ use Rattle.tree.specs.StandsForms.{IdentOf, ident-of, const-of, form-range}
 use Rattle.pass.specs.Read.{read}
 use Rattle.pass.specs.Visit.{visit}
 use Rattle.pass.specs.Laws.Visitable.Leaves.{reliable}
-use Rattle.work.specs.Tied.{Raw, raw, Tied, Here}
+use Rattle.work.specs.Tied.{raw, Tied, Here}
 use Rattle.work.specs.declared.Pass.{Pass}
 use Rattle.names.specs.Contract.{Readable, Does}
 use Rattle.flags.specs.declared.Flags.{Flags as Coded}
