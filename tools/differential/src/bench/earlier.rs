@@ -39,10 +39,12 @@ pub struct Earlier {
     fresh: Call,
     settled: Call,
     pub lengths: [usize; LENGTHS.len()],
+    /// What it is, for a reader.
+    pub about: String,
 }
 
 impl Earlier {
-    /// The shared library that the command made of the folder's archive, and the lengths that the folder's header tells.
+    /// The shared library that the command made of the folder's archive, the lengths that the folder's header tells, and what its file ABOUT says.
     pub fn load(folder: &Path) -> Result<Self, String> {
         let header = folder.join("scheme_analysis.h");
         let text = fs::read_to_string(&header).map_err(|e| format!("{}: {e}", header.display()))?;
@@ -62,6 +64,7 @@ impl Earlier {
             fresh: symbol(library, c"scheme_analysis_fresh")?,
             settled: symbol(library, c"scheme_analysis_settled")?,
             lengths,
+            about: fs::read_to_string(folder.join("ABOUT")).unwrap_or_default().trim().to_string(),
         })
     }
 

@@ -113,7 +113,11 @@ fn port_time(mut call: impl FnMut() -> bool) -> f64 {
 }
 
 /// The times of each input, over one set of tables.
-fn port_times(inputs: &[Input], lengths: [usize; LENGTHS.len()], call: impl Fn(&Input, &mut Tables) -> bool) -> Vec<Port> {
+fn port_times(
+    inputs: &[Input],
+    lengths: [usize; LENGTHS.len()],
+    call: impl Fn(&Input, &mut Tables) -> bool,
+) -> Vec<Port> {
     let mut tables = lengths.map(|length| vec![0; length]);
     let mut time = |input: &Input| port_time(|| call(black_box(input), &mut tables));
     let empty = time(&Input::default());

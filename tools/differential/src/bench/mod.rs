@@ -39,7 +39,7 @@ impl Measured {
 
 /// With the folder of an earlier port, that is measured beside.
 pub fn bench(seed: u64, before: Option<&Path>) -> ExitCode {
-    match measured(seed, before).and_then(|(shapes, series)| page::write(seed, &shapes, &series)) {
+    match measure_all(seed, before) {
         Ok(()) => ExitCode::SUCCESS,
         Err(message) => {
             eprintln!("{message}");
@@ -48,7 +48,7 @@ pub fn bench(seed: u64, before: Option<&Path>) -> ExitCode {
     }
 }
 
-fn measured(seed: u64, before: Option<&Path>) -> Result<(Vec<Measured>, Vec<Measured>), String> {
+fn measure_all(seed: u64, before: Option<&Path>) -> Result<(), String> {
     let earlier = before.map(Earlier::load).transpose()?;
     let earlier = earlier.as_ref();
     let (shapes, series) = sets::sets(seed);
@@ -59,5 +59,5 @@ fn measured(seed: u64, before: Option<&Path>) -> Result<(Vec<Measured>, Vec<Meas
         eprintln!("round {round} of {ROUNDS}");
         shapes.iter_mut().chain(&mut series).for_each(|set| set.again(earlier));
     }
-    Ok((shapes, series))
+    page::write(seed, earlier.map_or("", |e| &e.about), &shapes, &series)
 }

@@ -13,8 +13,8 @@ The original and the port on the same trees, both optimised, on one thread. Made
 
     tools/differential/run FOLDER --bench [--before EARLIER]
 
-which rewrites this page. EARLIER is a folder with the archive and the C header of an earlier port, which is then measured in the same
-rounds: before, where now is the port of this tree.
+which rewrites this page. EARLIER is a folder with the archive and the C header of an earlier port, and a line about it in the file ABOUT;
+it is then measured in the same rounds: before, where now is the port of this tree.
 
 Microseconds of processor time, of all trees of a line together; of each tree the shortest of ten rounds with at least 5 repetitions and
 0.04 seconds each.
@@ -32,8 +32,11 @@ grows.
 
 const PATH: &str = concat!(env!("CARGO_MANIFEST_DIR"), "/../../docs/BENCHMARKS.md");
 
-pub fn write(seed: u64, shapes: &[Measured], series: &[Measured]) -> Result<(), String> {
-    let page = format!("{TEXT}\n{}, seed {seed}.\n\n{}\n{}", processor(), table(shapes), sizes(series));
+/// `about`: what the earlier port is, or nothing.
+pub fn write(seed: u64, about: &str, shapes: &[Measured], series: &[Measured]) -> Result<(), String> {
+    let before = if about.is_empty() { String::new() } else { format!(" Before: {about}") };
+    let page =
+        format!("{TEXT}\n{}, seed {seed}.{before}\n\n{}\n{}", processor(), table(shapes), sizes(series));
     fs::write(PATH, page).map_err(|e| format!("{PATH}: {e}"))
 }
 
@@ -65,10 +68,11 @@ fn row(cells: impl IntoIterator<Item = String>) -> String {
 /// The head of a table: words on the left, numbers on the right.
 fn head(words: &[&str], numbers: &[String]) -> String {
     let lines = words.iter().map(|_| "---").chain(numbers.iter().map(|_| "--:"));
-    row(words.iter().map(|word| word.to_string()).chain(numbers.iter().cloned())) + &row(lines.map(String::from))
+    row(words.iter().map(|word| word.to_string()).chain(numbers.iter().cloned()))
+        + &row(lines.map(String::from))
 }
 
-/// Whether an earlier port was measured, and what is told of each port: the earlier one's first.
+/// The ports that were measured, the earlier one first.
 fn ports(times: &Times) -> Vec<(&'static str, Port)> {
     let now = ("now", times.port);
     times.earlier.map_or(vec![now], |earlier| vec![("before", earlier), now])
@@ -88,9 +92,14 @@ fn table(sets: &[Measured]) -> String {
                 1 => set.name.clone(),
                 number => format!("{number} {}", set.name),
             };
-            let mut cells = vec![trees, run.to_string(), count(set).to_string(), micros(t.analysis), micros(t.whole)];
+            let mut cells =
+                vec![trees, run.to_string(), count(set).to_string(), micros(t.analysis), micros(t.whole)];
             for (_, port) in ports(&t) {
-                cells.extend([micros(port.call), micros(port.net()), format!("{:.2}", port.net() / t.analysis)]);
+                cells.extend([
+                    micros(port.call),
+                    micros(port.net()),
+                    format!("{:.2}", port.net() / t.analysis),
+                ]);
             }
             out += &row(cells);
         }

@@ -46,7 +46,9 @@ fn captured_in_order() -> Input {
     let set = |name| Expression::new(SET, vec![name], vec![Expression::constant(false)]);
     let begin = |kids| Expression::new(BEGIN, vec![], kids);
     let lambda = |names, body| Expression::new(LAMBDA, names, vec![body]);
-    let used = |i: u32| begin(group(i).map(|name| if (name - 255 * i) % 4 == 0 { set(name) } else { read(name) }).collect());
+    let used = |i: u32| {
+        begin(group(i).map(|name| if (name - 255 * i) % 4 == 0 { set(name) } else { read(name) }).collect())
+    };
     let mut kids: Vec<Expression> = (0..4).map(used).collect();
     kids.push(lambda(vec![], read(0)));
     let tree = (0..4).rev().fold(lambda(vec![], begin(kids)), |body, i| lambda(group(i).collect(), body));
