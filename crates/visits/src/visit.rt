@@ -398,7 +398,7 @@ fn visit_list(
         arguments,
         work,
     );
-    let o = visit(
+    visit(
         classes,
         all,
         &rs[6..],

@@ -1,4 +1,4 @@
-//! How long both sides take: of many repetitions the shortest.
+//! How long both sides take: of many repetitions the shortest, of the rounds the middle one.
 
 use super::clock::{least, now};
 use super::earlier::Earlier;
@@ -33,8 +33,10 @@ pub struct Times {
 }
 
 impl Port {
-    fn by(self, other: Port, join: fn(f64, f64) -> f64) -> Port {
-        Port { call: join(self.call, other.call), empty: join(self.empty, other.empty) }
+    /// Each time, of those of many.
+    fn of(many: &[Port], join: impl Fn(Vec<f64>) -> f64) -> Port {
+        let each = |time: fn(&Port) -> f64| join(many.iter().map(time).collect());
+        Port { call: each(|t| t.call), empty: each(|t| t.empty) }
     }
 
     pub fn net(self) -> f64 {
@@ -43,21 +45,29 @@ impl Port {
 }
 
 impl Times {
-    fn by(self, other: Times, join: fn(f64, f64) -> f64) -> Times {
+    /// Each time, of those of many; the earlier port's where all have one.
+    fn of(many: &[Times], join: impl Fn(Vec<f64>) -> f64) -> Times {
+        let each = |time: fn(&Times) -> f64| join(many.iter().map(time).collect());
+        let ports: Vec<Port> = many.iter().map(|t| t.port).collect();
+        let earlier: Option<Vec<Port>> = many.iter().map(|t| t.earlier).collect();
         Times {
-            analysis: join(self.analysis, other.analysis),
-            whole: join(self.whole, other.whole),
-            port: self.port.by(other.port, join),
-            earlier: self.earlier.zip(other.earlier).map(|(one, other)| one.by(other, join)),
+            analysis: each(|t| t.analysis),
+            whole: each(|t| t.whole),
+            port: Port::of(&ports, &join),
+            earlier: earlier.map(|ports| Port::of(&ports, &join)),
         }
     }
 
-    pub fn shorter(self, other: Times) -> Times {
-        self.by(other, f64::min)
+    /// The middle one of each: a round in which the clock or the machine was disturbed does not count.
+    pub fn median(rounds: &[Times]) -> Times {
+        Times::of(rounds, |mut times| {
+            times.sort_by(f64::total_cmp);
+            (times[(times.len() - 1) / 2] + times[times.len() / 2]) / 2.0
+        })
     }
 
-    pub fn sum(self, other: Times) -> Times {
-        self.by(other, |one, other| one + other)
+    pub fn sum(many: &[Times]) -> Times {
+        Times::of(many, |times| times.iter().sum())
     }
 }
 
@@ -139,4 +149,29 @@ pub fn measure(inputs: &[Input], run: Run, earlier: Option<&Earlier>) -> Vec<Tim
         Times { analysis, whole, port: ports[i], earlier: earlier.as_ref().map(|times| times[i]) }
     };
     inputs.iter().enumerate().map(times).collect()
+}
+
+#[cfg(test)]
+mod tests {
+    use super::*;
+
+    fn times(time: f64) -> Times {
+        let port = Port { call: 3.0 * time, empty: time };
+        Times { analysis: time, whole: 2.0 * time, port, earlier: Some(port) }
+    }
+
+    #[test]
+    fn a_round_that_was_disturbed_does_not_count() {
+        let median = Times::median(&[times(4.0), times(-100.0), times(5.0), times(900.0)]);
+        assert_eq!((median.analysis, median.whole, median.port.net()), (4.5, 9.0, 9.0));
+        assert_eq!(median.earlier.map(Port::net), Some(9.0));
+    }
+
+    #[test]
+    fn a_sum_has_an_earlier_port_where_all_have_one() {
+        let sum = Times::sum(&[times(1.0), times(2.0)]);
+        assert_eq!((sum.analysis, sum.port.net(), sum.earlier.map(Port::net)), (3.0, 6.0, Some(6.0)));
+        let without = Times { earlier: None, ..times(2.0) };
+        assert!(Times::sum(&[times(1.0), without]).earlier.is_none());
+    }
 }

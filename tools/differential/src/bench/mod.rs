@@ -16,23 +16,23 @@ use std::process::ExitCode;
 /// Rounds over all trees, so that other work on the machine meets all alike.
 const ROUNDS: usize = 10;
 
-/// The shortest times of a set's trees so far.
+/// The times of a set's trees, one of each round.
 struct Measured {
     set: Set,
-    fresh: Vec<Times>,
-    settled: Vec<Times>,
+    fresh: Vec<Vec<Times>>,
+    settled: Vec<Vec<Times>>,
 }
 
 impl Measured {
-    fn new(set: Set, earlier: Option<&Earlier>) -> Self {
-        let [fresh, settled] = [Run::Fresh, Run::Settled].map(|run| measure(&set.inputs, run, earlier));
-        Measured { set, fresh, settled }
+    fn new(set: Set) -> Self {
+        let none = vec![Vec::new(); set.inputs.len()];
+        Measured { set, fresh: none.clone(), settled: none }
     }
 
-    fn again(&mut self, earlier: Option<&Earlier>) {
+    fn measure(&mut self, earlier: Option<&Earlier>) {
         for (run, kept) in [(Run::Fresh, &mut self.fresh), (Run::Settled, &mut self.settled)] {
             let times = measure(&self.set.inputs, run, earlier);
-            kept.iter_mut().zip(times).for_each(|(kept, times)| *kept = kept.shorter(times));
+            kept.iter_mut().zip(times).for_each(|(kept, times)| kept.push(times));
         }
     }
 }
@@ -52,12 +52,11 @@ fn measure_all(seed: u64, before: Option<&Path>) -> Result<(), String> {
     let earlier = before.map(Earlier::load).transpose()?;
     let earlier = earlier.as_ref();
     let (shapes, series) = sets::sets(seed);
-    eprintln!("round 1 of {ROUNDS}");
-    let first = |sets: Vec<Set>| sets.into_iter().map(|set| Measured::new(set, earlier)).collect();
-    let (mut shapes, mut series): (Vec<Measured>, Vec<Measured>) = (first(shapes), first(series));
-    for round in 2..=ROUNDS {
+    let all = |sets: Vec<Set>| sets.into_iter().map(Measured::new).collect();
+    let (mut shapes, mut series): (Vec<Measured>, Vec<Measured>) = (all(shapes), all(series));
+    for round in 1..=ROUNDS {
         eprintln!("round {round} of {ROUNDS}");
-        shapes.iter_mut().chain(&mut series).for_each(|set| set.again(earlier));
+        shapes.iter_mut().chain(&mut series).for_each(|set| set.measure(earlier));
     }
     page::write(seed, earlier.map_or("", |e| &e.about), &shapes, &series)
 }

@@ -16,8 +16,8 @@ The original and the port on the same trees, both optimised, on one thread. Made
 which rewrites this page. EARLIER is a folder with the archive and the C header of an earlier port, and a line about it in the file ABOUT;
 it is then measured in the same rounds: before, where now is the port of this tree.
 
-Microseconds of processor time, of all trees of a line together; of each tree the shortest of ten rounds with at least 5 repetitions and
-0.04 seconds each.
+Microseconds of processor time, of all trees of a line together; of each tree the median of ten rounds, each with the shortest of at least 5
+repetitions and 0.04 seconds.
 
 - **analysis**: the original's `run_with_scope` on an empty `Analysis`, once or twice.
 - **whole**: the same with making and dropping the `Analysis`.
@@ -54,9 +54,10 @@ fn micros(nanos: f64) -> String {
     format!("{:.1}", nanos / 1000.0)
 }
 
-/// Of all trees of a set together.
-fn total(times: &[Times]) -> Times {
-    times.iter().copied().reduce(Times::sum).expect("a set has trees")
+/// Of all trees of a set together, each with the median of its rounds.
+fn total(trees: &[Vec<Times>]) -> Times {
+    let medians: Vec<Times> = trees.iter().map(|rounds| Times::median(rounds)).collect();
+    Times::sum(&medians)
 }
 
 /// The cells of a row of a table.
