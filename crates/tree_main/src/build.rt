@@ -1,4 +1,5 @@
-// Trees in an array of records. What lies outside the array is not written.
+// Trees in an array of records. What lies outside the array is not written. Only safety is proved here: what is built is seen in what the
+// checks say of it, which is held to the file `stdout`.
 use tree::record::WIDTH;
 
 pub const RECORDS: usize = 4097;

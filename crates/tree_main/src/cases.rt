@@ -1,4 +1,4 @@
-// The cases.
+// The cases: each prints what the checks say of a tree. Only safety is proved here.
 use crate::build::COUNT;
 use crate::build::FORM;
 use crate::build::ID;
