@@ -6,11 +6,11 @@ use native.Mathlib.Omega.{arith}
 use borrow.Author.Tests.{ne-eqb, le-leb, lt-leb}
 use lib.Dec.{eqb, leb}
 use Rattle.tree.specs.Form.{formOf, namesOf, othersOf, childrenOf, idFits}
-use Rattle.tree.specs.Field.{hasIdIn, nameBelowIn, countMostIn}
+use Rattle.tree.specs.Field.{hasIdIn, nameBelowIn, countMostIn, dueMost}
 use Rattle.tree.specs.Entry.{entryOf, entriesOf}
 use Rattle.tree.proofs.Forms.{unknown, by-form}
 
-entry-unknown : (t f : ℕ) → 9 < f → entryOf t f ≡ t % 16
+pub entry-unknown : (t f : ℕ) → 9 < f → entryOf t f ≡ t % 16
 unfolding entryOf
 entry-unknown t f h = rw (lt-leb f 9 h)
 
@@ -52,11 +52,11 @@ unfolding entryOf
 count-few f = by-form (λ n. entryOf 0xf0111010000 n ≤ 1) (omega arith) (λ n h. rw (entry-unknown 0xf0111010000 n h) (omega arith)) f
 
 -- the upper part of the name's entry is 1 for an identifier alone
-pub due-entry : (f : ℕ) → (0 < entryOf 0xf1111111241 f / 4 → f ≡ 1) × (entryOf 0xf1111111241 f / 4 ≤ 1)
-unfolding entryOf
+pub due-entry : (f : ℕ) → entryOf 0xf1111111241 f / 4 * 255 ≡ dueMost f
+unfolding entryOf dueMost
 due-entry f =
-    by-form (λ n. (0 < entryOf 0xf1111111241 n / 4 → n ≡ 1) × (entryOf 0xf1111111241 n / 4 ≤ 1)) (omega arith)
-    (λ n h. rw (entry-unknown 0xf1111111241 n h) (omega arith)) f
+    by-form (λ n. entryOf 0xf1111111241 n / 4 * 255 ≡ dueMost n) (omega arith)
+    (λ n h. rw (entry-unknown 0xf1111111241 n h, ne-eqb n 1 (λ e. omega arith))) f
 
 -- The id: its entry is 1 or 0
 

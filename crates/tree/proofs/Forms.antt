@@ -1,16 +1,18 @@
 -- The rows of the table of forms, by the form's number. Each rule is computed at the forms 0 to 9; above them there is no form.
 use Prim.Native.Nat.{ℕ, zero, suc, _+_, _*_, _≤_, _<_}
 use mathlib.Core.List.{List, [], _∷_}
-use mathlib.Core.Bool.{Bool, true, false}
+use mathlib.Core.Bool.{Bool, true, false, true≢false}
 use mathlib.Core.Option.{none}
 use mathlib.Core.Path.{_≡_, refl, ap, sym, _∙_}
 use native.Mathlib.Omega.{arith}
 use native.Mathlib.Decide.{decLe, decLt}
-use borrow.Author.Tests.{le-leb, lt-leb}
+use borrow.Author.Tests.{ne-eqb, le-leb, lt-leb}
 use lib.ListN.{length, getElem?}
 use lib.Dec.{T, leb}
-use Rattle.tree.specs.Form.{Form, forms, formOf, namesOf, othersOf, childrenOf}
-use Rattle.tree.specs.Field.{isForm}
+use Rattle.tree.specs.Record.{Record}
+use Rattle.tree.specs.Form.{Form, forms, formOf, namesOf, othersOf, childrenOf, fits}
+use Rattle.tree.specs.Field.{isForm, dueMost}
+use Rattle.tree.specs.Build.{mostIn, row}
 use Rattle.tree.proofs.Table.{Each, each}
 
 past : (l : List Form) (n : ℕ) → length l ≤ n → getElem? l n ≡ none
@@ -44,6 +46,13 @@ from-one : (f : ℕ) → 1 ≤ f → Dec (f ≤ 9) → leb f 9 ≡ isForm (formO
 from-one f h (yes g) = le-leb f 9 g ∙ sym (is-form f h g)
 from-one f h (no g) = lt-leb f 9 (omega arith) ∙ sym (ap isForm (unknown f (omega arith)))
 
+at-most : (f : ℕ) → isForm (formOf f) ≡ true → Dec (f ≤ 9) → f ≤ 9
+at-most f e (yes g) = g
+at-most f e (no g) = absurd (true≢false (sym e ∙ ap isForm (unknown f (omega arith))))
+
+pub known-most : (f : ℕ) → isForm (formOf f) ≡ true → f ≤ 9
+known-most f e = at-most f e (decLe f 9)
+
 pub known : (f : ℕ) → 1 ≤ f → leb f 9 ≡ isForm (formOf f)
 known f h = from-one f h (decLe f 9)
 
@@ -56,6 +65,23 @@ pub few-children : (f c : ℕ) → childrenOf f c ≤ 2 * c + 3
 unfolding formOf namesOf othersOf childrenOf
 few-children f c = by-form (λ n. childrenOf n c ≤ 2 * c + 3) (omega arith) (λ n h. rw (unknown n h) (omega arith)) f
 
+-- a count of 32 bits gives no more
+pub children-at : {n f c g d : ℕ} → n ≡ childrenOf f c → f ≡ g → c ≡ d → c < 4294967296 → (n ≡ childrenOf g d) × (n ≤ 8589934593)
+children-at {f = f} {c} e p q h = (e ∙ rw (p, q), omega (arith, e, few-children f c))
+
 pub few-names : (f c : ℕ) → namesOf f c ≤ c + 1
 unfolding formOf namesOf
 few-names f c = by-form (λ n. namesOf n c ≤ c + 1) (omega arith) (λ n h. rw (unknown n h) (omega arith)) f
+
+pub few-due : (f : ℕ) → dueMost f ≤ 255
+unfolding dueMost
+few-due f = by-form (λ n. dueMost n ≤ 255) (omega arith) (λ n h. rw (ne-eqb n 1 (λ e. omega arith)) (omega arith)) f
+
+counted-names : (f c : ℕ) → c ≤ mostIn (formOf f) → namesOf f c ≤ 255
+unfolding formOf namesOf
+counted-names f c = by-form (λ n. c ≤ mostIn (formOf n) → namesOf n c ≤ 255) (omega arith) (λ n h g. rw (unknown n h) (omega arith)) f
+
+-- a record that fits has 255 names at the most
+pub fit-names : (N : ℕ) (r : Record) → fits N r ≡ true → namesOf (r .form) (r .count) ≤ 255
+unfolding fits
+fit-names N r e = counted-names (r .form) (r .count) (row N r (formOf (r .form)) e .1)

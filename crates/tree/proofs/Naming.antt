@@ -6,7 +6,7 @@ use mathlib.Core.Option.{none, some}
 use mathlib.Core.Path.{_≡_, refl, ap, sym, subst, _∙_}
 use native.Mathlib.Omega.{arith}
 use native.Mathlib.Decide.{decLt}
-use borrow.Author.Tests.{ne-eqb, lt-ltb, le-ltb}
+use borrow.Author.Tests.{eqb-true, not-false, ne-eqb, lt-ltb, le-ltb}
 use lib.Dec.{eqb}
 use lib.ListN.{length, drop}
 use Rattle.tree.specs.Record.{Record, records}
@@ -15,7 +15,7 @@ use Rattle.tree.specs.Form.{formOf, namesOf, othersOf}
 use Rattle.tree.specs.Held.{toCome}
 use Rattle.tree.specs.Place.{Open, closed, takeOne, taken, after, Placed, isNamePlace, placed}
 use Rattle.tree.specs.First.{on, first}
-use Rattle.tree.specs.FirstLaws.{on-zero, first-hit, first-next}
+use Rattle.tree.specs.FirstLaws.{on-zero, first-hit, first-next, first-none}
 use Rattle.tree.specs.Check.{check6}
 use Rattle.tree.proofs.Places.{opened, closed-done, closed-open, by-closing, placedAt, placed-next, placed-end}
 
@@ -74,7 +74,7 @@ due-after : (s : List Open) (r : Record) → Due s 0 → Due (after s r) (namesO
 unfolding after
 due-after s r u = due-closed (opened r) (taken s) (taken-quiet s u) (decLt 0 (toCome (opened r)))
 
-no-children : (r : Record) → r .form ≡ 1 → toCome (opened r) ≡ 0
+pub no-children : (r : Record) → r .form ≡ 1 → toCome (opened r) ≡ 0
 unfolding formOf namesOf othersOf
 no-children r e = rw e
 
@@ -143,6 +143,12 @@ module _ {rs : List ℕ} {i d : ℕ} (a : Naming rs i d) where
     pub misnamed-here : 0 < d → (f : ℕ) → f ≡ nth rs i .form → (f ≡ 1 → ⊥) → (N : ℕ) → some i ≡ check6 N rs
     unfolding check6
     misnamed-here z f ef e N = sym (at-record ∙ first-hit misnamed i (placedAt (a .s) (nth rs i)) _ (rw (is-due (a .s) d z (a .names), ← ef, ne-eqb f 1 e)))
+
+    pub none-due : 0 < d → (N : ℕ) → check6 N rs ≡ none → nth rs i .form ≡ 1
+    unfolding check6
+    none-due z N e =
+        let f = first-none misnamed i (placedAt (a .s) (nth rs i)) _ (sym at-record ∙ e) in
+        eqb-true _ 1 (not-false _ (rw (is-due (a .s) d z (a .names)) at f))
 
   pub none-misnamed : length (records rs) ≤ i → (N : ℕ) → none ≡ check6 N rs
   unfolding check6 first

@@ -11,7 +11,7 @@ use Rattle.tree.specs.Record.{Record, records}
 use Rattle.tree.specs.RecordLaws.{blank, nth}
 use Rattle.tree.specs.Form.{fits}
 use Rattle.tree.specs.First.{on, first}
-use Rattle.tree.specs.FirstLaws.{on-zero, from-hit, from-next, from-end}
+use Rattle.tree.specs.FirstLaws.{on-zero, from-hit, from-next, from-none, from-end}
 
 -- what the checks 3 and 7 look for
 abbrev pub outside : ℕ → Record → Bool
@@ -33,6 +33,9 @@ module _ (test : Record → Bool) (rs : List ℕ) where
 
   pub next : {i : ℕ} → At i → i < length (records rs) → test (nth rs i) ≡ false → At (i + 1)
   next {i} a h t = record { within = omega arith; rest = a .rest ∙ from-next test (records rs) blank i h t }
+
+  pub fails : {i : ℕ} → At i → i < length (records rs) → first test (records rs) ≡ none → test (nth rs i) ≡ false
+  fails {i} a h e = from-none test (records rs) blank i h (sym (a .rest) ∙ e)
 
   pub end : {i : ℕ} → At i → length (records rs) ≤ i → none ≡ first test (records rs)
   end {i} a h = sym (a .rest ∙ from-end test (records rs) blank i h)

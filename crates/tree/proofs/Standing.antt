@@ -1,20 +1,21 @@
 -- Checks 4 and 5 in one pass: the open records are held in two tables, none nested too deep so far.
 use Prim.Native.Nat.{ℕ, suc, _+_, _≤_, _<_}
 use mathlib.Core.List.{List, [], _∷_}
+use mathlib.Core.Bool.{Bool, true, false}
 use mathlib.Core.Option.{none}
 use mathlib.Core.Path.{_≡_, refl, ap, sym, _∙_}
 use native.Mathlib.Omega.{arith}
-use borrow.Author.Tests.{eq-eqb, le-ltb}
+use borrow.Author.Tests.{ltb-false, eqb-true, not-false, eq-eqb, le-ltb}
 use lib.ListN.{length, getD, drop, replicate}
 use Rattle.tree.specs.Record.{Record, records}
 use Rattle.tree.specs.RecordLaws.{blank, nth}
 use Rattle.tree.specs.Form.{childrenOf}
-use Rattle.tree.specs.Place.{Open, taken, after, Placed, left}
+use Rattle.tree.specs.Place.{Open, taken, after, Placed, placed, left}
 use Rattle.tree.specs.First.{on, first}
-use Rattle.tree.specs.FirstLaws.{on-zero, first-next}
+use Rattle.tree.specs.FirstLaws.{on-zero, first-next, first-none}
 use Rattle.tree.specs.Walked.{isDeep, firstDeep}
 use Rattle.tree.specs.Held.{Live, Held, Takes, Opens}
-use Rattle.tree.specs.Check.{check4, check5}
+use Rattle.tree.specs.Check.{when, check4, check5}
 use Rattle.tree.proofs.Places.{opened, after-live, closed-few, taken-length, placedAt, left-next, left-end, placed-next, placed-end}
 use Rattle.tree.proofs.Holding.{held-few, held-level, held-none}
 
@@ -45,6 +46,10 @@ stand-begin rs = record {
   rest = refl;
 }
 
+when-none : (b : Bool) (i : ℕ) → when b i ≡ none → b ≡ false
+when-none true i e = let z : _≡_ {A = ℕ} 0 1 = cc in absurd (omega arith)
+when-none false i e = refl
+
 module _ {rs l level : List ℕ} {i top : ℕ} (a : Standing rs l level i top) where
   pub stand-level : getD level top 0 ≡ length (a .s)
   stand-level = held-level l level (a .s) top (a .live) (a .held) (a .top-level)
@@ -56,11 +61,19 @@ module _ {rs l level : List ℕ} {i top : ℕ} (a : Standing rs l level i top) w
   unfolding after
   after-few r = omega (arith, closed-few (opened r ∷ taken (a .s)), taken-length (a .s))
 
+  module _ (h : i < length (records rs)) where
+    at-record : firstDeep [] (records rs) ≡ on i (first isDeep (placedAt (a .s) (nth rs i) ∷ placed (after (a .s) (nth rs i)) (drop (i + 1) (records rs))))
+    at-record = a .deep ∙ ap (λ (m : List Placed). on i (first isDeep m)) (placed-next (records rs) blank i (a .s) h)
+
+    pub stand-near : (N : ℕ) → check5 N rs ≡ none → getD level top 0 + 1 ≤ 64
+    unfolding check5
+    stand-near N e =
+        omega (arith, ltb-false 64 (suc (length (a .s))) (first-none isDeep i (placedAt (a .s) (nth rs i)) _ (sym at-record ∙ e)), stand-level)
+
   module _ (h : i < length (records rs)) {nesting : ℕ} (en : nesting ≡ getD level top 0 + 1) (small : nesting ≤ 64) where
     not-deep : firstDeep [] (records rs) ≡ on (i + 1) (firstDeep (after (a .s) (nth rs i)) (drop (i + 1) (records rs)))
     not-deep =
-        a .deep
-        ∙ ap (λ (m : List Placed). on i (first isDeep m)) (placed-next (records rs) blank i (a .s) h)
+        at-record h
         ∙ first-next isDeep i (placedAt (a .s) (nth rs i)) _ (le-ltb 64 (suc (length (a .s))) (omega (arith, stand-level)))
 
     module _ {l′ l″ level″ : List ℕ} {over q children : ℕ} (t : Takes l top l′ over) (o : Opens l′ level over nesting children l″ level″ q) (ec : children ≡ childrenOf (nth rs i .form) (nth rs i .count)) where
@@ -88,6 +101,13 @@ module _ {rs l level : List ℕ} {i top : ℕ} (a : Standing rs l level i top) w
     unfolding check5 first
     stand-shallow = a .deep ∙ ap (λ (m : List Placed). on i (first isDeep m)) (placed-end (records rs) blank i (a .s) h)
 
+    at-end : left [] (records rs) ≡ a .s
+    at-end = a .rest ∙ left-end (records rs) blank i (a .s) h
+
+    pub stand-none : check4 N rs ≡ none → top ≡ 0
+    unfolding check4
+    stand-none e = omega (arith, stand-top, eqb-true (length (a .s)) 0 (not-false _ (when-none _ _ (rw at-end at e))))
+
     pub stand-whole : top ≡ 0 → check4 N rs ≡ none
     unfolding check4
-    stand-whole z = rw (a .rest ∙ left-end (records rs) blank i (a .s) h, eq-eqb (length (a .s)) 0 (held-none l level (a .s) top (a .live) (a .held) z))
+    stand-whole z = rw (at-end, eq-eqb (length (a .s)) 0 (held-none l level (a .s) top (a .live) (a .held) z))

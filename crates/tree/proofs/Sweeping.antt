@@ -1,28 +1,41 @@
 -- Checks 3 to 7 in one pass: none of them applies so far.
 use Prim.Native.Nat.{ℕ, _+_, _-_, _≤_, _<_}
 use mathlib.Core.List.{List}
-use mathlib.Core.Bool.{not}
+use mathlib.Core.Bool.{false, not, true≢false}
 use mathlib.Core.Path.{_≡_, ap, sym}
+use native.Mathlib.Omega.{arith}
+use native.Mathlib.Decide.{decLt}
+use borrow.Author.Tests.{not-false}
 use lib.ListN.{length, getD, replicate}
-use Rattle.tree.specs.Record.{records}
+use Rattle.tree.specs.Record.{Record, records}
 use Rattle.tree.specs.RecordLaws.{nth}
 use Rattle.tree.specs.Form.{namesOf, childrenOf}
 use Rattle.tree.specs.Held.{Takes, Opens}
 use Rattle.tree.specs.Check.{check3, check7}
-use Rattle.tree.specs.Clear.{Sound, Clear}
-use Rattle.tree.proofs.Search.{outside, emptyCall, At, begin, next, end}
-use Rattle.tree.proofs.Naming.{Naming, naming-begin, naming-next, none-misnamed}
-use Rattle.tree.proofs.Standing.{Standing, stand-begin, stand-next, stand-shallow, stand-whole}
+use Rattle.tree.specs.Clear.{Tells, Sound, Clear}
+use Rattle.tree.proofs.Forms.{fit-names}
+use Rattle.tree.proofs.Search.{outside, emptyCall, At, begin, next, fails, end}
+use Rattle.tree.proofs.Naming.{Naming, no-children, naming-begin, naming-next, none-due, none-misnamed}
+use Rattle.tree.proofs.Standing.{Standing, stand-begin, stand-next, stand-near, stand-shallow, stand-none, stand-whole}
+
+pub tells-no : {P : Type 0} → (P → ⊥) → Tells false P
+tells-no n = record { yes = λ f. absurd (true≢false (sym f)); all = λ p. absurd (n p) }
+
+-- a name that is due has no names, so no more are due than a record brings
+few-after : (N : ℕ) (r : Record) (due : ℕ) → Sound N r due → due ≤ 255 → Dec (0 < due) → due - 1 + namesOf (r .form) (r .count) ≤ 255
+few-after N r due u h (yes z) = omega (arith, no-children r (u .named z))
+few-after N r due u h (no z) = omega (arith, fit-names N r (u .fit))
 
 -- the loop has come to record i
 pub record Sweeping (N : ℕ) (rs left level : List ℕ) (top due i : ℕ) : Type 0 where
   pub fields : At (outside N) rs i
   pub calls : At emptyCall rs i
   pub names : Naming rs i due
+  pub few : due ≤ 255
   pub places : Standing rs left level i top
 
 pub sweep-begin : (N : ℕ) (rs : List ℕ) → Sweeping N rs (replicate 65 0) (replicate 65 0) 0 0 0
-sweep-begin N rs = record { fields = begin (outside N) rs; calls = begin emptyCall rs; names = naming-begin rs; places = stand-begin rs }
+sweep-begin N rs = record { fields = begin (outside N) rs; calls = begin emptyCall rs; names = naming-begin rs; few = omega arith; places = stand-begin rs }
 
 module _ {N : ℕ} {rs left level : List ℕ} {top due i : ℕ} (a : Sweeping N rs left level top due i) where
   module _ (h : i < length (records rs)) (u : Sound N (nth rs i) due) {due′ : ℕ} (ed : due′ ≡ due - 1 + namesOf (nth rs i .form) (nth rs i .count)) where
@@ -31,6 +44,7 @@ module _ {N : ℕ} {rs left level : List ℕ} {top due i : ℕ} (a : Sweeping N 
       fields = next (outside N) rs (a .fields) h (ap not (u .fit));
       calls = next emptyCall rs (a .calls) h (u .called);
       names = naming-next (a .names) h due′ (u .named) ed;
+      few = omega (arith, ed, few-after N (nth rs i) due u (a .few) (decLt 0 due));
       places = stand-next (a .places) h en small t o ec;
     }
 
@@ -43,3 +57,19 @@ module _ {N : ℕ} {rs left level : List ℕ} {top due i : ℕ} (a : Sweeping N 
     names = sym (none-misnamed (a .names) h N);
     calls = sym (end emptyCall rs (a .calls) h);
   }
+
+  -- where none of them applies at all, the loop goes on to the end, and none is open there
+  module _ (k : Clear N rs) where
+    pub clear-sound : i < length (records rs) → Sound N (nth rs i) due
+    unfolding check3 check7
+    clear-sound h = record {
+      fit = not-false _ (fails (outside N) rs (a .fields) h (k .fields));
+      called = fails emptyCall rs (a .calls) h (k .calls);
+      named = λ z. none-due (a .names) h z N (k .names);
+    }
+
+    pub clear-near : i < length (records rs) → getD level top 0 + 1 ≤ 64
+    clear-near h = stand-near (a .places) h N (k .nesting)
+
+    pub clear-none : length (records rs) ≤ i → top ≡ 0
+    clear-none h = stand-none (a .places) h N (k .children)

@@ -6,6 +6,9 @@ use lib.Dec.{leb}
 unfoldable pub entryOf : ℕ → ℕ → ℕ
 entryOf table form = cond (leb form 9) (table / 2 ^ (4 * form) % 16) (table % 16)
 
--- an entry of two parts, the upper one for each of m
+-- the two parts of an entry together, the upper one for each of m
+abbrev pub partsOf : ℕ → ℕ → ℕ
+partsOf e m = e % 4 + e / 4 * m
+
 unfoldable pub entriesOf : ℕ → ℕ → ℕ → ℕ
-entriesOf table form m = entryOf table form % 4 + entryOf table form / 4 * m
+entriesOf table form m = partsOf (entryOf table form) m

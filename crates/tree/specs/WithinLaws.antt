@@ -1,11 +1,11 @@
 -- Laws of records that stand in their place: the first of them, and what follows.
-use Prim.Native.Nat.{ℕ, _+_, _*_, _≤_, _<_}
+use Prim.Native.Nat.{ℕ, zero, suc, _+_, _-_, _*_, _≤_, _<_}
 use mathlib.Core.List.{List, [], _∷_, _++_, append-assoc}
 use mathlib.Core.Bool.{true}
-use mathlib.Core.Path.{_≡_, refl, ap, sym, _∙_}
+use mathlib.Core.Path.{_≡_, refl, ap, sym, subst, _∙_}
 use native.Mathlib.Omega.{arith}
 use native.Mathlib.Nat.{add-zero}
-use lib.ListN.{length, getD, drop, length-append, length-drop}
+use lib.ListN.{length, getD, drop, length-append, length-drop, List·getD-append}
 use lib.Seq.{drop-drop, drop-at, getD-drop}
 use Rattle.table.specs.Layout.{layout}
 use Rattle.tree.specs.Record.{Record, width, numbers, records}
@@ -37,6 +37,11 @@ module _ {A : Type 0} (P : A → Type 0) where
   all-rest [] m p = p
   all-rest (a ∷ l) m p = all-rest l m (p .1)
 
+  all-at : (l : List A) (d : A) (j : ℕ) → j < length l → All P l → P (getD l j d)
+  all-at [] d j h p = absurd (omega arith)
+  all-at (a ∷ l) d zero h p = p .0
+  all-at (a ∷ l) d (suc j) h p = all-at l d j (omega arith) (p .1)
+
 module _ {N : ℕ} {rs : List ℕ} {at : ℕ} where
   pub records-at : {l : List Record} (w : Within N rs at l) → drop at (records rs) ≡ l ++ records (w .rest)
   records-at {l} w = sym (records-drop rs at) ∙ ap records (w .is) ∙ records-append l (w .rest)
@@ -51,6 +56,22 @@ module _ {N : ℕ} {rs : List ℕ} {at : ℕ} where
         ap length (records-at w),
         length-append l (records (w .rest)),
       )
+
+  -- Each of them
+  module _ {l : List Record} (w : Within N rs at l) where
+    record-at : (j : ℕ) → j < length l → nth rs (at + j) ≡ getD l j blank
+    record-at j h =
+        sym (getD-drop at (records rs) j blank)
+        ∙ ap (λ (m : List Record). getD m j blank) (records-at w)
+        ∙ List·getD-append l (records (w .rest)) blank j h
+
+    fit-after : (j : ℕ) → j < length l → fits N (nth rs (at + j)) ≡ true
+    fit-after j h = rw (record-at j h) (all-at (λ r. fits N r ≡ true) l blank j h (w .fields))
+
+    pub fit-at : {i : ℕ} → at ≤ i → i < at + length l → fits N (nth rs i) ≡ true
+    fit-at {i} g h =
+        let z : at + (i - at) ≡ i = omega arith in
+        subst (λ (k : ℕ). fits N (nth rs k) ≡ true) z (fit-after (i - at) (omega arith))
 
   -- The records in front, and those after them
   pub front : (l m : List Record) → Within N rs at (l ++ m) → Within N rs at l
@@ -79,10 +100,7 @@ module _ {N : ℕ} {rs : List ℕ} {at : ℕ} where
   -- The first record
   module _ {r : Record} {l : List Record} (w : Within N rs at (r ∷ l)) where
     pub first : nth rs at ≡ r
-    first =
-        ap (λ (n : ℕ). getD (records rs) n blank) (sym (add-zero at))
-        ∙ sym (getD-drop at (records rs) 0 blank)
-        ∙ ap (λ (k : List Record). getD k 0 blank) (records-at w)
+    first = ap (λ (n : ℕ). getD (records rs) n blank) (sym (add-zero at)) ∙ record-at w 0 (omega arith)
 
     pub first-inside : at < length (records rs)
     first-inside = omega (arith, end-inside w)

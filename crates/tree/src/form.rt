@@ -1,11 +1,11 @@
 // The nine forms: how many children a record has, and what its fields may hold.
 ghost use mathlib.Core.Path.{_≡_};
-ghost use mathlib.Core.Bool.{_&&_};
-ghost use Prim.Native.Nat.{_<_, _≤_};
+ghost use mathlib.Core.Bool.{true, _&&_};
+ghost use Prim.Native.Nat.{_≤_};
 ghost use lib.Dec.{leb, ltb};
 ghost use Rattle.tree.specs.Form.{formOf, namesOf, childrenOf, idFits};
-ghost use Rattle.tree.specs.Entry.{entryOf, entriesOf};
-ghost use Rattle.tree.specs.Field.{isForm, hasIdIn, nameBelowIn, countMostIn};
+ghost use Rattle.tree.specs.Entry.{entryOf, partsOf, entriesOf};
+ghost use Rattle.tree.specs.Field.{isForm, hasIdIn, nameBelowIn, countMostIn, dueMost};
 use table::wide;
 
 const FORMS: u32 = 9;
@@ -32,23 +32,37 @@ const ID: u64 = 0xf0101010110;
 // 1 where there is a count.
 const COUNT: u64 = 0xf0111010000;
 
-// The form's entry of a table; that of form 0 where the form is unknown.
+// A form's entry of a table.
+fn digit(table: u64, form: u32) -> usize
+    requires { ⌜ form ≤ 9 ⌝ }
+    ensures { λ r. ⌜ r ≡ entryOf table form ⌝ }
+{
+    ((table >> (4 * form)) % 16) as usize
+}
+
+// The same; that of form 0 where the form is unknown.
 fn entry(table: u64, form: u32) -> usize
     ensures { λ r. ⌜ r ≡ entryOf table form ⌝ }
 {
     if FORMS < form {
         return (table % 16) as usize;
     }
-    ((table >> (4 * form)) % 16) as usize
+    digit(table, form)
 }
 
-// An entry of two parts, the upper one for each of `many`.
+// The two parts of an entry together, the upper one for each of `many`.
+fn parts(e: usize, many: usize) -> usize
+    requires { ⌜ partsOf e many ≤ 18446744073709551615 ⌝ }
+    ensures { λ r. ⌜ r ≡ partsOf e many ⌝ }
+{
+    e % 4 + e / 4 * many
+}
+
 fn entries(table: u64, form: u32, many: usize) -> usize
     requires { ⌜ entriesOf table form many ≤ 18446744073709551615 ⌝ }
     ensures { λ r. ⌜ r ≡ entriesOf table form many ⌝ }
 {
-    let e = entry(table, form);
-    e % 4 + e / 4 * many
+    parts(entry(table, form), many)
 }
 
 // How many children a record has; none where its form is unknown.
@@ -56,6 +70,14 @@ pub fn children(form: u32, count: u32) -> usize
     ensures { λ r. ⌜ r ≡ childrenOf form count ⌝ }
 {
     entries(CHILDREN, form, wide(count))
+}
+
+// The same where the form is known, which costs no test.
+pub fn known_children(form: u32, count: u32) -> usize
+    requires { ⌜ isForm (formOf form) ≡ true ⌝ }
+    ensures { λ r. ⌜ r ≡ childrenOf form count ⌝ }
+{
+    parts(digit(CHILDREN, form), wide(count))
 }
 
 // How many of the children are names, which stand first.
@@ -105,8 +127,7 @@ pub fn count_fits(form: u32, count: u32) -> bool
 
 // How many names may be due where a record of the form stands.
 pub fn may_be_due(form: u32) -> usize
-    ensures { λ r. ⌜ (0 < r → form ≡ 1) ⌝ }
-    ensures few { λ r. ⌜ r ≤ 255 ⌝ }
+    ensures { λ r. ⌜ r ≡ dueMost form ⌝ }
 {
     entry(NAME, form) / 4 * MOST_COUNT
 }

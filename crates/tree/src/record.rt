@@ -1,10 +1,12 @@
 // Records by number: six numbers each, one record after another.
 ghost use mathlib.Core.Path.{_≡_};
+ghost use mathlib.Core.Bool.{true};
 ghost use Prim.Native.Nat.{_<_, _≤_};
 ghost use lib.ListN.{length, getD};
 ghost use Rattle.tree.specs.Record.{width, put, records};
 ghost use Rattle.tree.specs.RecordLaws.{nth};
-ghost use Rattle.tree.specs.Form.{childrenOf};
+ghost use Rattle.tree.specs.Form.{formOf, childrenOf};
+ghost use Rattle.tree.specs.Field.{isForm};
 use crate::form;
 
 pub const WIDTH: usize = 6;
@@ -85,4 +87,14 @@ pub fn children(rs: &[u32], i: usize) -> usize
     ensures few { λ r. ⌜ r ≤ 8589934593 ⌝ }
 {
     form::children(form(rs, i), count(rs, i))
+}
+
+// The same where the form is known.
+pub fn known_children(rs: &[u32], i: usize) -> usize
+    requires { ⌜ i < length (records (now rs)) ⌝ }
+    requires { ⌜ isForm (formOf (nth (now rs) i .form)) ≡ true ⌝ }
+    ensures { λ r. ⌜ r ≡ childrenOf (nth (now (rs .entry)) i .form) (nth (now (rs .entry)) i .count) ⌝ }
+    ensures few { λ r. ⌜ r ≤ 8589934593 ⌝ }
+{
+    form::known_children(form(rs, i), count(rs, i))
 }

@@ -1,13 +1,12 @@
 // Checks 3 to 7 in one pass: whether none of them applies. Which one does, and where, the checks in order say.
 ghost use mathlib.Core.Path.{_≡_};
-ghost use mathlib.Core.Bool.{true};
 ghost use Prim.Native.Nat.{_+_, _-_, _<_, _≤_};
 ghost use lib.ListN.{length, getD};
 ghost use Rattle.tree.specs.Record.{records};
 ghost use Rattle.tree.specs.RecordLaws.{nth};
 ghost use Rattle.tree.specs.Form.{namesOf};
 ghost use Rattle.tree.specs.Held.{Takes, Opens};
-ghost use Rattle.tree.specs.Clear.{Sound, Clear};
+ghost use Rattle.tree.specs.Clear.{Tells, Sound, Clear};
 use crate::form;
 use crate::nest::DEEPEST;
 use crate::record;
@@ -21,7 +20,8 @@ const PLACES: usize = 65;
 // Whether record i is fit for its place, where so many names are due: checks 3, 6 and 7.
 fn sound(rs: &[u32], i: usize, names: usize, due: usize) -> bool
     requires { ⌜ i < length (records (now rs)) ⌝ }
-    ensures { λ r. ⌜ (r ≡ true → Sound names (nth (now (rs .entry)) i) due) ⌝ }
+    requires { ⌜ due ≤ 255 ⌝ }
+    ensures { λ r. ⌜ Tells r (Sound names (nth (now (rs .entry)) i) due) ⌝ }
 {
     if !fit(rs, i, names) {
         return false;
@@ -80,7 +80,7 @@ fn open(
 
 // Kept are the open records that have a child to come: those that a record closes are then one at the most.
 pub fn clear(rs: &[u32], names: usize) -> bool
-    ensures { λ r. ⌜ (r ≡ true → Clear names (now (rs .entry))) ⌝ }
+    ensures { λ r. ⌜ Tells r (Clear names (now (rs .entry))) ⌝ }
 {
     let n = record::len(rs);
     // by place: the children to come, and the nesting

@@ -1,8 +1,10 @@
 -- `extent_at`: the records are passed until no child is to come.
 use Prim.Native.Nat.{ℕ, zero, suc, _+_, _-_, _*_, _≤_, _<_}
 use mathlib.Core.List.{List, [], _∷_, _++_, map, append-assoc}
+use mathlib.Core.Bool.{true}
 use mathlib.Core.Path.{_≡_, refl, ap, ap₂, sym, _∙_}
 use native.Mathlib.Omega.{arith}
+use native.Mathlib.Decide.{decLt}
 use native.Mathlib.Nat.{zero-add, suc-add}
 use native.Mathlib.Numerals.{add-one}
 use lib.ListN.{length, drop, drop-of-length-le}
@@ -10,16 +12,18 @@ use lib.Seq.{drop-cons}
 use Rattle.tree.specs.Record.{Record, records}
 use Rattle.tree.specs.RecordLaws.{blank, nth}
 use Rattle.tree.specs.Form.{formOf, namesOf, othersOf, childrenOf}
+use Rattle.tree.specs.Field.{isForm, fits-known}
 use Rattle.tree.specs.Tree.{Ident, Tree, Trees, nil, cons, many, named, flat, flats, size, sizes, Num, Nums}
+use Rattle.tree.specs.TreeLaws.{length-flat}
 use Rattle.tree.specs.Parts.{own, names, others, flat-with, size-own, num-own, Each, induct}
 use Rattle.tree.specs.Stands.{Stands}
-use Rattle.tree.specs.StandsLaws.{tree-few}
-use Rattle.tree.specs.WithinLaws.{records-at}
+use Rattle.tree.specs.StandsLaws.{tree-inside, tree-few}
+use Rattle.tree.specs.WithinLaws.{records-at, fit-at}
 use Rattle.walk.specs.Contract.{SomeTree, Extends}
 
--- how many records are passed, k children being to come
+-- how many records are passed, k children being to come; a child that does not come counts as one
 pub span : List Record → ℕ → ℕ
-span [] k = 0
+span [] k = k
 span (r ∷ l) zero = 0
 span (r ∷ l) (suc k) = suc (span l (k + childrenOf (r .form) (r .count)))
 
@@ -94,13 +98,6 @@ module _ {rs : List ℕ} {at k i : ℕ} (a : Passed rs at k i) where
         ap (λ (l : List Record). span l k) (drop-cons (records rs) i blank g ∙ ap (λ (j : ℕ). nth rs i ∷ drop j (records rs)) (sym (add-one i)))
         ∙ span-at (nth rs i) (drop (i + 1) (records rs)) {k = k - 1} (omega arith) refl
 
-    pub inside : SomeTree rs at → Small k i
-    inside s =
-        let t = s .tree in
-        let e : i < at + size (t .t) = omega (arith, here, a .rest, span-tree (t .stands)) in
-        let f = tree-few (t .stands) in
-        record { records = omega arith; children = omega (arith, a .few) }
-
     pub next : {c : ℕ} → c ≡ childrenOf (nth rs i .form) (nth rs i .count) → c ≤ 8589934593 → Passed rs at (k - 1 + c) (i + 1)
     next {c} e f = record {
       rest = omega (arith, a .rest, here, ap (λ (j : ℕ). span (drop (i + 1) (records rs)) (k - 1 + j)) e);
@@ -108,12 +105,30 @@ module _ {rs : List ℕ} {at k i : ℕ} (a : Passed rs at k i) where
       few = omega (arith, a .few);
     }
 
-  ended : span (drop i (records rs)) k ≡ 0 → Extends rs at (i - at)
-  ended e = record { is = λ N t s. omega (arith, a .rest, a .above, span-tree s) }
+  -- while a child is to come, record i is one of the tree's
+  module _ (h : 0 < k) (s : SomeTree rs at) where
+    either : Dec (i < length (records rs)) → i < length (records rs)
+    unfolding span
+    either (yes g) = g
+    either (no g) =
+        let l : length (records rs) ≤ i = omega arith in
+        let e : span (drop i (records rs)) k ≡ k = ap (λ (m : List Record). span m k) (drop-of-length-le (records rs) l) in
+        absurd (omega (arith, a .rest, span-tree (s .tree .stands), tree-inside (s .tree .stands)))
 
-  pub no-child : k ≤ 0 → Extends rs at (i - at)
-  no-child h = let z : k ≡ 0 = omega arith in ended (ap (span (drop i (records rs))) z ∙ span-none (drop i (records rs)))
+    pub ahead : i < length (records rs)
+    ahead = either (decLt i (length (records rs)))
 
-  pub no-record : length (records rs) ≤ i → Extends rs at (i - at)
-  unfolding span
-  no-record h = ended (ap (λ (l : List Record). span l k) (drop-of-length-le (records rs) h))
+    inside : i < at + size (s .tree .t)
+    inside = omega (arith, here h ahead, a .rest, span-tree (s .tree .stands))
+
+    pub small : Small k i
+    small = let f = tree-few (s .tree .stands) in let e = inside in record { records = omega arith; children = omega (arith, a .few) }
+
+    pub known : isForm (formOf (nth rs i .form)) ≡ true
+    known = fits-known (s .names) (nth rs i) (fit-at (s .tree .stands .within) (a .above) (omega (arith, inside, length-flat (s .tree .t))))
+
+  pub ended : k ≤ 0 → Extends rs at (i - at)
+  ended h =
+      let z : k ≡ 0 = omega arith in
+      let e : span (drop i (records rs)) k ≡ 0 = ap (span (drop i (records rs))) z ∙ span-none (drop i (records rs)) in
+      record { is = λ N t s. omega (arith, a .rest, a .above, span-tree s) }

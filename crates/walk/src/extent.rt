@@ -7,11 +7,10 @@ pub fn extent_at(all: &[u32], at: usize) -> usize
     requires { ⌜ SomeTree (now all) at ⌝ }
     ensures { λ r. ⌜ Extends (now (all .entry)) at r ⌝ }
 {
-    let n = tree::record::len(all);
     let mut open = 1;
     let mut i = at;
-    while 0 < open && i < n {
-        open = open - 1 + tree::record::children(all, i);
+    while 0 < open {
+        open = open - 1 + tree::record::known_children(all, i);
         i += 1;
     }
     i - at

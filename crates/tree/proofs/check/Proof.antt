@@ -36,7 +36,7 @@ returns-4 : tie.Need-returns-4
 returns-4 c =
     let d = c .before .before in
     let N = start (d .before) .args .names in
-    c .last .ensures N ∙ sym (from-3 (d .before) ∙ cleared N _ (d .clear .ensures (c .before .if4 .taken)))
+    c .last .ensures N ∙ sym (from-3 (d .before) ∙ cleared N _ (d .clear .ensures .yes (c .before .if4 .taken)))
 
 in-order-requires : tie.Need-in-order-requires
 in-order-requires c κs = search needs

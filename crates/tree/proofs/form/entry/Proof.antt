@@ -1,26 +1,18 @@
--- `entry`: the form's digit of the table.
+-- `entry`: the digit of a known form, else that of form 0.
 use borrow.Author.Needs.{needs}
-use borrow.Author.Tests.{le-leb, lt-leb}
-use Rattle.tree.specs.Entry.{entryOf}
+use mathlib.Core.Path.{sym}
+use Rattle.tree.proofs.Entries.{entry-unknown}
 use Rattle.tree.proofs.form.entry.Statement.{statement}
 use Rattle.tree.proofs.form.entry.Tie as tie
 
 returns : tie.Need-returns
-unfolding entryOf
-returns c = rw (lt-leb _ _ (c .if1 .taken))
+returns c = sym (entry-unknown _ _ (c .if1 .taken))
 
-mul-result : tie.Need-mul-result
-mul-result c = search needs
-
-cast-result : tie.Need-cast-result
-cast-result c = search needs
-
-shr-result : tie.Need-shr-result
-shr-result c = search needs
+digit-requires : tie.Need-digit-requires
+digit-requires c κs = search needs
 
 returns-2 : tie.Need-returns-2
-unfolding entryOf
-returns-2 c = rw (le-leb _ _ (c .if1 .left))
+returns-2 c = search needs
 
 pub entry-spec : {M : Type 1} → statement M
-entry-spec = tie.close (tie.spec returns mul-result cast-result shr-result returns-2)
+entry-spec = tie.close (tie.spec returns digit-requires returns-2)

@@ -1,8 +1,6 @@
 -- `children`: by the record's form and count.
 use borrow.Author.Needs.{needs}
-use native.Mathlib.Omega.{arith}
-use mathlib.Core.Path.{_∙_}
-use Rattle.tree.proofs.Forms.{few-children}
+use Rattle.tree.proofs.Forms.{children-at}
 use Rattle.tree.proofs.record.children.Statement.{statement}
 use Rattle.tree.proofs.record.children.Tie as tie
 
@@ -16,10 +14,7 @@ children-requires : tie.Need-children-requires
 children-requires c κs = search needs
 
 returns : tie.Need-returns
-returns c = (
-  c .children .ensures ∙ rw (c .before .before .form .ensures, c .before .count .ensures),
-  omega (arith, c .children .ensures, few-children (c .before .before .form .result) (c .before .count .result), c .before .count .ok),
-)
+returns c = children-at (c .children .ensures) (c .before .before .form .ensures) (c .before .count .ensures) (c .before .count .ok)
 
 pub children-spec : {M : Type 1} → statement M
 children-spec = tie.close (tie.spec form-requires count-requires children-requires returns)
