@@ -5,10 +5,8 @@ use work::BINDERS;
 use work::CAPTURES;
 use work::CAPTURES_HINTS;
 use work::ENTRIES;
-use work::Noted;
 use work::Pass;
 use work::SCOPE_HINTS;
-use work::Second;
 use work::TAKEN;
 use work::WORK;
 ghost use mathlib.Core.Path.{_≡_};
@@ -77,24 +75,24 @@ fn refused_first(p: Pass) -> Answer
     ensures { λ r. ⌜ refusalIn r ≡ firstIn p ⌝ }
 {
     let nine = p.nine;
-    if let Noted::At(i) = nine {
-        return Answer::Refused(9, i);
+    if nine.code != 0 {
+        return Answer::Refused(9, nine.code - 1);
     }
     let ten = p.ten;
-    match ten {
-        Noted::At(i) => Answer::Refused(10, i),
-        Noted::Nothing => Answer::Accepted,
+    if ten.code != 0 {
+        return Answer::Refused(10, ten.code - 1);
     }
+    Answer::Accepted
 }
 
 fn refused_second(p: Pass) -> Answer
     ensures { λ r. ⌜ refusalIn r ≡ secondOf (p .second) ⌝ }
 {
     let second = p.second;
-    match second {
-        Second::At(n, i) => Answer::Refused(n, i),
-        Second::Nothing => Answer::Accepted,
+    if second.number != 0 {
+        return Answer::Refused(second.number, second.at);
     }
+    Answer::Accepted
 }
 
 fn clear_all(facts: &mut [u32], captured: &mut [u32], arguments: &mut [u32], work: &mut [u32])

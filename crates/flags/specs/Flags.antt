@@ -1,19 +1,17 @@
 -- What a visit inherits, as the code holds it.
-use Prim.Native.Nat.{ℕ}
+use Prim.Native.Nat.{ℕ, _+_}
 use mathlib.Core.Bool.{Bool}
 use mathlib.Core.Option.{Option, none, some}
 use mathlib.Core.Path.{_≡_}
 use Rattle.tree.specs.Tree.{Node, Tree}
+use Rattle.semantic.specs.Information.{NONE}
 use Rattle.pass.specs.Visit.{Flags, isLambda, bodyFlags, headFlags}
 use Rattle.flags.specs.declared.Flags.{Flags as Coded}
 use Rattle.flags.specs.declared.Around.{Around}
-use Rattle.flags.specs.declared.Around.the-variants.{Lambda, Nothing}
 
 abbrev pub AroundIs : Around → Option Node → Type 0
-AroundIs (Lambda i d) (some n) = (i ≡ n .at) × (d ≡ n .id)
-AroundIs (Lambda i d) none = ⊥
-AroundIs Nothing (some n) = ⊥
-AroundIs Nothing none = Unit {0}
+AroundIs a (some n) = (a .code ≡ n .at + 1) × (a .id ≡ n .id)
+AroundIs a none = (a .code ≡ 0) × (a .id ≡ NONE)
 
 pub record FlagsAre (g : Coded) (f : Flags) : Type 0 where
   pub tail : g .tail ≡ f .tail

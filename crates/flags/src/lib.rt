@@ -2,6 +2,7 @@
 pub mod by_value;
 pub mod in_place;
 
+use semantic::NONE;
 ghost use mathlib.Core.Path.{_≡_};
 ghost use Prim.Native.Nat.{_+_, _<_};
 ghost use Rattle.flags.specs.Flags.{Most, FlagsAre};
@@ -9,22 +10,23 @@ ghost use Rattle.flags.specs.Part.{Room, atPart};
 ghost use Rattle.flags.specs.declared.Part.the-variants.{NotTail, SameTail, LetBody, Body, Argument, Next, Head, Child, DefineBody};
 ghost use Rattle.pass.specs.Visit.{topFlags};
 
-// `function_context`: the record and the id of the innermost lambda.
-pub enum Around {
-    Lambda(usize, u32),
-    Nothing,
+// `function_context`: the record of the innermost lambda, counted from 1, and its id. With no lambda around, 0 and NONE.
+pub struct Around {
+    pub code: u32,
+    pub id: u32,
 }
 
+// In this order it takes 20 bytes, one of them padding.
 pub struct Flags {
-    // `tail_call_eligible`
-    pub tail: bool,
-    // `escape_analysis`
-    pub escape: bool,
     // `stack_offset`
     pub height: u32,
     // `defining_context_depth`
     pub counter: u32,
     pub function: Around,
+    // `tail_call_eligible`
+    pub tail: bool,
+    // `escape_analysis`
+    pub escape: bool,
     // the expression stands directly in an inner begin
     pub direct: bool,
 }
@@ -54,12 +56,13 @@ impl Flags {
     pub fn top() -> Self
         ensures { λ r. ⌜ FlagsAre r topFlags ⌝ }
     {
+        let function = Around { code: 0, id: NONE };
         Flags {
-            tail: false,
-            escape: false,
             height: 0,
             counter: 0,
-            function: Around::Nothing,
+            function,
+            tail: false,
+            escape: false,
             direct: false,
         }
     }
@@ -89,15 +92,19 @@ impl Flags {
     }
 
     fn body(self, at: usize, id: u32, k: u32) -> Self
-        requires { ⌜ self .counter + 1 < Most ⌝ }
+        requires { ⌜ (self .counter + 1 < Most) × (at + 1 < Most) ⌝ }
         ensures { λ r. ⌜ r ≡ atPart (Body at id k) self ⌝ }
     {
+        let function = Around {
+            code: at as u32 + 1,
+            id,
+        };
         Flags {
-            tail: true,
-            escape: self.escape,
             height: k,
             counter: self.counter + 1,
-            function: Around::Lambda(at, id),
+            function,
+            tail: true,
+            escape: self.escape,
             direct: false,
         }
     }
@@ -125,11 +132,11 @@ impl Flags {
     {
         let function = self.function;
         Flags {
-            tail: false,
-            escape: self.tail && !lambda,
             height: self.height + k,
             counter: self.counter,
             function,
+            tail: false,
+            escape: self.tail && !lambda,
             direct: false,
         }
     }

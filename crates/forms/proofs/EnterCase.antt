@@ -1,11 +1,10 @@
 -- One name enters, over states.
 use Prim.Native.Nat.{ℕ, suc, _+_, _*_, _≤_, _<_}
 use mathlib.Core.List.{List}
-use mathlib.Core.Bool.{Bool, true, false, cond, _&&_}
-use mathlib.Core.Option.{none}
-use mathlib.Core.Path.{_≡_, ap, sym, subst, _∙_}
+use mathlib.Core.Bool.{Bool, true, false, cond, not, _&&_}
+use mathlib.Core.Option.{Option, none, some}
+use mathlib.Core.Path.{_≡_, refl, ap, sym, subst, _∙_}
 use native.Mathlib.Omega.{arith}
-use native.Mathlib.Nat.{add-zero}
 use lib.ListN.{length, drop, getD, length-take, List·getD-eq-default}
 use lib.Seq.{getD-take, getD-drop}
 use Rattle.table.specs.Layout.{layout}
@@ -13,32 +12,33 @@ use Rattle.tree.specs.Record.{records}
 use Rattle.tree.specs.RecordLaws.{nth}
 use Rattle.tree.specs.Tree.{Ident}
 use Rattle.semantic.specs.Information.{new}
-use Rattle.semantic.specs.Rows.{Variable, noItem, rowWidth, putRow, putItem}
+use Rattle.semantic.specs.Rows.{Variable, Item, noItem, rowWidth, putRow, putItem}
 use Rattle.semantic.specs.Leaves.{Stores, Tells}
 use Rattle.semantic.specs.declared.Entries.{Entries}
 use Rattle.semantic.specs.declared.IdentifierStatus.{IdentifierStatus}
 use Rattle.semantic.specs.declared.IdentifierStatus.the-variants.{HeapAllocated}
 use Rattle.semantic.specs.declared.SemanticInformation.{SemanticInformation}
 use Rattle.semantic.specs.declared.Span.{Span}
-use Rattle.pass.specs.State.{State, Facts, insert, localEntry, heapEntry, depth, noteSecond}
+use Rattle.pass.specs.State.{State, Facts, insert, depth, noteSecond}
 use Rattle.pass.specs.Read.{span, enter}
 use Rattle.pass.specs.Lists.{listIn}
-use Rattle.pass.specs.Lambda.{enterName}
+use Rattle.pass.specs.Lambda.{orZero, enterName}
 use Rattle.pass.specs.Run.{rowsMost, itemsMost}
 use Rattle.work.specs.Coded.{coded}
 use Rattle.work.specs.WorksLaws.{depth-is, names-many}
 use Rattle.work.specs.Leaves.{Becomes}
-use Rattle.work.specs.Tied.{raw, Tied, Here}
+use Rattle.work.specs.Tied.{raw, Tied, Good, Here}
+use Rattle.work.specs.TiedLaws.{tied-works}
 use Rattle.work.specs.declared.Pass.{Pass}
 use Rattle.work.specs.declared.entries.Entry.{Entry as Coded}
 use Rattle.names.specs.Contract.{SomeState, Room, Enters}
 use Rattle.names.specs.Facts.{spanOf}
 use Rattle.lists.specs.Contract.{Inside}
-use Rattle.forms.specs.Contract.{FewHeaps}
+use Rattle.forms.specs.Contract.{FewHeaps, heapsIn}
 use Rattle.forms.specs.declared.bound.Heaps.{Heaps}
 use Rattle.forms.specs.FitsLaws.{fact-inside, tied-insert}
 use Rattle.forms.specs.GoodLaws.{enter-facts, good-second}
-use Rattle.forms.specs.Bound.{TellsHeap, NameFits, EntersWith, EntersLocal, EntersHeap, EntersName}
+use Rattle.forms.specs.Bound.{TellsHeap, NameFits, EntersWith, notedName, nameEntry, NotesHeap, EntersName}
 use Rattle.forms.proofs.Idents.{span-is, known-inside, known-few}
 use Rattle.forms.specs.declared.bound.Heaps.the-variants as heaps
 
@@ -67,8 +67,9 @@ pub heaps-below : (b : Bool) (h : ℕ) {r : ℕ} → r ≡ cond b (suc h) h → 
 heaps-below true h e = omega arith
 heaps-below false h e = omega arith
 
-pub few-around : {o : Heaps} {n : ℕ} → o ≡ heaps.Around n → FewHeaps o → n ≤ itemsMost
-few-around e h = rw e at h
+pub few-around : (o : Heaps) → FewHeaps o → orZero (heapsIn o) ≤ itemsMost
+few-around (heaps.Around n) h = h
+few-around heaps.Nothing h = omega arith
 
 -- A name with an entry and a fact
 
@@ -104,59 +105,73 @@ module _ (rs : List ℕ) (at : ℕ) (p : Pass) (F w : List ℕ) where
         rw (← z) (tied-insert t n (x .at) (h .known .few) (Variable v) k′);
   }
 
-  pub enters-local : {kind : IdentifierStatus} {slot d : ℕ} {e : Coded} {p′ : Pass} {F′ w′ : List ℕ} → d ≡ p .scope .depth → e ≡ coded (localEntry slot d)
-      → EntersWith rs at kind e p F w p′ F′ w′ → EntersLocal rs at kind slot p F w p′ F′ w′
-  enters-local {slot = slot} ed ee m = record {
-    is = λ C A s x h. m .is C A s x (localEntry slot (depth s)) (ee ∙ rw (ed, depth-is (h .tied .works))) h;
+-- By whether it is on the heap
+
+module _ (base : ℕ) (o : Option ℕ) (j h d : ℕ) {e : Coded} where
+  pub entry-new : (heap : Bool) → e ≡ coded (nameEntry heap base o j h d) → e .uses ≡ 0
+  entry-new true q = ap (λ (e : Coded). e .uses) q
+  entry-new false q = ap (λ (e : Coded). e .uses) q
+
+false-true : false ≡ true → ⊥
+false-true e = let z : _≡_ {A = ℕ} 0 1 = cc in omega arith
+
+module _ {o : Heaps} {at : ℕ} {p : Pass} where
+  pub notes-none : (heap : Bool) → not heap ≡ true → NotesHeap heap o at p p
+  notes-none true e = absurd (false-true e)
+  notes-none false e = record { is = λ w s x q k. k }
+
+  pub notes-around : (heap : Bool) {n : ℕ} → o ≡ heaps.Around n → NotesHeap heap o at p p
+  notes-around true e = record { is = λ w s x q k. rw e k }
+  notes-around false e = record { is = λ w s x q k. k }
+
+  pub notes-alone : (heap : Bool) {q : Pass} → not heap ≡ false → o ≡ heaps.Nothing → ((w : List ℕ) → Becomes p w (noteSecond 11 at) q w) → NotesHeap heap o at p q
+  notes-alone true e f n = record { is = λ w s x i k. rw (f, i) (n w .is s k) }
+  notes-alone false e f n = absurd (false-true (sym e))
+
+-- what holds of a state, and of it with refusal 11 noted
+noted-by : (P : State → Type 0) (heap : Bool) (o : Option ℕ) (x : Ident) (s : State) → P s → P (noteSecond 11 (x .at) s) → P (notedName heap o x s)
+noted-by P true none x s a b = b
+noted-by P true (some n) x s a b = a
+noted-by P false o x s a b = a
+
+name-enters : (kind : IdentifierStatus) (base : ℕ) (o : Option ℕ) (before : List Item) (heap : Bool) (x : Ident) (j h : ℕ) (s : State)
+    → insert (x .at) (Variable (new (cond heap HeapAllocated kind) (depth s) (span x))) (enter x (nameEntry heap base o j h (depth s)) (notedName heap o x s))
+    ≡ enterName kind base o before heap x j h s
+unfolding enterName
+name-enters kind base o before true x j h s = refl
+name-enters kind base o before false x j h s = refl
+
+module _ {rs : List ℕ} {heap : Bool} {o : Heaps} {at : ℕ} {p q : Pass} {F w : List ℕ} (n : NotesHeap heap o at p q) where
+  noted-here : {C A : List ℕ} {s : State} {x : Ident} → Here rs at (raw p F C A w) s x → Here rs at (raw q F C A w) (notedName heap (heapsIn o) x s) x
+  noted-here {s = s} {x} a = record {
+    known = a .known;
+    place = a .place;
+    good = noted-by (Good rs) heap (heapsIn o) x s (a .good) (good-second 11 (x .at) (a .good));
+    tied = tied-works (notedName heap (heapsIn o) x s) (a .tied) (noted-by (λ t. t .facts ≡ s .facts) heap (heapsIn o) x s refl refl)
+        (n .is w s x (a .place) (a .tied .works));
   }
 
-  -- on the heap of a lambda around
-  pub enters-around : {n j h d : ℕ} {e : Coded} {p′ : Pass} {F′ w′ : List ℕ} {o : Heaps} → o ≡ heaps.Around n → d ≡ p .scope .depth
-      → e ≡ coded (heapEntry j (h + n) d) → EntersWith rs at HeapAllocated e p F w p′ F′ w′ → EntersHeap rs at o j h p F w p′ F′ w′
-  enters-around {n} {j} {h} eo ed ee m = record {
-    is = λ C A s x k. rw eo (m .is C A s x (heapEntry j (h + n) (depth s)) (ee ∙ rw (ed, depth-is (k .tied .works))) k);
+  pub noted-fits : NameFits rs at p F w → NameFits rs at q F w
+  noted-fits a =
+      let b = noted-here (a .here) in
+      let e : length (notedName heap (heapsIn o) (a .x) (a .s) .scope .names .live) ≡ length (a .s .scope .names .live) =
+      noted-by (λ t. length (t .scope .names .live) ≡ length (a .s .scope .names .live)) heap (heapsIn o) (a .x) (a .s) refl refl in
+      record {
+        captured = a .captured;
+        arguments = a .arguments;
+        s = notedName heap (heapsIn o) (a .x) (a .s);
+        x = a .x;
+        here = b;
+        room = omega (arith, a .room, names-many (a .here .tied .works), names-many (b .tied .works), e);
+      }
+
+  pub enters-name : {kind k : IdentifierStatus} {base j h d : ℕ} {e : Coded} {p′ : Pass} {F′ w′ : List ℕ} → k ≡ cond heap HeapAllocated kind → d ≡ p .scope .depth
+      → e ≡ coded (nameEntry heap base (heapsIn o) j h d) → EntersWith rs at k e q F w p′ F′ w′ → EntersName heap kind base o rs at j h p F w p′ F′ w′
+  enters-name {kind} {base = base} {j} {h} {p′ = p′} {F′} {w′} ek ed ee m = record {
+    is = λ before C A s x a.
+        let t = notedName heap (heapsIn o) x s in
+        let v = nameEntry heap base (heapsIn o) j h (depth s) in
+        let f : depth t ≡ depth s = noted-by (λ t. depth t ≡ depth s) heap (heapsIn o) x s refl refl in
+        let z = m .is C A t x v (ee ∙ rw (ed, depth-is (a .tied .works))) (noted-here a) in
+        subst (λ (u : State). Tied (raw p′ F′ C A w′) u) (name-enters kind base (heapsIn o) before heap x j h s) (rw (ek, f) at z);
   }
-
-  -- and with none: refusal 11
-  module _ {q : Pass} (noted : (w : List ℕ) → Becomes p w (noteSecond 11 at) q w) where
-    noted-here : {C A : List ℕ} {s : State} {x : Ident} → Here rs at (raw p F C A w) s x → Here rs at (raw q F C A w) (noteSecond 11 at s) x
-    noted-here {s = s} h = record {
-      known = h .known;
-      place = h .place;
-      good = good-second 11 at (h .good);
-      tied = record { facts = h .tied .facts; captured = h .tied .captured; arguments = h .tied .arguments; works = noted w .is s (h .tied .works) };
-    }
-
-    pub noted-fits : NameFits rs at p F w → NameFits rs at q F w
-    noted-fits a =
-        let h = noted-here (a .here) in
-        record {
-          captured = a .captured;
-          arguments = a .arguments;
-          s = noteSecond 11 at (a .s);
-          x = a .x;
-          here = h;
-          room = omega (arith, a .room, names-many (a .here .tied .works), names-many (h .tied .works));
-        }
-
-    pub enters-alone : {j h d : ℕ} {e : Coded} {p′ : Pass} {F′ w′ : List ℕ} {o : Heaps} → o ≡ heaps.Nothing → d ≡ p .scope .depth
-        → e ≡ coded (heapEntry j h d) → EntersWith rs at HeapAllocated e q F w p′ F′ w′ → EntersHeap rs at o j h p F w p′ F′ w′
-    enters-alone {j} {h} {d} {e} {p′} {F′} {w′} {o} eo ed ee m = record {
-      is = λ C A s x k.
-          let z : e ≡ coded (heapEntry j (h + 0) (depth s)) = ee ∙ rw (add-zero h, ed, depth-is (k .tied .works)) in
-          let t = m .is C A (noteSecond 11 at s) x (heapEntry j (h + 0) (depth s)) z (noted-here k) in
-          let out : ℕ → Type 0 = λ (i : ℕ). Tied (raw p′ F′ C A w′) (insert (x .at) (Variable (new HeapAllocated (depth s) (span x))) (enter x (heapEntry j (h + 0) (depth s)) (noteSecond 11 i s))) in
-          rw eo (subst out (sym (k .place)) t);
-    }
-
--- By whether it was on the heap on the run before
-
-module _ {heap : Bool} {kind : IdentifierStatus} {base : ℕ} {o : Heaps} (rs : List ℕ) (at j h : ℕ) {p : Pass} {F w : List ℕ} {p′ : Pass} {F′ w′ : List ℕ} where
-  pub enters-heap : heap ≡ true → EntersHeap rs at o j h p F w p′ F′ w′ → EntersName heap kind base o rs at j h p F w p′ F′ w′
-  unfolding enterName
-  enters-heap e m = record { is = λ before C A s x k. rw e (m .is C A s x k) }
-
-  pub enters-slot : heap ≡ false → {slot : ℕ} → slot ≡ base + j → EntersLocal rs at kind slot p F w p′ F′ w′
-      → EntersName heap kind base o rs at j h p F w p′ F′ w′
-  unfolding enterName
-  enters-slot e q m = record { is = λ before C A s x k. rw (e, ← q) (m .is C A s x k) }

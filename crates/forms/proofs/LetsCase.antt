@@ -1,5 +1,5 @@
 -- Lets, over states: what is known on entering.
-use Prim.Native.Nat.{ℕ, _+_, _*_, _≤_, _<_}
+use Prim.Native.Nat.{ℕ, _+_, _-_, _*_, _≤_, _<_}
 use mathlib.Core.List.{List}
 use mathlib.Core.Bool.{Bool, true, false}
 use mathlib.Core.Option.{Option, none, some}
@@ -33,7 +33,6 @@ use Rattle.lists.specs.Contract.{Told, Inside, CountsHeap}
 use Rattle.flags.specs.Flags.{AroundIs}
 use Rattle.forms.specs.Contract.{Fits, NamesFit, EntersNames, LetFits, EntersLet, heapsIn}
 use Rattle.flags.specs.declared.Around.{Around}
-use Rattle.flags.specs.declared.Around.the-variants.{Lambda, Nothing}
 use Rattle.forms.specs.declared.bound.Heaps.{Heaps}
 use Rattle.forms.specs.FitsLaws.{fact-inside, told, good-each}
 use Rattle.forms.specs.Lets.{AroundFits, TellsHeaps, TellsFunction, LetAt, TellsLet}
@@ -49,68 +48,72 @@ captured-length {s = s} f =
 
 -- The lambda around
 
-record LambdaIs (i d : ℕ) (o : Option Node) : Type 0 where
+record LambdaIs (a : Around) (o : Option Node) : Type 0 where
   pub n : Node
   pub is : o ≡ some n
-  pub at : i ≡ n .at
-  pub id : d ≡ n .id
+  pub at : a .code - 1 ≡ n .at
 
-lambda-is : {i d : ℕ} (o : Option Node) → AroundIs (Lambda i d) o → LambdaIs i d o
-lambda-is none a = absurd a
-lambda-is (some n) a = record { n = n; is = refl; at = a .0; id = a .1 }
+lambda-is : (a : Around) → (a .code ≡ 0 → ⊥) → (o : Option Node) → AroundIs a o → LambdaIs a o
+lambda-is a z none h = absurd (z (h .0))
+lambda-is a z (some n) h = record { n = n; is = refl; at = omega (arith, h .0) }
 
-nothing-is : (o : Option Node) → AroundIs Nothing o → o ≡ none
-nothing-is none a = refl
-nothing-is (some n) a = absurd a
+nothing-is : (a : Around) → a .code ≡ 0 → (o : Option Node) → AroundIs a o → o ≡ none
+nothing-is a e none h = refl
+nothing-is a e (some n) h = absurd (omega (arith, h .0))
 
-module _ {a : Around} where
-  pub no-lambda : a ≡ Nothing → (F C : List ℕ) → TellsHeaps a F C heaps.Nothing
-  no-lambda e F C = record { is = λ rs p A w s o h f. rw (nothing-is o (rw e at h)); few = tt }
+id-is : (a : Around) (o : Option Node) → AroundIs a o → a .id ≡ functionId o
+id-is a none h = h .1
+id-is a (some n) h = h .1
 
-  pub no-id : a ≡ Nothing → {r : ℕ} → r ≡ functionId none → TellsFunction a r
-  no-id e q = record { is = λ o h. rw (nothing-is o (rw e at h)) q }
+-- a let relies on as much
+pub around-fits : {rs : List ℕ} {at : ℕ} {n : Names} {height : ℕ} {a : Around} {p : Pass} {F C A w : List ℕ} → LetFits rs at n height a p F C A w → AroundFits a F C
+around-fits {rs} {p = p} {A = A} {w = w} b =
+    record { rs = rs; p = p; arguments = A; work = w; s = b .s; function = b .function; around = b .around; fits = b .fits; outer = b .outer }
 
-  module _ {i d : ℕ} (e : a ≡ Lambda i d) where
-    pub lambda-id : TellsFunction a d
-    lambda-id = record { is = λ o h. let k = lambda-is o (rw e at h) in rw (k .is) (k .id) }
+module _ (a : Around) where
+  pub no-lambda : a .code ≡ 0 → (F C : List ℕ) → TellsHeaps a F C heaps.Nothing
+  no-lambda e F C = record { is = λ rs p A w s o h f. rw (nothing-is a e o h); few = tt }
 
-    module _ {F C : List ℕ} where
-      pub around-few : AroundFits a F C → i < rowsMost
-      around-few b = let k = lambda-is (b .function) (rw e at (b .around)) in omega (arith, k .at, b .outer (k .n) (k .is) .0)
+  pub tells-id : TellsFunction a (a .id)
+  tells-id = record { is = id-is a }
 
-      pub around-fact : AroundFits a F C → rowWidth * i + rowWidth ≤ length F
-      around-fact b = fact-inside (b .fits .tied) (b .fits .good .rows) i (around-few b)
+  module _ (e : a .code ≡ 0 → ⊥) {F C : List ℕ} where
+    pub around-few : AroundFits a F C → a .code - 1 < rowsMost
+    around-few b = let k = lambda-is a e (b .function) (b .around) in omega (arith, k .at, b .outer (k .n) (k .is) .0)
 
-      module _ (few : i < rowsMost) (r : FoundFunction) (t : Tells putRow Blank functionIn F i (functionFound r)) where
-        -- what the row of the lambda around says, in one state
-        row-says : {rs : List ℕ} {p : Pass} {A w : List ℕ} {s : State} {o : Option Node} (k : LambdaIs i d o) → Fits rs (raw p F C A w) s
-            → functionFound r ≡ functionIn (rowAt s (k .n .at))
-        row-says {s = s} k f = told (f .tied) (f .good .rows) i few functionIn t ∙ ap (λ (j : ℕ). functionIn (rowAt s j)) (k .at)
+    pub around-fact : AroundFits a F C → rowWidth * (a .code - 1) + rowWidth ≤ length F
+    around-fact b = fact-inside (b .fits .tied) (b .fits .good .rows) (a .code - 1) (around-few b)
 
-        pub no-function : r ≡ function.Nothing → TellsHeaps a F C heaps.Nothing
-        no-function q = record {
+    module _ (few : a .code - 1 < rowsMost) (r : FoundFunction) (t : Tells putRow Blank functionIn F (a .code - 1) (functionFound r)) where
+      -- what the row of the lambda around says, in one state
+      row-says : {rs : List ℕ} {p : Pass} {A w : List ℕ} {s : State} {o : Option Node} (k : LambdaIs a o) → Fits rs (raw p F C A w) s
+          → functionFound r ≡ functionIn (rowAt s (k .n .at))
+      row-says {s = s} k f = told (f .tied) (f .good .rows) (a .code - 1) few functionIn t ∙ ap (λ (j : ℕ). functionIn (rowAt s j)) (k .at)
+
+      pub no-function : r ≡ function.Nothing → TellsHeaps a F C heaps.Nothing
+      no-function q = record {
+        is = λ rs p A w s o h f.
+            let k = lambda-is a e o h in
+            let z : functionIn (rowAt s (k .n .at)) ≡ none = sym (row-says k f) ∙ ap functionFound q in
+            rw (k .is, z);
+        few = tt;
+      }
+
+      module _ {v : FunctionInformation} (q : r ≡ function.Found v) where
+        pub list-inside : AroundFits a F C → Inside (v .«captured_vars») × (length C ≡ itemsLength)
+        list-inside b =
+            let k = lambda-is a e (b .function) (b .around) in
+            let z : functionIn (rowAt (b .s) (k .n .at)) ≡ some v = sym (row-says k (b .fits)) ∙ ap functionFound q in
+            (b .outer (k .n) (k .is) .1 v z, captured-length (b .fits))
+
+        pub heaps-counted : {n : ℕ} → CountsHeap C (v .«captured_vars») n → n ≤ itemsMost → TellsHeaps a F C (heaps.Around n)
+        heaps-counted {n} c small = record {
           is = λ rs p A w s o h f.
-              let k = lambda-is o (rw e at h) in
-              let z : functionIn (rowAt s (k .n .at)) ≡ none = sym (row-says k f) ∙ ap functionFound q in
-              rw (k .is, z);
-          few = tt;
+              let k = lambda-is a e o h in
+              let z : functionIn (rowAt s (k .n .at)) ≡ some v = sym (row-says k f) ∙ ap functionFound q in
+              rw (k .is, z) (ap some (c .is (s .facts .captured) (f .tied .captured) (captured-many (f .tied .works))));
+          few = small;
         }
-
-        module _ {v : FunctionInformation} (q : r ≡ function.Found v) where
-          pub list-inside : AroundFits a F C → Inside (v .«captured_vars») × (length C ≡ itemsLength)
-          list-inside b =
-              let k = lambda-is (b .function) (rw e at (b .around)) in
-              let z : functionIn (rowAt (b .s) (k .n .at)) ≡ some v = sym (row-says k (b .fits)) ∙ ap functionFound q in
-              (b .outer (k .n) (k .is) .1 v z, captured-length (b .fits))
-
-          pub heaps-counted : {n : ℕ} → CountsHeap C (v .«captured_vars») n → n ≤ itemsMost → TellsHeaps a F C (heaps.Around n)
-          heaps-counted {n} c small = record {
-            is = λ rs p A w s o h f.
-                let k = lambda-is o (rw e at h) in
-                let z : functionIn (rowAt s (k .n .at)) ≡ some v = sym (row-says k f) ∙ ap functionFound q in
-                rw (k .is, z) (ap some (c .is (s .facts .captured) (f .tied .captured) (captured-many (f .tied .works))));
-            few = small;
-          }
 
 -- The list of the let's fact
 

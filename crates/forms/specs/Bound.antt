@@ -11,7 +11,6 @@ use Rattle.scope_map.specs.ScopeMap.{newestLayer}
 use Rattle.semantic.specs.Information.{new}
 use Rattle.semantic.specs.Rows.{Variable, Item, putItem}
 use Rattle.semantic.specs.declared.IdentifierStatus.{IdentifierStatus}
-use Rattle.semantic.specs.declared.IdentifierStatus.the-variants.{HeapAllocated}
 use Rattle.semantic.specs.declared.Entries.{Entries}
 use Rattle.pass.specs.State.{State, Entry, insert, localEntry, heapEntry, entryAt, itemOf, depth}
 use Rattle.pass.specs.Read.{span, enter}
@@ -20,6 +19,7 @@ use Rattle.pass.specs.Lambda.{isHeap, orZero, noteHeap, enterName, markLast, it
 use Rattle.pass.specs.Run.{itemsMost}
 use Rattle.work.specs.Known.{Known}
 use Rattle.work.specs.Coded.{coded, lastCode}
+use Rattle.work.specs.Works.{Works}
 use Rattle.work.specs.Tied.{raw, Tied, Here}
 use Rattle.work.specs.declared.Pass.{Pass}
 use Rattle.work.specs.declared.entries.Entry.{Entry as Coded}
@@ -48,16 +48,16 @@ pub record EntersWith (rs : List ℕ) (at : ℕ) (kind : IdentifierStatus) (e : 
   pub is : (C A : List ℕ) (s : State) (x : Ident) (v : Entry) → e ≡ coded v → Here rs at (raw p F C A w) s x
       → Tied (raw p′ F′ C A w′) (insert (x .at) (Variable (new kind (depth s) (span x))) (enter x v s))
 
--- with a slot, or on the heap
+-- by whether it is on the heap: what is noted first, and its entry
 
-pub record EntersLocal (rs : List ℕ) (at : ℕ) (kind : IdentifierStatus) (slot : ℕ) (p : Pass) (F w : List ℕ) (p′ : Pass) (F′ w′ : List ℕ) : Type 0 where
-  pub is : (C A : List ℕ) (s : State) (x : Ident) → Here rs at (raw p F C A w) s x
-      → Tied (raw p′ F′ C A w′) (insert (x .at) (Variable (new kind (depth s) (span x))) (enter x (localEntry slot (depth s)) s))
+abbrev pub notedName : Bool → Option ℕ → Ident → State → State
+notedName heap heaps x s = cond heap (noteHeap heaps x s) s
 
-pub record EntersHeap (rs : List ℕ) (at : ℕ) (heaps : Heaps) (j h : ℕ) (p : Pass) (F w : List ℕ) (p′ : Pass) (F′ w′ : List ℕ) : Type 0 where
-  pub is : (C A : List ℕ) (s : State) (x : Ident) → Here rs at (raw p F C A w) s x
-      → Tied (raw p′ F′ C A w′) (insert (x .at) (Variable (new HeapAllocated (depth s) (span x)))
-      (enter x (heapEntry j (h + orZero (heapsIn heaps)) (depth s)) (noteHeap (heapsIn heaps) x s)))
+abbrev pub nameEntry : Bool → ℕ → Option ℕ → ℕ → ℕ → ℕ → Entry
+nameEntry heap base heaps j h d = cond heap (heapEntry j (h + orZero heaps) d) (localEntry (base + j) d)
+
+pub record NotesHeap (heap : Bool) (heaps : Heaps) (at : ℕ) (p p′ : Pass) : Type 0 where
+  pub is : (w : List ℕ) (s : State) (x : Ident) → x .at ≡ at → Works p w s → Works p′ w (notedName heap (heapsIn heaps) x s)
 
 pub record EntersName (heap : Bool) (kind : IdentifierStatus) (base : ℕ) (heaps : Heaps) (rs : List ℕ) (at j h : ℕ) (p : Pass) (F w : List ℕ) (p′ : Pass) (F′ w′ : List ℕ) : Type 0 where
   pub is : (before : List Item) (C A : List ℕ) (s : State) (x : Ident) → Here rs at (raw p F C A w) s x

@@ -1,6 +1,7 @@
 // Names of a lambda or a let, as they enter and leave.
 use lists::captured::info_of;
-use names::define::enter;
+use names::define::entered;
+use names::define::put_name;
 use semantic::Entries;
 use semantic::IdentifierStatus;
 use semantic::SemanticInformation;
@@ -19,10 +20,13 @@ ghost use mathlib.Core.Path.{_≡_};
 ghost use mathlib.Core.Bool.{true, false, cond};
 ghost use Prim.Native.Nat.{suc, _+_, _≤_, _<_};
 ghost use lib.ListN.{length};
+ghost use Rattle.semantic.specs.declared.IdentifierStatus.the-variants.{HeapAllocated};
+ghost use Rattle.pass.specs.Lambda.{orZero};
 ghost use Rattle.pass.specs.Run.{rowsMost, itemsMost, factsLength, itemsLength};
+ghost use Rattle.work.specs.Coded.{coded};
 ghost use Rattle.lists.specs.Contract.{Inside};
-ghost use Rattle.forms.specs.Contract.{FewHeaps, NamesFit, EntersNames};
-ghost use Rattle.forms.specs.Bound.{TellsHeap, NameFits, EntersWith, EntersLocal, EntersHeap, EntersName, SlotsFit, Marked, MarksLast, MarksLasts, BinderFits, LayerFits, NamesStore, StoresArgument, StoresLayer, StoresNames, NamesEnd, EndsParameters, LeavesNames};
+ghost use Rattle.forms.specs.Contract.{heapsIn, NamesFit, EntersNames};
+ghost use Rattle.forms.specs.Bound.{TellsHeap, NameFits, EntersWith, nameEntry, NotesHeap, EntersName, SlotsFit, Marked, MarksLast, MarksLasts, BinderFits, LayerFits, NamesStore, StoresArgument, StoresLayer, StoresNames, NamesEnd, EndsParameters, LeavesNames};
 
 pub fn no_entries() -> Entries
     ensures { λ r. ⌜ r ≡ record { first = 0; length = 0 } ⌝ }
@@ -82,65 +86,51 @@ fn enter_with(
     ensures { λ r. ⌜ EntersWith (now (all .entry)) at kind e p (now (facts .entry)) (now (work .entry)) r (now (facts .exit)) (now (work .exit)) ⌝ }
 {
     let fact = SemanticInformation::new(kind, p.depth(), names::facts::span_at(all, at));
-    let q = enter(all, at, e, p, work);
+    let place = put_name(all, at, e, p, work);
     semantic::rows::store_information(facts, at, fact);
-    q
+    entered(p, place, at)
 }
 
-// A name that was not captured and mutated on the run before.
-fn enter_local(
-    all: &[u32],
-    at: usize,
-    kind: IdentifierStatus,
-    slot: u32,
-    p: Pass,
-    facts: &mut [u32],
-    work: &mut [u32],
-) -> Pass
-    requires { ⌜ NameFits (now all) at p (now facts) (now work) ⌝ }
-    ensures { λ r. ⌜ EntersLocal (now (all .entry)) at kind slot p (now (facts .entry)) (now (work .entry)) r (now (facts .exit)) (now (work .exit)) ⌝ }
+fn or_zero(heaps: Heaps) -> u32
+    ensures { λ r. ⌜ r ≡ orZero (heapsIn heaps) ⌝ }
 {
-    let e = Entry::local(slot, p.depth());
-    enter_with(all, at, kind, e, p, facts, work)
-}
-
-// One that was: refusal 11 with no lambda around.
-fn enter_heap(
-    all: &[u32],
-    at: usize,
-    heaps: Heaps,
-    j: u32,
-    h: u32,
-    p: Pass,
-    facts: &mut [u32],
-    work: &mut [u32],
-) -> Pass
-    requires { ⌜ NameFits (now all) at p (now facts) (now work) × FewHeaps heaps × (h ≤ itemsMost) ⌝ }
-    ensures { λ r. ⌜ EntersHeap (now (all .entry)) at heaps j h p (now (facts .entry)) (now (work .entry)) r (now (facts .exit)) (now (work .exit)) ⌝ }
-{
-    let depth = p.depth();
     match heaps {
-        Heaps::Around(n) => enter_with(
-            all,
-            at,
-            IdentifierStatus::HeapAllocated,
-            Entry::on_heap(j, h + n, depth),
-            p,
-            facts,
-            work,
-        ),
-        Heaps::Nothing => {
-            let q = note_second(p, 11, at);
-            enter_with(
-                all,
-                at,
-                IdentifierStatus::HeapAllocated,
-                Entry::on_heap(j, h, depth),
-                q,
-                facts,
-                work,
-            )
-        }
+        Heaps::Around(n) => n,
+        Heaps::Nothing => 0,
+    }
+}
+
+// The entry of the name at place j, with h heap entries before it: on the heap, if it was captured and mutated on the run before, or with a slot.
+fn name_entry(heap: bool, g: Entering, j: u32, h: u32, depth: u32) -> Entry
+    requires { ⌜ SlotsFit g j h ⌝ }
+    ensures { λ r. ⌜ r ≡ coded (nameEntry heap (g .base) (heapsIn (g .heaps)) j h depth) ⌝ }
+{
+    let heaps = g.heaps;
+    if heap {
+        return Entry::on_heap(j, h + or_zero(heaps), depth);
+    }
+    Entry::local(g.base + j, depth)
+}
+
+fn name_kind(heap: bool, kind: IdentifierStatus) -> IdentifierStatus
+    ensures { λ r. ⌜ r ≡ cond heap HeapAllocated kind ⌝ }
+{
+    if heap {
+        return IdentifierStatus::HeapAllocated;
+    }
+    kind
+}
+
+// Refusal 11: on the heap, with no lambda around.
+fn note_heap(heap: bool, heaps: Heaps, at: usize, p: Pass) -> Pass
+    ensures { λ r. ⌜ NotesHeap heap heaps at p r ⌝ }
+{
+    if !heap {
+        return p;
+    }
+    match heaps {
+        Heaps::Around(_) => p,
+        Heaps::Nothing => note_second(p, 11, at),
     }
 }
 
@@ -161,10 +151,9 @@ fn enter_name(
 {
     let kind = g.kind;
     let heaps = g.heaps;
-    if heap {
-        return enter_heap(all, at, heaps, j, h, p, facts, work);
-    }
-    enter_local(all, at, kind, g.base + j, p, facts, work)
+    let q = note_heap(heap, heaps, at, p);
+    let e = name_entry(heap, g, j, h, p.depth());
+    enter_with(all, at, name_kind(heap, kind), e, q, facts, work)
 }
 
 pub fn enter_names(

@@ -12,7 +12,6 @@ use semantic::FoundFunction;
 use semantic::FoundLet;
 use semantic::IdentifierStatus;
 use semantic::LetInformation;
-use semantic::NONE;
 use walk::uses::Names;
 use work::Pass;
 use work::narrow;
@@ -32,9 +31,10 @@ fn heaps_around(f: Around, facts: &[u32], captured: &[u32]) -> Heaps
     requires { ⌜ AroundFits f (now facts) (now captured) ⌝ }
     ensures { λ r. ⌜ TellsHeaps f (now (facts .entry)) (now (captured .entry)) r ⌝ }
 {
-    let Around::Lambda(at, _) = f else {
+    if f.code == 0 {
         return Heaps::Nothing;
-    };
+    }
+    let at = (f.code - 1) as usize;
     let found = semantic::kinds::function_at(facts, at);
     let FoundFunction::Found(v) = found else {
         return Heaps::Nothing;
@@ -46,10 +46,7 @@ fn heaps_around(f: Around, facts: &[u32], captured: &[u32]) -> Heaps
 fn function_id(f: Around) -> u32
     ensures { λ r. ⌜ TellsFunction f r ⌝ }
 {
-    match f {
-        Around::Lambda(_, id) => id,
-        Around::Nothing => NONE,
-    }
+    f.id
 }
 
 fn let_arguments(facts: &[u32], at: usize) -> Entries

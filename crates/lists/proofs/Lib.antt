@@ -1,6 +1,8 @@
 pub mod Sets
 pub mod RowsCase
 pub mod Sorted
+pub mod Ordered
+pub mod OrderCase
 pub mod EntryCase
 pub mod CountCase
 pub mod PlaceCase
@@ -12,6 +14,8 @@ pub mod NumberCase
 pub mod ClearCase
 pub mod InsertCase
 pub mod FillCase
+pub mod CollectCase
+pub mod SortedCase
 pub mod StoreCase
 pub mod NowCase
 pub mod TallyCase

@@ -1,7 +1,9 @@
 pub mod Contract
 pub mod Rewrites
+pub mod Order
 pub mod Index
 pub mod Given
+pub mod Collected
 pub mod Numbered
 pub mod Counts
 pub mod Kept

@@ -23,7 +23,7 @@ ghost use Rattle.lists.specs.Index.{capturedNewest, decoded, Indexed, So
 pub const NAMES: usize = 1024;
 
 // For so few names a search is quicker than an array.
-pub const FEW: usize = 64;
+pub const FEW: usize = 128;
 
 // The newest binder of the name, where it is captured.
 fn captured_binder(p: Pass, work: &[u32], name: u32) -> Binder

@@ -4,4 +4,5 @@ pub mod captured;
 pub mod counts;
 pub mod index;
 pub mod number;
+pub mod order;
 pub mod rows;

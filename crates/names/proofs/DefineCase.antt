@@ -21,14 +21,13 @@ use Rattle.semantic.specs.declared.SemanticInformation.{SemanticInformation}
 use Rattle.semantic.specs.declared.Span.{Span}
 use Rattle.pass.specs.State.{State, Facts, Entry, rowAt, putEntry, insert, amend, withNames, topLevelEntry, newest, depth}
 use Rattle.pass.specs.Read.{noteLive, enter, statusAt, defineFact, enterDefine, shadowIfBuiltin, shadow, enterTopLevelValue, alias}
-use Rattle.pass.specs.Run.{rowsMost}
 use Rattle.pass.specs.Sound.{Property, Each, usesIn}
 use Rattle.work.specs.Coded.{coded, recordIn}
-use Rattle.work.specs.Works.{Works, Spacious}
-use Rattle.work.specs.WorksLaws.{depth-is, spacious, names-many}
+use Rattle.work.specs.Works.{Works}
+use Rattle.work.specs.WorksLaws.{depth-is}
 use Rattle.work.specs.ScopeLaws.{newest-known}
 use Rattle.work.specs.Leaves.{Becomes, Tells, StoresEntry}
-use Rattle.work.specs.Scope.{TellsId, Defines}
+use Rattle.work.specs.Scope.{TellsId, isLiveRow, inRow, Defines}
 use Rattle.work.specs.Tied.{raw, Tied, Good, Here}
 use Rattle.pass.specs.Visitable.{usesMost}
 use Rattle.work.specs.TiedLaws.{rowCount, count-amend, facts-entry, tied-works, tied-insert, tied-amend}
@@ -36,7 +35,7 @@ use Rattle.work.specs.declared.Pass.{Pass}
 use Rattle.work.specs.declared.entries.Entry.{Entry as Coded}
 use Rattle.walk.specs.declared.body.Body.{Body}
 use Rattle.names.specs.Facts.{spanOf}
-use Rattle.names.specs.Contract.{SomeState, Room, Enters, DefinesBy, EntersValue, Defined}
+use Rattle.names.specs.Contract.{Enters, Entered, PutsName, DefinesBy, EntersValue, Defined}
 use Rattle.names.specs.Steps.{DefineFact, Shadows}
 use Rattle.names.proofs.KnownCase.{known-name, known-span, known-few, found-none, uses-are}
 
@@ -55,10 +54,6 @@ define-fact {n = n} {h} {p = p} {q = q} ed en t ek eq ei ej el em er = record {
 
 -- A name enters
 
-note-names : (b : Bool) (i : ℕ) (s : State) → noteLive b i s .scope .names ≡ s .scope .names
-note-names true i s = refl
-note-names false i s = refl
-
 note-facts : (b : Bool) (i : ℕ) (s : State) → noteLive b i s .facts ≡ s .facts
 note-facts true i s = refl
 note-facts false i s = refl
@@ -76,25 +71,27 @@ enter-facts x e s =
     facts-entry (withNames (map.define (x .name) x (s .scope .names)) (noteLive (isLive (x .name) s) (x .at) s)) (x .at) e
     ∙ note-facts (isLive (x .name) s) (x .at) s
 
-pub enters : {rs : List ℕ} {at n : ℕ} {e : Coded} {p q r : Pass} {w w₁ w₂ : List ℕ} → n ≡ nth rs at .name
-    → Becomes p w (λ s. noteLive (isLive n s) at s) q w → Defines q w n at r w₁ → StoresEntry w₁ at e w₂ → Enters rs at e p w r w₂
+note-after : (b : Bool) (i : ℕ) (m : ScopeMap Ident) (s : State) → noteLive b i (withNames m s) ≡ withNames m (noteLive b i s)
+note-after true i m s = refl
+note-after false i m s = refl
+
+pub puts-name : {rs : List ℕ} {at n place : ℕ} {e : Coded} {p : Pass} {w w₁ w₂ : List ℕ} → n ≡ nth rs at .name
+    → Defines p w n at place w₁ → StoresEntry w₁ at e w₂ → PutsName rs at e p w place w₂
 unfolding enter
-enters {rs} {at} {n} {r = r} {w₁ = w₁} {w₂} en o d m = record {
-  is = λ s x v kx px ev k.
-      let s₁ = noteLive (isLive n s) at s in
-      let s₂ = withNames (map.define n x (s .scope .names)) s₁ in
-      let k₂ : Works r w₁ s₂ = rw (note-names (isLive n s) at s) at (d .is s₁ x px (o .is s k)) in
-      subst (λ (n : ℕ). Works r w₂ (entered n (x .at) x v s)) (en ∙ known-name kx px)
-      (subst (λ (i : ℕ). Works r w₂ (entered n i x v s)) (sym px) (m .is r s₂ v k₂ ev));
+puts-name {at = at} {n} {place} {p = p} {w₁ = w₁} {w₂} en d m = record {
+  is = λ q o. record {
+    is = λ s x v kx px ev k.
+        let names = map.define n x (s .scope .names) in
+        let k₁ : Works q w₁ (noteLive (isLiveRow place p) at (withNames names s)) = o .is w₁ .is (withNames names s) (d .is s x px k) in
+        let k₂ : Works q w₁ (withNames names (noteLive (isLive n s) at s)) = rw (d .live s k, note-after (isLive n s) at names s) at k₁ in
+        subst (λ (n : ℕ). Works q w₂ (entered n (x .at) x v s)) (en ∙ known-name kx px)
+        (subst (λ (i : ℕ). Works q w₂ (entered n i x v s)) (sym px) (m .is q (withNames names (noteLive (isLive n s) at s)) v k₂ ev));
+  };
 }
 
--- what is asked after 9 is noted: the names are as many as before
-pub noted-room : {p q : Pass} {w : List ℕ} {at : ℕ} (n : ℕ) → SomeState p w → Room p → at < rowsMost → Becomes p w (λ s. noteLive (isLive n s) at s) q w
-    → Spacious q w × Room q × (at < rowsMost)
-noted-room {at = at} n h r l o =
-    let k = o .is (h .s) (h .works) in
-    let e = ap (λ (m : ScopeMap Ident). length (m .live)) (note-names (isLive n (h .s)) at (h .s)) in
-    (spacious k, omega (arith, names-many k, names-many (h .works), e), l)
+pub passed : {place at : ℕ} {p q r : Pass} {b : Bool} → b ≡ isLiveRow place p → q ≡ inRow place p → ((w : List ℕ) → Becomes q w (noteLive b at) r w)
+    → Entered place at p r
+passed {at = at} {r = r} e f o = record { is = rw (e, f) at o }
 
 pub top-level-fits : {e : Coded} → e ≡ coded topLevelEntry → e .uses < 536870912
 top-level-fits q = omega (arith, uses-are q)

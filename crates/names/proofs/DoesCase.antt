@@ -18,9 +18,11 @@ use Rattle.pass.specs.Read.{Rule, noEntry, depthOne, currentLayer, takenCapture
 use Rattle.work.specs.Known.{Known}
 use Rattle.work.specs.Coded.{recordIn}
 use Rattle.work.specs.WorksLaws.{depth-is}
+use Rattle.work.specs.Passes.{withSecond}
 use Rattle.work.specs.ScopeLaws.{newest-known}
 use Rattle.work.specs.Tied.{raw, Here}
 use Rattle.work.specs.declared.Pass.{Pass}
+use Rattle.work.specs.declared.Second.{Second}
 use Rattle.names.specs.Rules.{Stands, Same, no-entry, depth-one, current-layer, taken-capture, home-slot}
 use Rattle.names.specs.Facts.{spanOf, FreeFact}
 use Rattle.names.specs.Contract.{Does, Decides}
@@ -164,8 +166,8 @@ module _ {rs : List ℕ} {at : ℕ} {p : Pass} {F C w : List ℕ} {name : ℕ} (
       unfolding binderOf
       does-home e q k = does homeSlot (λ y. refl) classes k (λ A s x h. (ruled-home (told h d e), q ∙ depth-is (h .tied .works)))
 
-      pub does-taken : {b place row : ℕ} {p′ : Pass} → r ≡ decision.TakenCapture b place row → ReadsTaken rs at b place row p F C w p′ F′ w′
-          → Does rs at p F C w (read classes) p′ F′ w′
+      pub does-taken : {b place row : ℕ} {u : Second} → r ≡ decision.TakenCapture b place row → ReadsTaken rs at b place row p F C w u F′ w′
+          → Does rs at p F C w (read classes) (withSecond u p) F′ w′
       unfolding read binderOf
       does-taken e k = record {
         is = λ A s x h.

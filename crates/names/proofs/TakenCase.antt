@@ -15,21 +15,24 @@ use Rattle.semantic.specs.Leaves.{Stores, Amends, Tells, item-inside}
 use Rattle.semantic.specs.declared.ScopeInfo.{ScopeInfo}
 use Rattle.semantic.specs.declared.SemanticInformation.{SemanticInformation}
 use Rattle.semantic.specs.declared.Span.{Span}
-use Rattle.pass.specs.State.{State, Capture, entryAt, infoAt, putEntry, insert, lastEntry, capturedEntry, noteSecond, depth}
+use Rattle.pass.specs.State.{State, Capture, entryAt, infoAt, putEntry, insert, lastEntry, capturedEntry, orKept, noteSecond, depth}
 use Rattle.pass.specs.Read.{useCapture, noteTaken, hasNumber, countUses, takenFact}
 use Rattle.pass.specs.Lists.{capturedMost}
 use Rattle.pass.specs.Run.{rowsMost, itemsMost}
-use Rattle.work.specs.Coded.{coded, takenOf}
+use Rattle.work.specs.Coded.{coded, takenOf, secondOf, refusalAt}
 use Rattle.work.specs.Entries.{usedLast, nowCaptured}
 use Rattle.work.specs.Works.{Works, takenFirst}
 use Rattle.work.specs.WorksLaws.{captured-many, depth-is}
-use Rattle.work.specs.Leaves.{Becomes, LoadsEntry, StoresEntry}
+use Rattle.work.specs.WorksKept.{second-kept}
+use Rattle.work.specs.Passes.{withSecond}
+use Rattle.work.specs.Leaves.{LoadsEntry, StoresEntry}
 use Rattle.work.specs.Captures.{LoadsTaken, UsesCapture}
 use Rattle.work.specs.CapturesLaws.{found-below, captures-few, taken-uses}
 use Rattle.work.specs.Tied.{raw, Tied, Good}
 use Rattle.pass.specs.Visitable.{usesMost}
 use Rattle.work.specs.TiedLaws.{rowCount, count-amend, count-entry, facts-entry, tied-works, tied-insert, tied-amend}
 use Rattle.work.specs.declared.Pass.{Pass}
+use Rattle.work.specs.declared.Second.{Second}
 use Rattle.work.specs.declared.captures.Taken.{Taken}
 use Rattle.work.specs.declared.entries.Entry.{Entry as Coded}
 use Rattle.names.specs.Facts.{spanOf, TakenFact}
@@ -82,12 +85,14 @@ module _ {place : ℕ} {w : List ℕ} (k : Takeable place w) where
 abbrev pub isTwelve : ScopeInfo → Bool
 isTwelve v = hasNumber (v .«read_capture_offset») && eqb (v .«capture_offset») NONE
 
-module _ {v : ScopeInfo} {at : ℕ} {p : Pass} where
-  pub notes : {p′ : Pass} → isTwelve v ≡ true → ((w : List ℕ) → Becomes p w (noteSecond 12 at) p′ w) → NotesTaken v at p p′
-  notes t f = record { is = λ w s x e k. rw (t, e) (f w .is s k) }
+module _ {v : ScopeInfo} {at : ℕ} {before : Second} where
+  pub notes : {r : Second} → isTwelve v ≡ true → secondOf r ≡ orKept (secondOf before) (refusalAt 12 at) → NotesTaken v at before r
+  notes {r} t f = record {
+    is = λ p w s x q e k. rw (t, e) (second-kept k 12 at r (f ∙ ap (λ (b : Second). orKept (secondOf b) (refusalAt 12 at)) (sym q)));
+  }
 
-  pub notes-none : isTwelve v ≡ false → NotesTaken v at p p
-  notes-none t = record { is = λ w s x e k. rw t k }
+  pub notes-none : isTwelve v ≡ false → NotesTaken v at before before
+  notes-none t = record { is = λ p w s x q e k. rw t (subst (λ (b : Second). Works (withSecond b p) w s) q k) }
 
 note-facts : (b : Bool) (i : ℕ) (s : State) → (cond b (noteSecond 12 i s) s) .facts ≡ s .facts
 note-facts true i s = refl
@@ -127,12 +132,12 @@ module _ {rs : List ℕ} {at b place row : ℕ} {p : Pass} {F C w : List ℕ} (k
 
 -- The read
 
-pub reads-taken : {rs : List ℕ} {at b place row : ℕ} {p p′ : Pass} {F C w F′ w′ F″ : List ℕ} {v : ScopeInfo} {t : Taken} {i m d : ℕ} {q : Span}
-    {r : SemanticInformation}
+pub reads-taken : {rs : List ℕ} {at b place row : ℕ} {p : Pass} {F C w F′ w′ F″ : List ℕ} {v : ScopeInfo} {t : Taken} {i m d : ℕ} {q : Span}
+    {r : SemanticInformation} {u′ : Second}
     → Tells putItem noItem (λ x. x .info) C row v → UsesTaken at b place w t w′ → i ≡ t .binder → m ≡ suc (t .uses)
     → Amends putRow Blank (amended (withUsageCount m)) F i F′ → d ≡ p .scope .depth → q ≡ spanOf (nth rs at) → TakenFact d t v q r
-    → Stores putRow F′ at (Variable r) F″ → NotesTaken v at p p′ → ReadsTaken rs at b place row p F C w p′ F″ w′
-reads-taken {at = at} {b} {row = row} {p} {p′} {F} {C} {w} {F′} {w′} {F″} {v} {t} {i} {m} {d} {q} {r} l u ei em a ed eq fact z n = record {
+    → Stores putRow F′ at (Variable r) F″ → NotesTaken v at (p .second) u′ → ReadsTaken rs at b place row p F C w u′ F″ w′
+reads-taken {at = at} {b} {row = row} {p} {F} {C} {w} {F′} {w′} {F″} {v} {t} {i} {m} {d} {q} {r} {u′} l u ei em a ed eq fact z n = record {
   is = λ classes A s x y c h ky py st.
       let k = h .tied .works in
       let ev : v ≡ infoAt s (c .row) =
@@ -154,7 +159,7 @@ reads-taken {at = at} {b} {row = row} {p} {p′} {F} {C} {w} {F′} {w′} {F″
       let o = Variable (takenFact (depth s) c v x) in
       let s₃ = insert (x .at) o s₂ in
       let t₄ : Tied (raw p F″ C A w′) s₃ = subst (λ (j : ℕ). Tied (raw p F″ C A w′) (insert j o s₂)) (sym (h .place)) (rw ef at (tied-insert t₃ j₂ z)) in
-      let t₅ : Tied (raw p′ F″ C A w′) (noteTaken v x s₃) =
-      tied-works (noteTaken v x s₃) t₄ (note-facts (isTwelve v) (x .at) s₃) (n .is w′ s₃ x (h .place) (t₄ .works)) in
+      let t₅ : Tied (raw (withSecond u′ p) F″ C A w′) (noteTaken v x s₃) =
+      tied-works (noteTaken v x s₃) t₄ (note-facts (isTwelve v) (x .at) s₃) (n .is p w′ s₃ x refl (h .place) (t₄ .works)) in
       rw ec at (rw ev at t₅);
 }

@@ -7,10 +7,12 @@ use Rattle.tree.specs.Tree.{Ident, Tree}
 use Rattle.scope_map.specs.Hints.{rowsLength}
 use Rattle.semantic.specs.declared.IdentifierStatus.{IdentifierStatus}
 use Rattle.pass.specs.State.{State, Entry}
-use Rattle.pass.specs.Read.{enter, enterDefine, enterTopLevelValue, mutate, ruleOf}
+use Rattle.pass.specs.Read.{noteLive, enter, enterDefine, enterTopLevelValue, mutate, ruleOf}
 use Rattle.work.specs.Known.{Known}
 use Rattle.work.specs.Coded.{coded}
 use Rattle.work.specs.Works.{Works}
+use Rattle.work.specs.Leaves.{Becomes}
+use Rattle.work.specs.Scope.{isLiveRow, inRow}
 use Rattle.work.specs.Tied.{raw, Tied, Good, Here}
 use Rattle.work.specs.declared.Pass.{Pass}
 use Rattle.work.specs.declared.entries.Entry.{Entry as Coded}
@@ -31,6 +33,14 @@ pub record SomeState (p : Pass) (w : List ℕ) : Type 0 where
 -- the name at the record enters, with this entry
 pub record Enters (rs : List ℕ) (at : ℕ) (e : Coded) (p : Pass) (w : List ℕ) (p′ : Pass) (w′ : List ℕ) : Type 0 where
   pub is : (s : State) (x : Ident) (v : Entry) → Known rs x → x .at ≡ at → e ≡ coded v → Works p w s → Works p′ w′ (enter x v s)
+
+-- the pass after a name entered in the row: one row more, or refusal 9 noted where the row was there before, above the bottom layer
+pub record Entered (place at : ℕ) (p p′ : Pass) : Type 0 where
+  pub is : (w : List ℕ) → Becomes (inRow place p) w (noteLive (isLiveRow place p) at) p′ w
+
+-- the tables have the name: it has entered once the pass is as after it
+pub record PutsName (rs : List ℕ) (at : ℕ) (e : Coded) (p : Pass) (w : List ℕ) (place : ℕ) (w′ : List ℕ) : Type 0 where
+  pub is : (p′ : Pass) → Entered place at p p′ → Enters rs at e p w p′ w′
 
 -- Some state is held, and the record at holds an identifier. What the function is not lent is any table.
 

@@ -14,10 +14,12 @@ use Rattle.pass.specs.Run.{rowsMost}
 use Rattle.work.specs.Known.{Known}
 use Rattle.work.specs.Coded.{coded, takenOf}
 use Rattle.work.specs.Works.{Works}
+use Rattle.work.specs.Passes.{withSecond}
 use Rattle.work.specs.Scope.{BindersKnown}
 use Rattle.work.specs.Tied.{raw, Tied, Good, Here}
 use Rattle.work.specs.TiedLaws.{rowCount}
 use Rattle.work.specs.declared.Pass.{Pass}
+use Rattle.work.specs.declared.Second.{Second}
 use Rattle.work.specs.declared.captures.Taken.{Taken}
 use Rattle.work.specs.declared.entries.Entry.{Entry as Coded}
 use Rattle.walk.specs.Contract.{bodyOf}
@@ -69,8 +71,9 @@ pub record PutsUse (b : ℕ) (e : Coded) (F w F′ w′ : List ℕ) : Type 0 whe
   pub is : (p : Pass) (C A : List ℕ) (s : State) (y : Ident) (v : Entry) → y .at ≡ b → rowCount s ≡ rowsMost → e ≡ coded v → Tied (raw p F C A w) s
       → Tied (raw p F′ C A w′) (countUses (v .usageCount) y (putEntry (y .at) v s))
 
-pub record NotesTaken (v : ScopeInfo) (at : ℕ) (p p′ : Pass) : Type 0 where
-  pub is : (w : List ℕ) (s : State) (x : Ident) → x .at ≡ at → Works p w s → Works p′ w (noteTaken v x s)
+-- refusal 12, or not, of every pass that had this noted before
+pub record NotesTaken (v : ScopeInfo) (at : ℕ) (before r : Second) : Type 0 where
+  pub is : (p : Pass) (w : List ℕ) (s : State) (x : Ident) → p .second ≡ before → x .at ≡ at → Works p w s → Works (withSecond r p) w (noteTaken v x s)
 
 -- A capture that is taken
 
@@ -102,7 +105,7 @@ pub record TakenBound (rs : List ℕ) (at b place row : ℕ) (p : Pass) (F C w :
   pub bound : y .at ≡ b
   pub stands : Stands s (x .name) place row c
 
-pub record ReadsTaken (rs : List ℕ) (at b place row : ℕ) (p : Pass) (F C w : List ℕ) (p′ : Pass) (F′ w′ : List ℕ) : Type 0 where
+pub record ReadsTaken (rs : List ℕ) (at b place row : ℕ) (p : Pass) (F C w : List ℕ) (r : Second) (F′ w′ : List ℕ) : Type 0 where
   pub is : (classes A : List ℕ) (s : State) (x y : Ident) (c : Capture) → Here rs at (raw p F C A w) s x → Known rs y → y .at ≡ b
       → Stands s (x .name) place row c
-      → Tied (raw p′ F′ C A w′) (readBy classes (takenCapture y c) x s)
+      → Tied (raw (withSecond r p) F′ C A w′) (readBy classes (takenCapture y c) x s)

@@ -8,24 +8,34 @@ use walk::body::Body;
 use work::Pass;
 use work::entries::Entry;
 use work::scope::Binder;
+use work::scope::is_live_row;
 ghost use Prim.Native.Nat.{_<_};
 ghost use lib.ListN.{length};
 ghost use Rattle.tree.specs.Record.{records};
 ghost use Rattle.pass.specs.Run.{rowsMost};
 ghost use Rattle.work.specs.Scope.{KnownHere};
-ghost use Rattle.names.specs.Contract.{SomeState, Room, Enters, Defined, DefinesBy, EntersValue, Settable};
+ghost use Rattle.names.specs.Contract.{SomeState, Room, PutsName, Entered, Defined, DefinesBy, EntersValue, Settable};
 ghost use Rattle.names.specs.Steps.{DefineFact, Shadows};
 
-// The name at the record enters the newest layer.
-pub fn enter(all: &[u32], at: usize, e: Entry, p: Pass, work: &mut [u32]) -> Pass
+// The name at the record enters the newest layer, with its entry. Answers the row of the scope that it is in.
+pub fn put_name(all: &[u32], at: usize, e: Entry, p: Pass, work: &mut [u32]) -> usize
     requires { ⌜ SomeState p (now work) × Room p × (at < length (records (now all))) × (at < rowsMost) × (e .uses < 536870912) ⌝ }
-    ensures { λ r. ⌜ Enters (now (all .entry)) at e p (now (work .entry)) r (now (work .exit)) ⌝ }
+    ensures { λ r. ⌜ PutsName (now (all .entry)) at e p (now (work .entry)) r (now (work .exit)) ⌝ }
 {
     let name = tree::record::name(all, at);
-    let q = work::notes::note_live(p, work, name, at);
-    let r = work::scope::define_name(q, work, name, at);
+    let place = work::scope::define_name(p, work, name, at);
     work::entries::store_entry(work, at, e);
-    r
+    place
+}
+
+// The pass after that: refusal 9 where the row was there before, above the bottom layer, else one row more.
+pub fn entered(p: Pass, place: usize, at: usize) -> Pass
+    requires { ⌜ Room p × (at < rowsMost) ⌝ }
+    ensures { λ r. ⌜ Entered place at p r ⌝ }
+{
+    let live = is_live_row(p, place);
+    let q = work::scope::with_row(p, place);
+    work::notes::note_live(q, live, at)
 }
 
 fn define_fact(
@@ -68,9 +78,9 @@ pub fn enter_define(
     ensures { λ r. ⌜ DefinesBy b kind alias (now (all .entry)) at p (now (facts .entry)) (now (work .entry)) r (now (facts .exit)) (now (work .exit)) ⌝ }
 {
     let fact = define_fact(all, at, kind, alias, b, p, work);
-    let q = enter(all, at, Entry::top_level(), p, work);
+    let place = put_name(all, at, Entry::top_level(), p, work);
     semantic::rows::store_information(facts, at, fact);
-    q
+    entered(p, place, at)
 }
 
 // The fact of the name's newest entry is marked as shadowed, if it is a builtin's.

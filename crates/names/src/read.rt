@@ -10,8 +10,10 @@ use semantic::ScopeInfo;
 use table::wide;
 use walk::body::is_class;
 use work::Pass;
+use work::Second;
 use work::captures::Taken;
 use work::entries::Entry;
+use work::notes::first_second;
 use work::scope::Binder;
 ghost use mathlib.Core.Path.{_≡_};
 ghost use Prim.Native.Nat.{_+_, _*_, _≤_, _<_};
@@ -20,6 +22,7 @@ ghost use Rattle.semantic.specs.Rows.{rowWidth};
 ghost use Rattle.pass.specs.Read.{depthOne, currentLayer, homeSlot, read};
 ghost use Rattle.pass.specs.Run.{rowsMost};
 ghost use Rattle.work.specs.Works.{Spacious, workLong};
+ghost use Rattle.work.specs.Passes.{withSecond};
 ghost use Rattle.names.specs.Contract.{Readable, Does, Decided, Decides, Settable, Mutates};
 ghost use Rattle.names.specs.Steps.{DecidesCapture, Bound, ToldPrelude, ToldDepth, ReadsBy, PutsUse};
 ghost use Rattle.names.specs.Steps.{NotesTaken, Takeable, UsesTaken, TakenBound, ReadsTaken};
@@ -130,13 +133,13 @@ fn read_home(all: &[u32], at: usize, depth: u32, b: usize, facts: &mut [u32], wo
 }
 
 // Refusal 12: a read offset and no capture offset.
-fn note_taken(v: ScopeInfo, at: usize, p: Pass) -> Pass
-    ensures { λ r. ⌜ NotesTaken v at p r ⌝ }
+fn note_taken(v: ScopeInfo, at: usize, before: Second) -> Second
+    ensures { λ r. ⌜ NotesTaken v at before r ⌝ }
 {
     if v.read_capture_offset != NONE && v.capture_offset == NONE {
-        return work::notes::note_second(p, 12, at);
+        return first_second(before, 12, at);
     }
-    p
+    before
 }
 
 // The capture at the place is used, and the entry of the binder at b.
@@ -162,7 +165,7 @@ fn read_taken(
     facts: &mut [u32],
     captured: &[u32],
     work: &mut [u32],
-) -> Pass
+) -> Second
     requires { ⌜ TakenBound (now all) at b place row p (now facts) (now captured) (now work) ⌝ }
     ensures { λ r. ⌜ ReadsTaken (now (all .entry)) at b place row p
         (now (facts .entry)) (now (captured .entry)) (now (work .entry)) r (now (facts .exit)) (now (work .exit)) ⌝ }
@@ -172,10 +175,11 @@ fn read_taken(
     semantic::amend::with_usage_count(facts, wide(t.binder), t.uses + 1);
     let fact = taken_fact(p.depth(), t, v, crate::facts::span_at(all, at));
     semantic::rows::store_information(facts, at, fact);
-    note_taken(v, at, p)
+    let before = p.second;
+    note_taken(v, at, before)
 }
 
-// The identifier at the record is read.
+// The identifier at the record is read. Answers what the pass then has as the first refusal of a second run; nothing else of it changes.
 pub fn read(
     classes: &[u8],
     all: &[u32],
@@ -184,14 +188,15 @@ pub fn read(
     facts: &mut [u32],
     captured: &[u32],
     work: &mut [u32],
-) -> Pass
+) -> Second
     requires { ⌜ Readable (length (now classes)) (now all) at p (now facts) (now captured) (now work) ⌝ }
     ensures { λ r. ⌜ Does (now (all .entry)) at p
-        (now (facts .entry)) (now (captured .entry)) (now (work .entry)) (read (now (classes .entry))) r (now (facts .exit)) (now (work .exit)) ⌝ }
+        (now (facts .entry)) (now (captured .entry)) (now (work .entry)) (read (now (classes .entry))) (withSecond r p) (now (facts .exit)) (now (work .exit)) ⌝ }
 {
     let name = tree::record::name(all, at);
     let prelude = is_class(classes, name, 1);
     let depth = p.depth();
+    let second = p.second;
     let rule = rule_of(p, work, name);
     match rule {
         Rule::NoEntry => {
@@ -200,15 +205,15 @@ pub fn read(
                 at,
                 free_fact(prelude, depth, crate::facts::span_at(all, at)),
             );
-            p
+            second
         }
         Rule::DepthOne(b) => {
             read_global(all, at, prelude, b, facts, work);
-            p
+            second
         }
         Rule::CurrentLayer(b) => {
             read_local(all, at, depth, b, facts, work);
-            p
+            second
         }
         Rule::TakenCapture(b, place, row) => read_taken(
             all,
@@ -223,7 +228,7 @@ pub fn read(
         ),
         Rule::HomeSlot(b) => {
             read_home(all, at, depth, b, facts, work);
-            p
+            second
         }
     }
 }

@@ -1,2 +1,1 @@
-pub mod LoadCase
 pub mod StoreCase

@@ -1,16 +1,27 @@
--- What is read from the table after all parts of a pass were stored.
+-- What is stored is read back.
 use Prim.Native.Nat.{ℕ, zero, suc}
 use mathlib.Core.List.{List, [], _∷_}
-use mathlib.Core.Path.{_≡_, refl, ap, _∙_}
+use mathlib.Core.Path.{_≡_, refl, ap, sym, _∙_}
 use native.Mathlib.Omega.{arith}
 use lib.ListN.{length, getD, drop, set}
-use Rattle.work.specs.declared.Noted.{Noted}
-use Rattle.work.specs.declared.Noted.the-variants as noted
+use Rattle.work.specs.Passes.{inContext, withSecond}
 use Rattle.work.specs.declared.Pass.{Pass}
 use Rattle.work.specs.declared.Second.{Second}
-use Rattle.work.specs.declared.Second.the-variants as second
-use Rattle.registers.specs.Registers.{registersLength, notedIn, secondIn, passIn}
-use Rattle.registers.specs.Stored
+use Rattle.registers.specs.Registers.{registersLength, Narrow, passIn}
+
+-- x is y, which is 32 bits wide
+abbrev Widened : ℕ → ℕ → Type 0
+Widened x y = (x ≡ y) × Narrow y
+
+pub pass-back : (p : Pass) {c d e n : ℕ} → Widened c (p .context) → Widened d (p .scope .depth) → Widened e (p .captures .depth) → Widened n (p .second .number)
+    → passIn (c ∷ d ∷ p .scope .length ∷ e ∷ p .captures .length ∷ p .«captured_top» ∷ p .«arguments_top» ∷ p .nine .code ∷ p .ten .code ∷ n ∷ p .second .at ∷ []) ≡ p
+unfolding passIn
+pass-back p c d e n = rw (c .0, c .1, d .0, d .1, e .0, e .1, n .0, n .1)
+
+pub context-back : (r : List ℕ) {t : List ℕ} {x c : ℕ} → length r ≡ registersLength → Widened x c → t ≡ set r 0 x → passIn t ≡ inContext c (passIn r)
+unfolding passIn
+context-back [] h e q = absurd (omega (arith, h))
+context-back (y ∷ r) h e q = rw (q, e .0, e .1) refl
 
 -- the first n numbers of a table, one by one
 abbrev spelt : ℕ → List ℕ → List ℕ
@@ -23,27 +34,9 @@ spelt-eq zero (x ∷ r) e = absurd (omega (arith, e))
 spelt-eq (suc n) [] e = absurd (omega (arith, e))
 spelt-eq (suc n) (x ∷ r) e = ap (λ (l : List ℕ). x ∷ l) (spelt-eq n r (omega (arith, e)))
 
-noted-back : (n : Noted) → notedIn (Stored.notedFlag n) (Stored.notedPlace n) ≡ n
-noted-back noted.Nothing = refl
-noted-back (noted.At i) = refl
-
-second-back : (s : Second) → Stored.Narrow (Stored.secondNumber s) → secondIn (Stored.secondFlag s) (Stored.secondNumber s) (Stored.secondPlace s) ≡ s
-second-back second.Nothing e = refl
-second-back (second.At n i) e = ap (λ (k : ℕ). second.At k i) e
-
--- the table after each part is stored, in the code's order
-abbrev flatStored : List ℕ → ℕ → Pass → List ℕ
-flatStored r x p = set (set (set r 0 x) 5 (p .«captured_top»)) 6 (p .«arguments_top»)
-
-abbrev stored : List ℕ → Pass → List ℕ
-stored r p =
-    let maps = Stored.mapStored (Stored.mapStored (flatStored r (p .context) p) 1 (p .scope)) 3 (p .captures) in
-    Stored.secondStored (Stored.notedStored (Stored.notedStored maps 7 (p .nine)) 9 (p .ten)) (p .second)
-
-module _ (r : List ℕ) (p : Pass) (h : length r ≡ registersLength) where
-  passes-back : Stored.Narrow (p .context) → Stored.Narrow (p .scope .depth) → Stored.Narrow (p .captures .depth) → Stored.Narrow (Stored.secondNumber (p .second)) → passIn (stored r p) ≡ p
-  unfolding passIn
-  passes-back f g k l = ap (λ (t : List ℕ). passIn (stored t p)) (spelt-eq 14 r h) ∙ rw (f, g, k, noted-back (p .nine), noted-back (p .ten), second-back (p .second) l)
-
-  pub all-stored : (x : ℕ) {a b c d e : List ℕ} → (x ≡ p .context) × Stored.Narrow (p .context) → (a ≡ Stored.mapStored (flatStored r x p) 1 (p .scope)) × Stored.Narrow (p .scope .depth) → (b ≡ Stored.mapStored a 3 (p .captures)) × Stored.Narrow (p .captures .depth) → c ≡ Stored.notedStored b 7 (p .nine) → d ≡ Stored.notedStored c 9 (p .ten) → (e ≡ Stored.secondStored d (p .second)) × Stored.Narrow (Stored.secondNumber (p .second)) → passIn e ≡ p
-  all-stored x ex ea eb ec ed ee = rw (ee .0, ed, ec, eb .0, ea .0, ex .0) (passes-back (ex .1) (ea .1) (eb .1) (ee .1))
+pub second-back : (r : List ℕ) {t u : List ℕ} {x : ℕ} (s : Second) → length r ≡ registersLength → Widened x (s .number) → t ≡ set r 9 x → u ≡ set t 10 (s .at)
+    → passIn u ≡ withSecond s (passIn r)
+unfolding passIn
+second-back r s h e q o =
+    let z = spelt-eq registersLength r h in
+    rw (o, q, e .0) (ap (λ (l : List ℕ). passIn (set (set l 9 (s .number)) 10 (s .at))) z ∙ rw (e .1) (ap (λ (l : List ℕ). withSecond s (passIn l)) (sym z)))

@@ -1,6 +1,13 @@
 // What a visit does beside visiting the parts of its expression, with the pass's numbers in their table.
+use crate::CONTEXT;
+use crate::REGISTERS;
+use crate::SCOPE_DEPTH;
 use crate::load;
+use crate::narrow;
+use crate::put;
+use crate::put_second;
 use crate::store;
+use crate::wide;
 use flags::Around;
 use forms::calls::clear_context;
 use forms::calls::end_call;
@@ -26,47 +33,41 @@ ghost use Rattle.pass.specs.Run.{rowsMost, factsLength};
 ghost use Rattle.work.specs.Passes.{inContext};
 ghost use Rattle.names.specs.Contract.{Readable, Does, Settable, Mutates};
 ghost use Rattle.forms.specs.Contract.{LetFits, EntersLet, LetEnds, LeavesLet, DefineFits, BeforeDefine, AfterDefine, LambdaFits, EntersLambda, LambdaEnds, LeavesLambda, ChildrenFit, EntersChildren, CallFits, EndsCall, ClearsContext};
-ghost use Rattle.registers.specs.Registers.{registersLength, passIn};
+ghost use Rattle.registers.specs.Registers.{passIn};
 
 pub fn visit_atom(
     classes: &[u8],
     all: &[u32],
     at: usize,
-    r: &mut [usize],
+    r: &mut [usize; REGISTERS],
     facts: &mut [u32],
     captured: &[u32],
     work: &mut [u32],
 )
-    requires { ⌜ (length (now r) ≡ registersLength) × Readable (length (now classes)) (now all) at (passIn (now r)) (now facts) (now captured) (now work) ⌝ }
+    requires { ⌜ Readable (length (now classes)) (now all) at (passIn (now r)) (now facts) (now captured) (now work) ⌝ }
     ensures { λ _. ⌜ Does (now (all .entry)) at (passIn (now (r .entry))) (now (facts .entry)) (now (captured .entry)) (now (work .entry)) (read (now (classes .entry))) (passIn (now (r .exit))) (now (facts .exit)) (now (work .exit)) ⌝ }
 {
     let p = load(r);
-    let q = read(classes, all, at, p, facts, captured, work);
-    store(r, q);
+    let s = read(classes, all, at, p, facts, captured, work);
+    put_second(r, s);
 }
 
-pub fn context(r: &[usize]) -> u32
-    requires { ⌜ (length (now r) ≡ registersLength) ⌝ }
+pub fn context(r: &[usize; REGISTERS]) -> u32
     ensures { λ x. ⌜ x ≡ passIn (now (r .entry)) .context ⌝ }
 {
-    let p = load(r);
-    p.context
+    narrow(r[CONTEXT])
 }
 
-pub fn depth(r: &[usize]) -> u32
-    requires { ⌜ (length (now r) ≡ registersLength) ⌝ }
+pub fn depth(r: &[usize; REGISTERS]) -> u32
     ensures { λ x. ⌜ x ≡ passIn (now (r .entry)) .scope .depth ⌝ }
 {
-    let p = load(r);
-    p.depth()
+    narrow(r[SCOPE_DEPTH])
 }
 
-pub fn set_context(r: &mut [usize], context: u32)
-    requires { ⌜ (length (now r) ≡ registersLength) ⌝ }
+pub fn set_context(r: &mut [usize; REGISTERS], context: u32)
     ensures { λ _. ⌜ passIn (now (r .exit)) ≡ inContext context (passIn (now (r .entry))) ⌝ }
 {
-    let p = load(r);
-    store(r, p.with_context(context));
+    put(r, CONTEXT, wide(context));
 }
 
 pub fn open_let(
@@ -75,13 +76,13 @@ pub fn open_let(
     names: Names,
     height: u32,
     f: Around,
-    r: &mut [usize],
+    r: &mut [usize; REGISTERS],
     facts: &mut [u32],
     captured: &[u32],
     arguments: &[u32],
     work: &mut [u32],
 )
-    requires { ⌜ (length (now r) ≡ registersLength) × LetFits (now all) at names height f (passIn (now r)) (now facts) (now captured) (now arguments) (now work) ⌝ }
+    requires { ⌜ LetFits (now all) at names height f (passIn (now r)) (now facts) (now captured) (now arguments) (now work) ⌝ }
     ensures { λ _. ⌜ EntersLet (now (all .entry)) at names height f (passIn (now (r .entry))) (now (facts .entry)) (now (captured .entry)) (now (arguments .entry)) (now (work .entry)) (passIn (now (r .exit))) (now (facts .exit)) (now (work .exit)) ⌝ }
 {
     let p = load(r);
@@ -107,12 +108,12 @@ pub fn close_let(
     names: Names,
     height: u32,
     f: Around,
-    r: &mut [usize],
+    r: &mut [usize; REGISTERS],
     facts: &mut [u32],
     arguments: &mut [u32],
     work: &mut [u32],
 )
-    requires { ⌜ (length (now r) ≡ registersLength) × LetEnds (now all) at names f (passIn (now r)) (now facts) (now arguments) (now work) ⌝ }
+    requires { ⌜ LetEnds (now all) at names f (passIn (now r)) (now facts) (now arguments) (now work) ⌝ }
     ensures { λ _. ⌜ LeavesLet (now (all .entry)) opened at names height f (passIn (now (r .entry))) (now (facts .entry)) (now (arguments .entry)) (now (work .entry)) (passIn (now (r .exit))) (now (facts .exit)) (now (arguments .exit)) (now (work .exit)) ⌝ }
 {
     let p = load(r);
@@ -125,11 +126,11 @@ pub fn open_define(
     at: usize,
     direct: bool,
     b: Body,
-    r: &mut [usize],
+    r: &mut [usize; REGISTERS],
     facts: &mut [u32],
     work: &mut [u32],
 )
-    requires { ⌜ (length (now r) ≡ registersLength) × DefineFits (now all) at (passIn (now r)) (now facts) (now work) ⌝ }
+    requires { ⌜ DefineFits (now all) at (passIn (now r)) (now facts) (now work) ⌝ }
     ensures { λ _. ⌜ BeforeDefine (now (all .entry)) at direct b (passIn (now (r .entry))) (now (facts .entry)) (now (work .entry)) (passIn (now (r .exit))) (now (facts .exit)) (now (work .exit)) ⌝ }
 {
     let p = load(r);
@@ -143,11 +144,11 @@ pub fn close_define(
     direct: bool,
     context: u32,
     b: Body,
-    r: &mut [usize],
+    r: &mut [usize; REGISTERS],
     facts: &mut [u32],
     work: &mut [u32],
 )
-    requires { ⌜ (length (now r) ≡ registersLength) × DefineFits (now all) at (passIn (now r)) (now facts) (now work) ⌝ }
+    requires { ⌜ DefineFits (now all) at (passIn (now r)) (now facts) (now work) ⌝ }
     ensures { λ _. ⌜ AfterDefine (now (all .entry)) at direct context b (passIn (now (r .entry))) (now (facts .entry)) (now (work .entry)) (passIn (now (r .exit))) (now (facts .exit)) (now (work .exit)) ⌝ }
 {
     let p = load(r);
@@ -159,13 +160,13 @@ pub fn open_lambda(
     all: &[u32],
     at: usize,
     names: Names,
-    r: &mut [usize],
+    r: &mut [usize; REGISTERS],
     facts: &mut [u32],
     captured: &mut [u32],
     arguments: &[u32],
     work: &mut [u32],
 )
-    requires { ⌜ (length (now r) ≡ registersLength) × LambdaFits (now all) at names (passIn (now r)) (now facts) (now captured) (now arguments) (now work) ⌝ }
+    requires { ⌜ LambdaFits (now all) at names (passIn (now r)) (now facts) (now captured) (now arguments) (now work) ⌝ }
     ensures { λ _. ⌜ EntersLambda (now (all .entry)) at names (passIn (now (r .entry))) (now (facts .entry)) (now (captured .entry)) (now (arguments .entry)) (now (work .entry)) (passIn (now (r .exit))) (now (facts .exit)) (now (captured .exit)) (now (work .exit)) ⌝ }
 {
     let p = load(r);
@@ -178,13 +179,13 @@ pub fn close_lambda(
     at: usize,
     d: Ending,
     escapes: bool,
-    r: &mut [usize],
+    r: &mut [usize; REGISTERS],
     facts: &mut [u32],
     captured: &mut [u32],
     arguments: &mut [u32],
     work: &mut [u32],
 )
-    requires { ⌜ (length (now r) ≡ registersLength) × LambdaEnds (now all) at d (passIn (now r)) (now facts) (now captured) (now arguments) (now work) ⌝ }
+    requires { ⌜ LambdaEnds (now all) at d (passIn (now r)) (now facts) (now captured) (now arguments) (now work) ⌝ }
     ensures { λ _. ⌜ LeavesLambda (now (all .entry)) at d escapes (passIn (now (r .entry))) (now (facts .entry)) (now (captured .entry)) (now (arguments .entry)) (now (work .entry)) (passIn (now (r .exit))) (now (facts .exit)) (now (captured .exit)) (now (arguments .exit)) (now (work .exit)) ⌝ }
 {
     let p = load(r);
@@ -197,11 +198,11 @@ pub fn open_begin(
     all: &[u32],
     first: usize,
     k: usize,
-    r: &mut [usize],
+    r: &mut [usize; REGISTERS],
     facts: &mut [u32],
     work: &mut [u32],
 )
-    requires { ⌜ (length (now r) ≡ registersLength) × ChildrenFit (length (now classes)) (now all) first k (passIn (now r)) (now facts) (now work) ⌝ }
+    requires { ⌜ ChildrenFit (length (now classes)) (now all) first k (passIn (now r)) (now facts) (now work) ⌝ }
     ensures { λ _. ⌜ EntersChildren (now (classes .entry)) (now (all .entry)) first k LocallyDefinedFunction (passIn (now (r .entry))) (now (facts .entry)) (now (work .entry)) (passIn (now (r .exit))) (now (facts .exit)) (now (work .exit)) ⌝ }
 {
     let p = load(r);
@@ -225,19 +226,19 @@ pub fn close_call(
     k: usize,
     tail: bool,
     counter: u32,
-    r: &[usize],
+    r: &[usize; REGISTERS],
     facts: &mut [u32],
     work: &[u32],
 )
-    requires { ⌜ (length (now r) ≡ registersLength) × CallFits (now all) at first k (passIn (now r)) (now facts) (now work) ⌝ }
+    requires { ⌜ CallFits (now all) at first k (passIn (now r)) (now facts) (now work) ⌝ }
     ensures { λ _. ⌜ EndsCall (now (all .entry)) at first k tail counter (passIn (now (r .entry))) (now (facts .entry)) (now (work .entry)) (now (facts .exit)) ⌝ }
 {
     let p = load(r);
     end_call(all, at, first, k, tail, counter, p, facts, work);
 }
 
-pub fn open_set(at: usize, r: &mut [usize], facts: &[u32])
-    requires { ⌜ (length (now r) ≡ registersLength) × (at < rowsMost) × (length (now facts) ≡ factsLength) ⌝ }
+pub fn open_set(at: usize, r: &mut [usize; REGISTERS], facts: &[u32])
+    requires { ⌜ (at < rowsMost) × (length (now facts) ≡ factsLength) ⌝ }
     ensures { λ _. ⌜ ClearsContext at (passIn (now (r .entry))) (now (facts .entry)) (passIn (now (r .exit))) ⌝ }
 {
     let p = load(r);
@@ -245,8 +246,8 @@ pub fn open_set(at: usize, r: &mut [usize], facts: &[u32])
     store(r, q);
 }
 
-pub fn close_set(name: u32, r: &[usize], facts: &mut [u32], work: &mut [u32])
-    requires { ⌜ (length (now r) ≡ registersLength) × Settable (passIn (now r)) (now facts) (now work) ⌝ }
+pub fn close_set(name: u32, r: &[usize; REGISTERS], facts: &mut [u32], work: &mut [u32])
+    requires { ⌜ Settable (passIn (now r)) (now facts) (now work) ⌝ }
     ensures { λ _. ⌜ Mutates name (passIn (now (r .entry))) (now (facts .entry)) (now (work .entry)) (now (facts .exit)) (now (work .exit)) ⌝ }
 {
     let p = load(r);

@@ -11,7 +11,7 @@ use Rattle.scope_map.specs.ScopeMap.{Live, ScopeMap, replaceIn, removeIn
 use Rattle.scope_map.specs.Rows.{valuesMost, rowAt, linkAt, liveIn, written}
 use Rattle.scope_map.specs.RowLaws.{length-liveIn, live-next, live-same, place-name, replace-liveIn, remove-absent, remove-liveIn}
 use Rattle.scope_map.specs.Hints.{rowsLength, mapLength, Roomy, Enters, Leaves, Moves}
-use Rattle.scope_map.specs.Held.{Sorted, Held, Becomes, Tells, entryOf, Gets, distanceIn, distanceOf, placeIn, Places, Starts}
+use Rattle.scope_map.specs.Held.{Sorted, Held, Becomes, Tells, entryOf, Gets, distanceIn, distanceOf, placeIn, Places, withRow, DefinesAt, Starts}
 use Rattle.scope_map.specs.HeldLaws.{mapOf, held-is, becomes, places}
 use Rattle.scope_map.specs.declared.ScopeMap.{ScopeMap as Map}
 use Rattle.scope_map.specs.declared.Found.{Found}
@@ -74,6 +74,9 @@ module _ {m : Map} {t : List ℕ} {x : ℕ} {f : Found} (g : Gets m t x f) where
     is = λ s h. ap distance.Layers (z ∙ ap (λ (n : ℕ). n - d) (h .depth)) ∙ ap (distanceIn s) (sym (ap (entryOf x) e) ∙ g .is s h);
   }
 
+pub with-its-row : {m m′ : Map} {t t′ : List ℕ} {x v p : ℕ} → DefinesAt m t x v p t′ → m′ ≡ withRow p m → Becomes m t (define x v) m′ t′
+with-its-row {m} {t = t} {t′} {x} {v} d e = subst (λ (m′ : Map). Becomes m t (define x v) m′ t′) (sym e) (d .becomes)
+
 module _ {m : Map} {t : List ℕ} {x p : ℕ} (u : Places m t x p) where
   pub at-top : Tells m t (λ s. hasAtTop s x) (ltb p (m .length))
   at-top = record { is = u .has }
@@ -91,6 +94,10 @@ module _ {m : Map} {t : List ℕ} {x p : ℕ} (u : Places m t x p) where
         (z
         ∙ ap (λ (b : Bool). cond b (replaceIn (m .depth) x v (liveIn t (m .length))) (record { name = x; layer = m .depth; value = v } ∷ liveIn t (m .length)))
         (sym q ∙ u .has (mapOf m t) k))
+
+  defines-at : {v : ℕ} {t′ : List ℕ} (b : Bool) → ltb p (m .length) ≡ b →
+      Becomes m t (define x v) (cond b m (record { depth = m .depth; length = m .length + 1 })) t′ → DefinesAt m t x v p t′
+  defines-at b q w = record { place = u; becomes = rw q w }
 
   module _ (v : ℕ) (h : Roomy (m .length + 1) t) (f : v < valuesMost) (g : p < m .length) where
     abbrev put : List ℕ
@@ -129,10 +136,11 @@ module _ {m : Map} {t : List ℕ} {x p : ℕ} (u : Places m t x p) where
             ∙ ap (λ (i : ℕ). rowAt t i .name) (sym z)
         pick false q = ap (λ e. e .name) (elsewhere k (eqb-false k p q))
 
-    pub define-old : {t′ : List ℕ} → t′ ≡ put → Becomes m t (define x v) m t′
+    pub define-old : {t′ : List ℕ} → t′ ≡ put → DefinesAt m t x v p t′
     define-old w =
         let n = m .length in
-        subst (λ (t′ : List ℕ). Becomes m t (define x v) m t′) (sym w)
+        subst (λ (t′ : List ℕ). DefinesAt m t x v p t′) (sym w)
+        (defines-at true (lt-ltb _ _ g)
         (becomes (define x v)
         (λ k.
         let e = place-row k in
@@ -145,24 +153,25 @@ module _ {m : Map} {t : List ℕ} {x p : ℕ} (u : Places m t x p) where
         (subst (λ (s : ScopeMap ℕ). Sorted (s .depth) (s .live)) (ap (over m) (sym l) ∙ d)
         (sorted-replace (m .depth) x v (m .depth) (liveIn t n) (k .sorted)))
         d)
-        (after mapLength (omega arith)))
+        (after mapLength (omega arith))))
 
   pub define-new : {v : ℕ} {t′ : List ℕ} → Roomy (m .length + 1) t → Enters t (m .length) x (m .depth) v t′ → m .length ≤ p →
-      Becomes m t (define x v) (record { depth = m .depth; length = m .length + 1 }) t′
+      DefinesAt m t x v p t′
   unfolding Sorted
   define-new {v} {t′} h w g =
       let n = m .length in
       let new : Live ℕ = record { name = x; layer = m .depth; value = v } in
       let l : liveIn t′ (n + 1) ≡ new ∷ liveIn t n =
       live-next t′ n ∙ rw (w .row, live-same t t′ n (λ i y. w .others i (omega (arith, h .rows)) (λ e. omega arith))) in
-      becomes (define x v)
+      defines-at false (le-ltb _ _ g)
+      (becomes (define x v)
       (λ k.
       let d = defined k v (liveIn t′ (n + 1)) false (le-ltb _ _ g) l in
       held-is (record { rows = h .rows; long = omega (arith, w .inside .long, h .long) })
       (w .index (k .index))
       (subst (λ (s : ScopeMap ℕ). Sorted (s .depth) (s .live)) (ap (over m) (sym l) ∙ d) (omega arith, k .sorted))
       d)
-      (w .inside .rest)
+      (w .inside .rest))
 
   pub remove-none : m .length ≤ p → Becomes m t (remove x) m t
   remove-none g =

@@ -1,12 +1,12 @@
 -- What the code holds, and what each operation says of it. The contracts speak of every map held; there is at most one.
-use Prim.Native.Nat.{ℕ, _-_, _≤_, _<_}
+use Prim.Native.Nat.{ℕ, _+_, _-_, _≤_, _<_}
 use mathlib.Core.List.{List, [], _∷_}
 use mathlib.Core.Bool.{cond}
 use mathlib.Core.Path.{_≡_}
 use mathlib.Core.Option.{Option, none, some}
 use lib.ListN.{length, drop}
 use lib.Dec.{eqb, ltb}
-use Rattle.scope_map.specs.ScopeMap.{Live, ScopeMap, isAt, belowLayer, get, depthOf, hasAtTop, newestLayer}
+use Rattle.scope_map.specs.ScopeMap.{Live, ScopeMap, isAt, belowLayer, get, depthOf, hasAtTop, define, newestLayer}
 use Rattle.scope_map.specs.Rows.{liveIn, rowsFrom}
 use Rattle.scope_map.specs.Hints.{mapLength, Roomy, Indexed}
 use Rattle.scope_map.specs.declared.ScopeMap.{ScopeMap as Map}
@@ -73,6 +73,15 @@ pub record Places (m : Map) (t : List ℕ) (x r : ℕ) : Type 0 where
   pub is : (s : ScopeMap ℕ) → Held m t s → r ≡ placeOf s x
   pub has : (s : ScopeMap ℕ) → Held m t s → ltb r (m .length) ≡ hasAtTop s x
   pub most : r ≤ m .length
+
+-- with the row r, if it is not there
+abbrev pub withRow : ℕ → Map → Map
+withRow r m = cond (ltb r (m .length)) m (record { depth = m .depth; length = m .length + 1 })
+
+-- the name is defined, in the row r
+pub record DefinesAt (m : Map) (t : List ℕ) (x v r : ℕ) (t′ : List ℕ) : Type 0 where
+  pub place : Places m t x r
+  pub becomes : Becomes m t (define x v) (withRow r m) t′
 
 -- the names of the newest layer are the rows from r on, those below it the rows before
 pub record Starts (m : Map) (t : List ℕ) (r : ℕ) : Type 0 where

@@ -9,7 +9,7 @@ ghost use lib.ListN.{length};
 ghost use Rattle.scope_map.specs.ScopeMap.{new, pushLayer, popLayer, hasAtTop, define, remove};
 ghost use Rattle.scope_map.specs.Rows.{valuesMost, linksMost, rowAt, liveOf, written};
 ghost use Rattle.scope_map.specs.Hints.{mapLength, Roomy, withHint, Bounds, Enters, Leaves, Moves};
-ghost use Rattle.scope_map.specs.Held.{Held, Becomes, Tells, Gets, Places, Starts, distanceOf};
+ghost use Rattle.scope_map.specs.Held.{Held, Becomes, Tells, Gets, Places, Starts, distanceOf, withRow, DefinesAt};
 
 // There is room for 4,096 rows.
 const HINTS: usize = 12288;
@@ -172,10 +172,10 @@ impl ScopeMap {
         place < self.length
     }
 
-    // In a layer that has the name the value is replaced.
-    pub fn define(self, t: &mut [u32], name: u32, value: u32) -> Self
+    // In a layer that has the name the value is replaced. Answers the row that the name is in; a row after the last is one more.
+    pub fn define_at(self, t: &mut [u32], name: u32, value: u32) -> usize
         requires { ⌜ Roomy (self .length + 1) (now t) × (value < valuesMost) ⌝ }
-        ensures { λ r. ⌜ Becomes self (now (t .entry)) (define name value) r (now (t .exit)) ⌝ }
+        ensures { λ r. ⌜ DefinesAt self (now (t .entry)) name value r (now (t .exit)) ⌝ }
     {
         let place = self.place(t, name);
         let depth = self.depth;
@@ -183,13 +183,32 @@ impl ScopeMap {
         if place < length {
             let link = t[3 * place + 2] / VALUES;
             put(t, place, name, depth, value, link);
-            return self;
+            return place;
         }
         enter(t, length, name, depth, value);
-        ScopeMap {
-            depth,
-            length: length + 1,
+        place
+    }
+
+    // One row more, unless the row is there.
+    pub fn with_row(self, place: usize) -> Self
+        requires { ⌜ self .length < 18446744073709551615 ⌝ }
+        ensures { λ r. ⌜ r ≡ withRow place self ⌝ }
+    {
+        if place < self.length {
+            return self;
         }
+        ScopeMap {
+            depth: self.depth,
+            length: self.length + 1,
+        }
+    }
+
+    pub fn define(self, t: &mut [u32], name: u32, value: u32) -> Self
+        requires { ⌜ Roomy (self .length + 1) (now t) × (value < valuesMost) ⌝ }
+        ensures { λ r. ⌜ Becomes self (now (t .entry)) (define name value) r (now (t .exit)) ⌝ }
+    {
+        let place = self.define_at(t, name, value);
+        self.with_row(place)
     }
 
     // Out of the newest layer alone. The rows after the name's leave with it, and enter again one row down.

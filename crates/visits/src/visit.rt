@@ -5,6 +5,7 @@ use flags::Part;
 use flags::by_value::part;
 use flags::by_value::parts;
 use lists::amend::Ending;
+use registers::REGISTERS;
 use registers::steps::close_call;
 use registers::steps::close_define;
 use registers::steps::close_lambda;
@@ -27,9 +28,8 @@ use walk::uses::Names;
 use walk::uses::holds_lambda;
 use work::narrow;
 ghost use mathlib.Core.Path.{_≡_};
-ghost use lib.ListN.{length};
 ghost use Rattle.tree.specs.RecordLaws.{nth};
-ghost use Rattle.registers.specs.Registers.{registersLength, held};
+ghost use Rattle.registers.specs.Registers.{held};
 ghost use Rattle.visits.specs.Contract.{Fit, Done, FitAll, DoneAll};
 
 pub fn visit(
@@ -38,13 +38,13 @@ pub fn visit(
     rs: &[u32],
     at: usize,
     f: Flags,
-    r: &mut [usize],
+    r: &mut [usize; REGISTERS],
     facts: &mut [u32],
     captured: &mut [u32],
     arguments: &mut [u32],
     work: &mut [u32],
 ) -> usize
-    requires { ⌜ (length (now r) ≡ registersLength) × Fit (now classes) (now all) (now rs) at f (held (now r) (now facts) (now captured) (now arguments) (now work)) ⌝ }
+    requires { ⌜ Fit (now classes) (now all) (now rs) at f (held (now r) (now facts) (now captured) (now arguments) (now work)) ⌝ }
     ensures { λ n. ⌜ Done (now (classes .entry)) (now (all .entry)) (now (rs .entry)) at f (held (now (r .entry)) (now (facts .entry)) (now (captured .entry)) (now (arguments .entry)) (now (work .entry))) n (held (now (r .exit)) (now (facts .exit)) (now (captured .exit)) (now (arguments .exit)) (now (work .exit))) ⌝ }
 {
     let form = tree::record::form(all, at);
@@ -64,23 +64,50 @@ pub fn visit(
     }
 }
 
+// A part of an expression. Most parts are identifiers and constants: they need no call of `visit`.
+fn visit_part(
+    classes: &[u8],
+    all: &[u32],
+    rs: &[u32],
+    at: usize,
+    f: Flags,
+    r: &mut [usize; REGISTERS],
+    facts: &mut [u32],
+    captured: &mut [u32],
+    arguments: &mut [u32],
+    work: &mut [u32],
+) -> usize
+    requires { ⌜ Fit (now classes) (now all) (now rs) at f (held (now r) (now facts) (now captured) (now arguments) (now work)) ⌝ }
+    ensures { λ n. ⌜ Done (now (classes .entry)) (now (all .entry)) (now (rs .entry)) at f (held (now (r .entry)) (now (facts .entry)) (now (captured .entry)) (now (arguments .entry)) (now (work .entry))) n (held (now (r .exit)) (now (facts .exit)) (now (captured .exit)) (now (arguments .exit)) (now (work .exit))) ⌝ }
+{
+    let form = tree::record::form(all, at);
+    if form == 1 {
+        visit_atom(classes, all, at, r, facts, captured, work);
+        return 1;
+    }
+    if form == 2 {
+        return 1;
+    }
+    visit(classes, all, rs, at, f, r, facts, captured, arguments, work)
+}
+
 fn visit_if(
     classes: &[u8],
     all: &[u32],
     rs: &[u32],
     at: usize,
     f: Flags,
-    r: &mut [usize],
+    r: &mut [usize; REGISTERS],
     facts: &mut [u32],
     captured: &mut [u32],
     arguments: &mut [u32],
     work: &mut [u32],
 ) -> usize
-    requires { ⌜ (length (now r) ≡ registersLength) × Fit (now classes) (now all) (now rs) at f (held (now r) (now facts) (now captured) (now arguments) (now work)) × (nth (now all) at .form ≡ 3) ⌝ }
+    requires { ⌜ Fit (now classes) (now all) (now rs) at f (held (now r) (now facts) (now captured) (now arguments) (now work)) × (nth (now all) at .form ≡ 3) ⌝ }
     ensures { λ n. ⌜ Done (now (classes .entry)) (now (all .entry)) (now (rs .entry)) at f (held (now (r .entry)) (now (facts .entry)) (now (captured .entry)) (now (arguments .entry)) (now (work .entry))) n (held (now (r .exit)) (now (facts .exit)) (now (captured .exit)) (now (arguments .exit)) (now (work .exit))) ⌝ }
 {
     let g = f.same_tail();
-    let a = visit(
+    let a = visit_part(
         classes,
         all,
         &rs[6..],
@@ -94,7 +121,7 @@ fn visit_if(
     );
     let i = 1 + a;
     let start = 6 * i;
-    let b = visit(
+    let b = visit_part(
         classes,
         all,
         &rs[start..],
@@ -108,7 +135,7 @@ fn visit_if(
     );
     let j = i + b;
     let next = 6 * j;
-    let c = visit(
+    let c = visit_part(
         classes,
         all,
         &rs[next..],
@@ -131,13 +158,13 @@ fn visit_arguments(
     k: usize,
     at: usize,
     f: Flags,
-    r: &mut [usize],
+    r: &mut [usize; REGISTERS],
     facts: &mut [u32],
     captured: &mut [u32],
     arguments: &mut [u32],
     work: &mut [u32],
 ) -> usize
-    requires { ⌜ (length (now r) ≡ registersLength) × FitAll (now classes) (now all) (now rs) k at f (held (now r) (now facts) (now captured) (now arguments) (now work)) ⌝ }
+    requires { ⌜ FitAll (now classes) (now all) (now rs) k at f (held (now r) (now facts) (now captured) (now arguments) (now work)) ⌝ }
     ensures { λ n. ⌜ DoneAll (now (classes .entry)) (now (all .entry)) (now (rs .entry)) k at f (held (now (r .entry)) (now (facts .entry)) (now (captured .entry)) (now (arguments .entry)) (now (work .entry))) n (held (now (r .exit)) (now (facts .exit)) (now (captured .exit)) (now (arguments .exit)) (now (work .exit))) ⌝ }
 {
     let mut g = f;
@@ -145,7 +172,7 @@ fn visit_arguments(
     let mut i = 0;
     while i < k {
         let start = 6 * used;
-        used += visit(
+        used += visit_part(
             classes,
             all,
             &rs[start..],
@@ -169,13 +196,13 @@ fn visit_let(
     rs: &[u32],
     at: usize,
     f: Flags,
-    r: &mut [usize],
+    r: &mut [usize; REGISTERS],
     facts: &mut [u32],
     captured: &mut [u32],
     arguments: &mut [u32],
     work: &mut [u32],
 ) -> usize
-    requires { ⌜ (length (now r) ≡ registersLength) × Fit (now classes) (now all) (now rs) at f (held (now r) (now facts) (now captured) (now arguments) (now work)) × (nth (now all) at .form ≡ 4) ⌝ }
+    requires { ⌜ Fit (now classes) (now all) (now rs) at f (held (now r) (now facts) (now captured) (now arguments) (now work)) × (nth (now all) at .form ≡ 4) ⌝ }
     ensures { λ n. ⌜ Done (now (classes .entry)) (now (all .entry)) (now (rs .entry)) at f (held (now (r .entry)) (now (facts .entry)) (now (captured .entry)) (now (arguments .entry)) (now (work .entry))) n (held (now (r .exit)) (now (facts .exit)) (now (captured .exit)) (now (arguments .exit)) (now (work .exit))) ⌝ }
 {
     let many = tree::record::count(all, at);
@@ -218,7 +245,7 @@ fn visit_let(
     );
     let i = 1 + count + a;
     let next = 6 * i;
-    let b = visit(
+    let b = visit_part(
         classes,
         all,
         &rs[next..],
@@ -251,19 +278,19 @@ fn visit_define(
     rs: &[u32],
     at: usize,
     f: Flags,
-    r: &mut [usize],
+    r: &mut [usize; REGISTERS],
     facts: &mut [u32],
     captured: &mut [u32],
     arguments: &mut [u32],
     work: &mut [u32],
 ) -> usize
-    requires { ⌜ (length (now r) ≡ registersLength) × Fit (now classes) (now all) (now rs) at f (held (now r) (now facts) (now captured) (now arguments) (now work)) × (nth (now all) at .form ≡ 5) ⌝ }
+    requires { ⌜ Fit (now classes) (now all) (now rs) at f (held (now r) (now facts) (now captured) (now arguments) (now work)) × (nth (now all) at .form ≡ 5) ⌝ }
     ensures { λ n. ⌜ Done (now (classes .entry)) (now (all .entry)) (now (rs .entry)) at f (held (now (r .entry)) (now (facts .entry)) (now (captured .entry)) (now (arguments .entry)) (now (work .entry))) n (held (now (r .exit)) (now (facts .exit)) (now (captured .exit)) (now (arguments .exit)) (now (work .exit))) ⌝ }
 {
     let b = body_at(classes, all, at + 2);
     let outer = context(r);
     open_define(all, at, f.direct, b, r, facts, work);
-    let o = visit(
+    let o = visit_part(
         classes,
         all,
         &rs[12..],
@@ -279,19 +306,41 @@ fn visit_define(
     2 + o
 }
 
+// A lambda's body. `visit_lambda_function` calls itself through this one: so the compiler keeps the arrays of a lambda's end out of the frames of the visits.
+fn visit_body(
+    classes: &[u8],
+    all: &[u32],
+    rs: &[u32],
+    at: usize,
+    f: Flags,
+    r: &mut [usize; REGISTERS],
+    facts: &mut [u32],
+    captured: &mut [u32],
+    arguments: &mut [u32],
+    work: &mut [u32],
+) -> usize
+    requires { ⌜ Fit (now classes) (now all) (now rs) at f (held (now r) (now facts) (now captured) (now arguments) (now work)) ⌝ }
+    ensures { λ n. ⌜ Done (now (classes .entry)) (now (all .entry)) (now (rs .entry)) at f (held (now (r .entry)) (now (facts .entry)) (now (captured .entry)) (now (arguments .entry)) (now (work .entry))) n (held (now (r .exit)) (now (facts .exit)) (now (captured .exit)) (now (arguments .exit)) (now (work .exit))) ⌝ }
+{
+    if tree::record::form(all, at) == 6 {
+        return visit_lambda_function(classes, all, rs, at, f, r, facts, captured, arguments, work);
+    }
+    visit_part(classes, all, rs, at, f, r, facts, captured, arguments, work)
+}
+
 fn visit_lambda_function(
     classes: &[u8],
     all: &[u32],
     rs: &[u32],
     at: usize,
     f: Flags,
-    r: &mut [usize],
+    r: &mut [usize; REGISTERS],
     facts: &mut [u32],
     captured: &mut [u32],
     arguments: &mut [u32],
     work: &mut [u32],
 ) -> usize
-    requires { ⌜ (length (now r) ≡ registersLength) × Fit (now classes) (now all) (now rs) at f (held (now r) (now facts) (now captured) (now arguments) (now work)) × (nth (now all) at .form ≡ 6) ⌝ }
+    requires { ⌜ Fit (now classes) (now all) (now rs) at f (held (now r) (now facts) (now captured) (now arguments) (now work)) × (nth (now all) at .form ≡ 6) ⌝ }
     ensures { λ n. ⌜ Done (now (classes .entry)) (now (all .entry)) (now (rs .entry)) at f (held (now (r .entry)) (now (facts .entry)) (now (captured .entry)) (now (arguments .entry)) (now (work .entry))) n (held (now (r .exit)) (now (facts .exit)) (now (captured .exit)) (now (arguments .exit)) (now (work .exit))) ⌝ }
 {
     let many = tree::record::count(all, at);
@@ -303,7 +352,7 @@ fn visit_lambda_function(
     open_lambda(all, at, names, r, facts, captured, arguments, work);
     let start = 6 + 6 * count;
     let first = at + 1 + count;
-    let o = visit(
+    let o = visit_body(
         classes,
         all,
         &rs[start..],
@@ -332,13 +381,13 @@ fn visit_begin(
     rs: &[u32],
     at: usize,
     f: Flags,
-    r: &mut [usize],
+    r: &mut [usize; REGISTERS],
     facts: &mut [u32],
     captured: &mut [u32],
     arguments: &mut [u32],
     work: &mut [u32],
 ) -> usize
-    requires { ⌜ (length (now r) ≡ registersLength) × Fit (now classes) (now all) (now rs) at f (held (now r) (now facts) (now captured) (now arguments) (now work)) × (nth (now all) at .form ≡ 7) ⌝ }
+    requires { ⌜ Fit (now classes) (now all) (now rs) at f (held (now r) (now facts) (now captured) (now arguments) (now work)) × (nth (now all) at .form ≡ 7) ⌝ }
     ensures { λ n. ⌜ Done (now (classes .entry)) (now (all .entry)) (now (rs .entry)) at f (held (now (r .entry)) (now (facts .entry)) (now (captured .entry)) (now (arguments .entry)) (now (work .entry))) n (held (now (r .exit)) (now (facts .exit)) (now (captured .exit)) (now (arguments .exit)) (now (work .exit))) ⌝ }
 {
     let count = wide(tree::record::count(all, at));
@@ -348,7 +397,7 @@ fn visit_begin(
     while i < count {
         let start = 6 * used;
         let last = i + 1 == count;
-        used += visit(
+        used += visit_part(
             classes,
             all,
             &rs[start..],
@@ -371,13 +420,13 @@ fn visit_list(
     rs: &[u32],
     at: usize,
     f: Flags,
-    r: &mut [usize],
+    r: &mut [usize; REGISTERS],
     facts: &mut [u32],
     captured: &mut [u32],
     arguments: &mut [u32],
     work: &mut [u32],
 ) -> usize
-    requires { ⌜ (length (now r) ≡ registersLength) × Fit (now classes) (now all) (now rs) at f (held (now r) (now facts) (now captured) (now arguments) (now work)) × (nth (now all) at .form ≡ 8) ⌝ }
+    requires { ⌜ Fit (now classes) (now all) (now rs) at f (held (now r) (now facts) (now captured) (now arguments) (now work)) × (nth (now all) at .form ≡ 8) ⌝ }
     ensures { λ n. ⌜ Done (now (classes .entry)) (now (all .entry)) (now (rs .entry)) at f (held (now (r .entry)) (now (facts .entry)) (now (captured .entry)) (now (arguments .entry)) (now (work .entry))) n (held (now (r .exit)) (now (facts .exit)) (now (captured .exit)) (now (arguments .exit)) (now (work .exit))) ⌝ }
 {
     let k = wide(tree::record::count(all, at)) - 1;
@@ -398,7 +447,7 @@ fn visit_list(
         arguments,
         work,
     );
-    visit(
+    visit_part(
         classes,
         all,
         &rs[6..],
@@ -420,17 +469,17 @@ fn visit_set(
     rs: &[u32],
     at: usize,
     f: Flags,
-    r: &mut [usize],
+    r: &mut [usize; REGISTERS],
     facts: &mut [u32],
     captured: &mut [u32],
     arguments: &mut [u32],
     work: &mut [u32],
 ) -> usize
-    requires { ⌜ (length (now r) ≡ registersLength) × Fit (now classes) (now all) (now rs) at f (held (now r) (now facts) (now captured) (now arguments) (now work)) × (nth (now all) at .form ≡ 9) ⌝ }
+    requires { ⌜ Fit (now classes) (now all) (now rs) at f (held (now r) (now facts) (now captured) (now arguments) (now work)) × (nth (now all) at .form ≡ 9) ⌝ }
     ensures { λ n. ⌜ Done (now (classes .entry)) (now (all .entry)) (now (rs .entry)) at f (held (now (r .entry)) (now (facts .entry)) (now (captured .entry)) (now (arguments .entry)) (now (work .entry))) n (held (now (r .exit)) (now (facts .exit)) (now (captured .exit)) (now (arguments .exit)) (now (work .exit))) ⌝ }
 {
     open_set(at + 1, r, facts);
-    let o = visit(
+    let o = visit_part(
         classes,
         all,
         &rs[12..],

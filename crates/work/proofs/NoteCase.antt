@@ -1,35 +1,41 @@
 -- Refusals noted, beside a table that stays.
-use Prim.Native.Nat.{ℕ, _≤_, _<_}
+use Prim.Native.Nat.{ℕ, zero, suc, _+_, _≤_, _<_}
 use mathlib.Core.List.{List}
-use mathlib.Core.Bool.{Bool, true, false, _&&_}
+use mathlib.Core.Bool.{Bool, true, false}
 use mathlib.Core.Option.{Option}
 use mathlib.Core.Path.{_≡_, refl, ap, sym, subst, _∙_}
 use native.Mathlib.Omega.{arith}
-use borrow.Author.Tests.{lt-ltb, le-ltb}
-use lib.Dec.{ltb}
-use Rattle.tree.specs.Check.{Refusal}
-use Rattle.scope_map.specs.ScopeMap.{hasAtTop}
-use Rattle.pass.specs.State.{State, depth, orKept, noteNine, noteTen, noteSecond}
+use Rattle.pass.specs.State.{State, orKept, noteNine, noteTen, noteSecond}
 use Rattle.pass.specs.Read.{noteLive}
-use Rattle.work.specs.Coded.{notedOf, secondOf, refusalAt}
+use Rattle.work.specs.Coded.{placeIn, notedOf, refusalAt, numberedIn, secondOf}
 use Rattle.work.specs.Works.{Beside, besidePass, Works}
-use Rattle.work.specs.WorksLaws.{depth-is}
-use Rattle.work.specs.WorksKept.{works-as}
+use Rattle.work.specs.WorksKept.{noting, works-as, second-kept}
 use Rattle.work.specs.Passes.{withNotes}
-use Rattle.work.specs.Leaves.{Becomes, Tells}
+use Rattle.work.specs.Leaves.{Becomes}
 use Rattle.work.specs.declared.Pass.{Pass}
 use Rattle.work.specs.declared.Noted.{Noted}
 use Rattle.work.specs.declared.Second.{Second}
 
-abbrev noting : Option ℕ → Option ℕ → Option Refusal → Beside → Beside
-noting nine ten second b = record {
-  context = b .context;
-  capturedTop = b .capturedTop;
-  argumentsTop = b .argumentsTop;
-  nine = nine;
-  ten = ten;
-  second = second;
-}
+-- The first of each is kept: by what is held of it, with 0 where nothing is noted
+
+pub first-place : (x i : ℕ) → x ≡ 0 → placeIn (i + 1) ≡ orKept (placeIn x) i
+first-place zero i e =
+    let q : i + 1 ≡ suc i = omega arith in
+    ap placeIn q
+first-place (suc x) i e = absurd (omega (arith, e))
+
+pub place-kept : (x i : ℕ) → (x ≡ 0 → ⊥) → placeIn x ≡ orKept (placeIn x) i
+place-kept zero i h = absurd (h refl)
+place-kept (suc x) i h = refl
+
+pub first-numbered : (x a n i : ℕ) → x ≡ 0 → 0 < n → numberedIn n i ≡ orKept (numberedIn x a) (refusalAt n i)
+first-numbered zero a zero i e h = absurd (omega (arith, h))
+first-numbered zero a (suc n) i e h = refl
+first-numbered (suc x) a n i e h = absurd (omega (arith, e))
+
+pub numbered-kept : (x a n i : ℕ) → (x ≡ 0 → ⊥) → numberedIn x a ≡ orKept (numberedIn x a) (refusalAt n i)
+numbered-kept zero a n i h = absurd (h refl)
+numbered-kept (suc x) a n i h = refl
 
 module _ {p r : Pass} {nine ten : Noted} {second : Second} (e : r ≡ withNotes nine ten second p) where
   noted : (f : State → State) → ((s : State) (w : List ℕ) → Works p w s → Works (withNotes nine ten second p) w (f s)) → (w : List ℕ) → Becomes p w f r w
@@ -56,37 +62,13 @@ module _ {p r : Pass} (i : ℕ) where
 
   pub second-noted : (n : ℕ) {second : Second} → secondOf second ≡ orKept (secondOf (p .second)) (refusalAt n i) → r ≡ withNotes (p .nine) (p .ten) second p
       → (w : List ℕ) → Becomes p w (noteSecond n i) r w
-  second-noted n {second} q e =
-      noted e (noteSecond n i)
-      (λ s w k.
-      works-as k (withNotes (p .nine) (p .ten) second p) (noteSecond n i s) refl refl refl refl refl
-      (ap (λ (o : Option Refusal). noting (notedOf (p .nine)) (notedOf (p .ten)) o (besidePass p)) q
-      ∙ ap (λ (b : Beside). noting (b .nine) (b .ten) (orKept (b .second) (refusalAt n i)) b) (k .beside)))
+  second-noted n {second} q e = noted e (noteSecond n i) (λ s w k. second-kept k n i second q)
 
--- Refusal 9 where the name is live in the newest layer, above the bottom
+-- Refusal 9, or not
 
-abbrev above : ℕ → State → Bool
-above x s = ltb 1 (depth s) && hasAtTop (s .scope .names) x
+module _ {p : Pass} {b : Bool} (i : ℕ) where
+  pub the-nine : {r : Pass} → b ≡ true → ((w : List ℕ) → Becomes p w (noteNine i) r w) → (w : List ℕ) → Becomes p w (noteLive b i) r w
+  the-nine e c w = rw e (c w)
 
-module _ {p : Pass} {w : List ℕ} (x i : ℕ) where
-  not-above : ((s : State) → Works p w s → above x s ≡ false) → Becomes p w (λ s. noteLive (above x s) i s) p w
-  not-above h = record { is = λ s k. subst (λ (b : Bool). Works p w (noteLive b i s)) (sym (h s k)) k }
-
-  pub at-bottom : p .scope .depth ≤ 1 → Becomes p w (λ s. noteLive (above x s) i s) p w
-  at-bottom h =
-      not-above
-      (λ s k.
-      let e : ltb 1 (depth s) ≡ false = le-ltb 1 (depth s) (omega (arith, depth-is k)) in
-      ap (λ (b : Bool). b && hasAtTop (s .scope .names) x) e)
-
-  module _ (h : 1 < p .scope .depth) {b : Bool} (t : Tells p w (λ s. hasAtTop (s .scope .names) x) b) where
-    above-is : (s : State) → Works p w s → above x s ≡ b
-    above-is s k =
-        let e : ltb 1 (depth s) ≡ true = lt-ltb 1 (depth s) (omega (arith, depth-is k)) in
-        ap (λ (b : Bool). b && hasAtTop (s .scope .names) x) e ∙ sym (t .is s k)
-
-    pub no-nine : b ≡ false → Becomes p w (λ s. noteLive (above x s) i s) p w
-    no-nine e = not-above (λ s k. above-is s k ∙ e)
-
-    pub the-nine : {r : Pass} → b ≡ true → Becomes p w (noteNine i) r w → Becomes p w (λ s. noteLive (above x s) i s) r w
-    the-nine {r} e c = record { is = λ s k. subst (λ (b : Bool). Works r w (noteLive b i s)) (sym (above-is s k ∙ e)) (c .is s k) }
+  pub no-nine : b ≡ false → (w : List ℕ) → Becomes p w (noteLive b i) p w
+  no-nine e w = rw e (record { is = λ s k. k })

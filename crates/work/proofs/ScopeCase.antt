@@ -1,13 +1,13 @@
 -- The live names, against the map of the code.
 use Prim.Native.Nat.{ℕ, suc, _+_, _-_, _*_, _≤_, _<_}
 use mathlib.Core.List.{List, [], _∷_, _++_, reverse, reverse-cons, reverse-append}
-use mathlib.Core.Bool.{Bool, true, false, cond}
+use mathlib.Core.Bool.{Bool, true, false, cond, _&&_}
 use mathlib.Core.Option.{Option, none, some, Option·map}
 use mathlib.Core.Path.{_≡_, refl, ap, sym, subst, _∙_}
 use native.Mathlib.Omega.{arith}
 use lib.ListN.{length, getD, take, drop}
 use lib.Seq.{drop-cons, take-suc}
-use lib.Dec.{eqb}
+use lib.Dec.{eqb, ltb}
 use Rattle.table.specs.Region.{region, replaced}
 use Rattle.table.specs.RegionLaws.{Elsewhere, replaced-region, replaced-elsewhere}
 use Rattle.tree.specs.Record.{Record, records}
@@ -19,7 +19,7 @@ use Rattle.scope_map.specs.MapLaws.{mapValue, mapValues, map-length, map-getD, 
 use Rattle.scope_map.specs.Rows.{rowAt, liveOf}
 use Rattle.scope_map.specs.RowLaws.{length-liveIn, live-row}
 use Rattle.scope_map.specs.Hints.{Roomy}
-use Rattle.scope_map.specs.Held.{entryOf, Gets, Starts}
+use Rattle.scope_map.specs.Held.{entryOf, Gets, Places, DefinesAt, Starts}
 use Rattle.scope_map.specs.Held as map
 use Rattle.scope_map.specs.declared.ScopeMap.{ScopeMap as Map}
 use Rattle.scope_map.specs.declared.Found.{Found}
@@ -27,13 +27,13 @@ use Rattle.scope_map.specs.declared.Found.the-variants as found
 use Rattle.scope_map.specs.declared.Row.{Row}
 use Rattle.semantic.specs.Information.{NONE}
 use Rattle.semantic.specs.Rows.{noItem}
-use Rattle.pass.specs.State.{State, withNames, idOf, binderIn, newest}
+use Rattle.pass.specs.State.{State, withNames, idOf, binderIn, newest, depth}
 use Rattle.work.specs.Coded.{recordIn, recordOf}
 use Rattle.work.specs.Works.{scopeLength, recordAt, Works, Spacious}
-use Rattle.work.specs.WorksLaws.{part-length, names-many}
+use Rattle.work.specs.WorksLaws.{part-length, names-many, depth-is}
 use Rattle.work.specs.Passes.{inScope}
 use Rattle.work.specs.Leaves.{Becomes, Tells}
-use Rattle.work.specs.Scope.{BindersKnown, KnownHere, TellsId, Defines, since, LiveRow, TellsLive, StartsLayer}
+use Rattle.work.specs.Scope.{BindersKnown, KnownHere, TellsId, isLiveRow, Defines, since, LiveRow, TellsLive, StartsLayer}
 use Rattle.work.specs.ScopeLaws.{KnownAt, newest-known}
 use Rattle.work.specs.declared.Pass.{Pass}
 use Rattle.work.specs.declared.scope.Binder.{Binder}
@@ -71,9 +71,9 @@ module _ {p : Pass} {w : List ℕ} {x : ℕ} {f : Found} (g : Gets (p .scope) (r
   pub newest-some : {i d v r : ℕ} → f ≡ found.At i d v → r ≡ v → Tells p w (λ s. recordIn (newest s x)) (some r)
   newest-some e q = record { is = λ s k. ap some q ∙ ap (λ (f : Found). valueIn (entryOf x f)) (sym e) ∙ newest-told s k }
 
-module _ {p : Pass} {w : List ℕ} where
-  pub top-told : (x : ℕ) {b : Bool} → map.Tells (p .scope) (region w 0 scopeLength) (λ m. hasAtTop m x) b → Tells p w (λ s. hasAtTop (s .scope .names) x) b
-  top-told x t = record { is = λ s k. t .is (mapValues recordAt (s .scope .names)) (k .names) ∙ map-hasAtTop recordAt (s .scope .names) x }
+live-told-row : {p : Pass} {w : List ℕ} {s : State} {x r : ℕ} → Places (p .scope) (region w 0 scopeLength) x r → Works p w s
+    → isLiveRow r p ≡ ltb 1 (depth s) && hasAtTop (s .scope .names) x
+live-told-row {s = s} {x} u k = rw (depth-is k, u .has (mapValues recordAt (s .scope .names)) (k .names) ∙ map-hasAtTop recordAt (s .scope .names) x)
 
 id-none : (o : Option Ident) → none ≡ recordIn o → NONE ≡ idOf o
 id-none none q = refl
@@ -119,12 +119,13 @@ module _ {p : Pass} {w ys : List ℕ} {m : Map} (h : Spacious p w) (l : length y
       names-become g c (replaced-elsewhere w 0 scopeLength i ys e)
       (subst (λ (t : List ℕ). map.Becomes (p .scope) (region w 0 scopeLength) f m t) (sym (replaced-region w 0 scopeLength i ys e)) b)
 
-  pub defines : {x v at : ℕ} → v ≡ at → map.Becomes (p .scope) (region w 0 scopeLength) (define x v) m ys
-      → Defines p w x at (inScope m p) (replaced w 0 scopeLength ys)
-  defines {x} e b = record {
-    is = λ s y q k.
-        names-replaced (define x y) (λ l. map-define recordAt x y l ∙ ap (λ (v : ℕ). define x v (mapValues recordAt l)) (q ∙ sym e)) b .is s k;
-  }
+pub defines : {p : Pass} {w ys : List ℕ} {x v at r : ℕ} → Spacious p w → length ys ≡ length (region w 0 scopeLength) → v ≡ at
+    → DefinesAt (p .scope) (region w 0 scopeLength) x v r ys → Defines p w x at r (replaced w 0 scopeLength ys)
+defines {x = x} h l e d = record {
+  is = λ s y q k.
+      names-replaced h l (define x y) (λ l. map-define recordAt x y l ∙ ap (λ (v : ℕ). define x v (mapValues recordAt l)) (q ∙ sym e)) (d .becomes) .is s k;
+  live = λ s k. live-told-row (d .place) k;
+}
 
 -- The rows of the newest layer
 

@@ -1,5 +1,5 @@
 -- What the code holds of an entry, of a capture and of a refusal; and their rows of the work table.
-use Prim.Native.Nat.{ℕ, suc, _+_, _*_, _<_}
+use Prim.Native.Nat.{ℕ, zero, suc, _+_, _*_, _<_}
 use mathlib.Core.List.{List, [], _∷_}
 use mathlib.Core.Option.{Option, none, some}
 use mathlib.Core.Path.{_≡_, refl}
@@ -12,9 +12,7 @@ use Rattle.pass.specs.Run.{rowsMost}
 use Rattle.work.specs.declared.entries.Entry.{Entry as Coded}
 use Rattle.work.specs.declared.captures.Taken.{Taken}
 use Rattle.work.specs.declared.Noted.{Noted}
-use Rattle.work.specs.declared.Noted.the-variants as noted
 use Rattle.work.specs.declared.Second.{Second}
-use Rattle.work.specs.declared.Second.the-variants as second
 use Rattle.work.specs.declared.scope.Binder.{Binder}
 use Rattle.work.specs.declared.scope.Binder.the-variants as binder
 
@@ -67,16 +65,24 @@ putBinder i = i .binder .at ∷ []
 
 -- Options
 
+-- a place counted from 1; 0 is none
+abbrev pub placeIn : ℕ → Option ℕ
+placeIn zero = none
+placeIn (suc i) = some i
+
 abbrev pub notedOf : Noted → Option ℕ
-notedOf (noted.At i) = some i
-notedOf noted.Nothing = none
+notedOf n = placeIn (n .code)
 
 abbrev pub refusalAt : ℕ → ℕ → Refusal
 refusalAt n i = record { number = n; at = i }
 
+-- no refusal has the number 0
+abbrev pub numberedIn : ℕ → ℕ → Option Refusal
+numberedIn zero i = none
+numberedIn (suc n) i = some (refusalAt (suc n) i)
+
 abbrev pub secondOf : Second → Option Refusal
-secondOf (second.At n i) = some (refusalAt n i)
-secondOf second.Nothing = none
+secondOf s = numberedIn (s .number) (s .at)
 
 abbrev pub recordIn : Option Ident → Option ℕ
 recordIn none = none

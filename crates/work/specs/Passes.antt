@@ -4,9 +4,7 @@ use Rattle.scope_map.specs.declared.ScopeMap.{ScopeMap}
 use Rattle.semantic.specs.Information.{NONE}
 use Rattle.work.specs.declared.Pass.{Pass}
 use Rattle.work.specs.declared.Noted.{Noted}
-use Rattle.work.specs.declared.Noted.the-variants as noted
 use Rattle.work.specs.declared.Second.{Second}
-use Rattle.work.specs.declared.Second.the-variants as second
 
 abbrev pub passNew : ℕ → ℕ → Pass
 passNew captured arguments = record {
@@ -15,9 +13,9 @@ passNew captured arguments = record {
   captures = record { depth = 1; length = 0 };
   «captured_top» = captured;
   «arguments_top» = arguments;
-  nine = noted.Nothing;
-  ten = noted.Nothing;
-  second = second.Nothing;
+  nine = record { code = 0 };
+  ten = record { code = 0 };
+  second = record { number = 0; at = 0 };
 }
 
 abbrev pub inContext : ℕ → Pass → Pass
@@ -79,3 +77,6 @@ withNotes nine ten second p = record {
   ten = ten;
   second = second;
 }
+
+abbrev pub withSecond : Second → Pass → Pass
+withSecond second p = withNotes (p .nine) (p .ten) second p

@@ -1,15 +1,19 @@
 -- What the functions over the live names promise.
 use Prim.Native.Nat.{ℕ, suc, _-_, _≤_}
 use mathlib.Core.List.{List, _∷_, reverse}
+use mathlib.Core.Bool.{Bool, _&&_}
 use mathlib.Core.Path.{_≡_}
+use lib.Dec.{ltb}
 use lib.ListN.{length, take, drop}
 use Rattle.tree.specs.Tree.{Ident}
 use Rattle.tree.specs.Accepted.{All}
-use Rattle.scope_map.specs.ScopeMap.{Live, remove, define, newestLayer}
+use Rattle.scope_map.specs.ScopeMap.{Live, hasAtTop, remove, define, newestLayer}
+use Rattle.scope_map.specs.Held.{withRow}
 use Rattle.scope_map.specs.declared.Row.{Row}
-use Rattle.pass.specs.State.{State, withNames, newest, idOf}
+use Rattle.pass.specs.State.{State, withNames, newest, idOf, depth}
 use Rattle.work.specs.Known.{Known}
 use Rattle.work.specs.Works.{Works}
+use Rattle.work.specs.Passes.{inScope}
 use Rattle.work.specs.declared.Pass.{Pass}
 
 -- the binders of the live names are identifiers of the tree
@@ -24,9 +28,18 @@ pub record KnownHere (rs : List ℕ) (p : Pass) (w : List ℕ) : Type 0 where
 pub record TellsId (rs : List ℕ) (p : Pass) (w : List ℕ) (name r : ℕ) : Type 0 where
   pub is : (s : State) → Works p w s → BindersKnown rs s → r ≡ idOf (newest s name)
 
--- the name enters the newest layer, with this record's identifier
-pub record Defines (p : Pass) (w : List ℕ) (name at : ℕ) (p′ : Pass) (w′ : List ℕ) : Type 0 where
-  pub is : (s : State) (x : Ident) → x .at ≡ at → Works p w s → Works p′ w′ (withNames (define name x (s .scope .names)) s)
+-- A name enters in a row: whether that is there before, above the bottom layer; and the pass with it
+
+abbrev pub isLiveRow : ℕ → Pass → Bool
+isLiveRow r p = ltb 1 (p .scope .depth) && ltb r (p .scope .length)
+
+abbrev pub inRow : ℕ → Pass → Pass
+inRow r p = inScope (withRow r (p .scope)) p
+
+-- the name enters the newest layer, with this record's identifier, in the row r
+pub record Defines (p : Pass) (w : List ℕ) (name at r : ℕ) (w′ : List ℕ) : Type 0 where
+  pub is : (s : State) (x : Ident) → x .at ≡ at → Works p w s → Works (inRow r p) w′ (withNames (define name x (s .scope .names)) s)
+  pub live : (s : State) → Works p w s → isLiveRow r p ≡ ltb 1 (depth s) && hasAtTop (s .scope .names) name
 
 abbrev pub removed : ℕ → State → State
 removed x s = withNames (remove x (s .scope .names)) s

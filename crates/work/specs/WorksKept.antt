@@ -1,22 +1,36 @@
 -- Changes of a state that the work table does not see.
 use Prim.Native.Nat.{ℕ, zero, suc}
 use mathlib.Core.List.{List, [], _∷_}
+use mathlib.Core.Option.{Option}
 use mathlib.Core.Path.{_≡_, refl, ap, sym, _∙_}
 use lib.ListN.{getD, set}
 use Rattle.table.specs.Layout.{layout}
+use Rattle.tree.specs.Check.{Refusal}
 use Rattle.semantic.specs.Rows.{Row, Item, noItem}
 use Rattle.semantic.specs.declared.SemanticInformation.{SemanticInformation}
-use Rattle.pass.specs.State.{Facts, State, withFacts, withContext, withCaptured, insert, amend}
-use Rattle.work.specs.Coded.{putBinder}
+use Rattle.pass.specs.State.{Facts, State, withFacts, withContext, withCaptured, insert, amend, orKept, noteSecond}
+use Rattle.work.specs.Coded.{putBinder, notedOf, secondOf, refusalAt}
 use Rattle.work.specs.Works.{Beside, besidePass, besideState, Works}
-use Rattle.work.specs.Passes.{inContext, withTops}
+use Rattle.work.specs.Passes.{inContext, withTops, withSecond}
 use Rattle.work.specs.declared.Pass.{Pass}
+use Rattle.work.specs.declared.Second.{Second}
 
 binder-same : (l : List Item) (r : ℕ) (x : Item) → x .binder .at ≡ getD l r noItem .binder .at → layout putBinder (set l r x) ≡ layout putBinder l
 unfolding layout
 binder-same [] r x e = refl
 binder-same (i ∷ l) zero x e = ap (λ (n : ℕ). n ∷ layout putBinder l) e
 binder-same (i ∷ l) (suc r) x e = ap (λ (m : List ℕ). i .binder .at ∷ m) (binder-same l r x e)
+
+-- other refusals noted
+abbrev pub noting : Option ℕ → Option ℕ → Option Refusal → Beside → Beside
+noting nine ten second b = record {
+  context = b .context;
+  capturedTop = b .capturedTop;
+  argumentsTop = b .argumentsTop;
+  nine = nine;
+  ten = ten;
+  second = second;
+}
 
 module _ {p : Pass} {w : List ℕ} {s : State} (k : Works p w s) where
   -- what is threaded beside the table may change with the state
@@ -49,6 +63,12 @@ module _ {p : Pass} {w : List ℕ} {s : State} (k : Works p w s) where
     ten = b .ten;
     second = b .second;
   }) (k .beside))
+
+  pub second-kept : (n i : ℕ) (r : Second) → secondOf r ≡ orKept (secondOf (p .second)) (refusalAt n i) → Works (withSecond r p) w (noteSecond n i s)
+  second-kept n i r q =
+      works-as (withSecond r p) (noteSecond n i s) refl refl refl refl refl
+      (ap (λ (o : Option Refusal). noting (notedOf (p .nine)) (notedOf (p .ten)) o (besidePass p)) q
+      ∙ ap (λ (b : Beside). noting (b .nine) (b .ten) (orKept (b .second) (refusalAt n i)) b) (k .beside))
 
   -- other captured entries, with the same binders
   pub items-kept : (l : List Item) → layout putBinder l ≡ layout putBinder (s .facts .captured) → Works p w (withCaptured l s)

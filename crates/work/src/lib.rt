@@ -26,16 +26,15 @@ pub const BINDERS: usize = 55296;
 
 pub const WORK: usize = 59392;
 
-// The record of a refusal's first place.
-pub enum Noted {
-    At(usize),
-    Nothing,
+// The record of a refusal's first place, counted from 1; 0 where nothing is noted.
+pub struct Noted {
+    pub code: usize,
 }
 
-// The first refusal of a second run: its number and record.
-pub enum Second {
-    At(u32, usize),
-    Nothing,
+// The first refusal of a second run: its number and record. The number is 0 where nothing is noted.
+pub struct Second {
+    pub number: u32,
+    pub at: usize,
 }
 
 // What a visit threads beside the tables.
@@ -62,9 +61,9 @@ impl Pass {
             captures: ScopeMap::new(),
             captured_top,
             arguments_top,
-            nine: Noted::Nothing,
-            ten: Noted::Nothing,
-            second: Second::Nothing,
+            nine: Noted { code: 0 },
+            ten: Noted { code: 0 },
+            second: Second { number: 0, at: 0 },
         }
     }
 

@@ -2,36 +2,34 @@
 use crate::Noted;
 use crate::Pass;
 use crate::Second;
-use crate::scope::has_at_top;
 ghost use mathlib.Core.Path.{_≡_};
 ghost use mathlib.Core.List.{List};
-ghost use mathlib.Core.Bool.{_&&_};
-ghost use Prim.Native.Nat.{ℕ};
-ghost use lib.Dec.{ltb};
-ghost use Rattle.scope_map.specs.ScopeMap.{hasAtTop};
-ghost use Rattle.pass.specs.State.{noteNine, noteTen, noteSecond, orKept, depth};
+ghost use Prim.Native.Nat.{ℕ, _<_};
+ghost use Rattle.pass.specs.State.{noteNine, noteTen, noteSecond, orKept};
 ghost use Rattle.pass.specs.Read.{noteLive};
+ghost use Rattle.pass.specs.Run.{rowsMost};
 ghost use Rattle.work.specs.Coded.{notedOf, secondOf, refusalAt};
 ghost use Rattle.work.specs.Passes.{withNotes};
-ghost use Rattle.work.specs.Works.{Spacious};
 ghost use Rattle.work.specs.Leaves.{Becomes};
 
 fn first(before: Noted, at: usize) -> Noted
+    requires { ⌜ at < rowsMost ⌝ }
     ensures { λ r. ⌜ notedOf r ≡ orKept (notedOf before) at ⌝ }
 {
-    match before {
-        Noted::At(i) => Noted::At(i),
-        Noted::Nothing => Noted::At(at),
+    if before.code == 0 {
+        return Noted { code: at + 1 };
     }
+    before
 }
 
-fn first_second(before: Second, number: u32, at: usize) -> Second
+pub fn first_second(before: Second, number: u32, at: usize) -> Second
+    requires { ⌜ 0 < number ⌝ }
     ensures { λ r. ⌜ secondOf r ≡ orKept (secondOf before) (refusalAt number at) ⌝ }
 {
-    match before {
-        Second::At(n, i) => Second::At(n, i),
-        Second::Nothing => Second::At(number, at),
+    if before.number == 0 {
+        return Second { number, at };
     }
+    before
 }
 
 fn with_notes(p: Pass, nine: Noted, ten: Noted, second: Second) -> Pass
@@ -52,6 +50,7 @@ fn with_notes(p: Pass, nine: Noted, ten: Noted, second: Second) -> Pass
 }
 
 fn note_nine(p: Pass, at: usize) -> Pass
+    requires { ⌜ at < rowsMost ⌝ }
     ensures { λ r. ⌜ ((w : List ℕ) → Becomes p w (noteNine at) r w) ⌝ }
 {
     let before = p.nine;
@@ -62,6 +61,7 @@ fn note_nine(p: Pass, at: usize) -> Pass
 }
 
 pub fn note_ten(p: Pass, at: usize) -> Pass
+    requires { ⌜ at < rowsMost ⌝ }
     ensures { λ r. ⌜ ((w : List ℕ) → Becomes p w (noteTen at) r w) ⌝ }
 {
     let nine = p.nine;
@@ -72,6 +72,7 @@ pub fn note_ten(p: Pass, at: usize) -> Pass
 }
 
 pub fn note_second(p: Pass, number: u32, at: usize) -> Pass
+    requires { ⌜ 0 < number ⌝ }
     ensures { λ r. ⌜ ((w : List ℕ) → Becomes p w (noteSecond number at) r w) ⌝ }
 {
     let nine = p.nine;
@@ -81,15 +82,12 @@ pub fn note_second(p: Pass, number: u32, at: usize) -> Pass
     with_notes(p, nine, ten, second)
 }
 
-// Refusal 9 where the name is live in the newest layer, above the bottom.
-pub fn note_live(p: Pass, work: &[u32], name: u32, at: usize) -> Pass
-    requires { ⌜ Spacious p (now work) ⌝ }
-    ensures { λ r. ⌜ Becomes p (now (work .entry)) (λ s. noteLive (ltb 1 (depth s) && hasAtTop (s .scope .names) name) at s) r (now (work .entry)) ⌝ }
+// Refusal 9, where a name that enters is live in the newest layer.
+pub fn note_live(p: Pass, live: bool, at: usize) -> Pass
+    requires { ⌜ at < rowsMost ⌝ }
+    ensures { λ r. ⌜ ((w : List ℕ) → Becomes p w (noteLive live at) r w) ⌝ }
 {
-    if p.depth() <= 1 {
-        return p;
-    }
-    if has_at_top(p, work, name) {
+    if live {
         return note_nine(p, at);
     }
     p

@@ -6,9 +6,9 @@ use scope_map::Found;
 use scope_map::Row;
 use semantic::NONE;
 use table::wide;
+ghost use mathlib.Core.Path.{_≡_};
 ghost use mathlib.Core.List.{List};
 ghost use Prim.Native.Nat.{ℕ, _+_, _*_, _≤_, _<_};
-ghost use Rattle.scope_map.specs.ScopeMap.{hasAtTop};
 ghost use Rattle.scope_map.specs.Hints.{rowsLength};
 ghost use Rattle.pass.specs.State.{newest};
 ghost use Rattle.pass.specs.Run.{rowsMost};
@@ -16,7 +16,7 @@ ghost use Rattle.pass.specs.Lambda.{openScope, closeScope};
 ghost use Rattle.work.specs.Coded.{recordIn, recordOf};
 ghost use Rattle.work.specs.Works.{Spacious};
 ghost use Rattle.work.specs.Leaves.{Becomes, Tells};
-ghost use Rattle.work.specs.Scope.{KnownHere, TellsId, Defines, removed, StartsLayer, TellsLive};
+ghost use Rattle.work.specs.Scope.{KnownHere, TellsId, isLiveRow, inRow, Defines, removed, StartsLayer, TellsLive};
 
 // The binder's record of a name's newest entry.
 pub enum Binder {
@@ -54,23 +54,32 @@ pub fn newest_id(all: &[u32], p: Pass, work: &[u32], name: u32) -> u32
     tree::record::id(all, b)
 }
 
-pub fn has_at_top(p: Pass, work: &[u32], name: u32) -> bool
-    requires { ⌜ Spacious p (now work) ⌝ }
-    ensures { λ r. ⌜ Tells p (now (work .entry)) (λ s. hasAtTop (s .scope .names) name) r ⌝ }
-{
-    let names = p.scope;
-    let end = ENTRIES;
-    names.contains_key_at_top(&work[..end], name)
-}
-
-pub fn define_name(p: Pass, work: &mut [u32], name: u32, at: usize) -> Pass
+// The name enters the newest layer. Answers the row that it is in.
+pub fn define_name(p: Pass, work: &mut [u32], name: u32, at: usize) -> usize
     requires { ⌜ Spacious p (now work) × (3 * p .scope .length + 3 ≤ rowsLength) × (at < rowsMost) ⌝ }
     ensures { λ r. ⌜ Defines p (now (work .entry)) name at r (now (work .exit)) ⌝ }
 {
     let names = p.scope;
     let end = ENTRIES;
     let value = narrow(at);
-    let more = names.define(&mut work[..end], name, value);
+    names.define_at(&mut work[..end], name, value)
+}
+
+// The row is there before a name enters in it, above the bottom layer.
+pub fn is_live_row(p: Pass, place: usize) -> bool
+    ensures { λ r. ⌜ r ≡ isLiveRow place p ⌝ }
+{
+    let names = p.scope;
+    1 < names.depth && place < names.length
+}
+
+// The pass after a name entered in the row.
+pub fn with_row(p: Pass, place: usize) -> Pass
+    requires { ⌜ 3 * p .scope .length + 3 ≤ rowsLength ⌝ }
+    ensures { λ r. ⌜ r ≡ inRow place p ⌝ }
+{
+    let names = p.scope;
+    let more = names.with_row(place);
     let mut q = p;
     q.scope = more;
     q

@@ -4,50 +4,72 @@ use borrow.Author.Needs.{needs}
 use Rattle.registers.proofs.load.Statement.{statement}
 use Rattle.registers.proofs.load.Tie as tie
 
-shared-slice-read-narrow : tie.Need-shared-slice-read-narrow
-shared-slice-read-narrow c = search needs
+element-copy-out-narrow : tie.Need-element-copy-out-narrow
+element-copy-out-narrow c = search needs
 
 narrow-requires : tie.Need-narrow-requires
 narrow-requires c κs = search needs
 
-load-map-requires : tie.Need-load-map-requires
-load-map-requires c κs = search needs
+element-copy-out-narrow-2 : tie.Need-element-copy-out-narrow-2
+element-copy-out-narrow-2 c = search needs
 
-load-map-requires-2 : tie.Need-load-map-requires-2
-load-map-requires-2 c κs = search needs
+narrow-requires-2 : tie.Need-narrow-requires-2
+narrow-requires-2 c κs = search needs
 
-shared-slice-read-t8 : tie.Need-shared-slice-read-t8
-shared-slice-read-t8 c = search needs
+element-copy-out-t12 : tie.Need-element-copy-out-t12
+element-copy-out-t12 c = search needs
 
-shared-slice-read-t10 : tie.Need-shared-slice-read-t10
-shared-slice-read-t10 c = search needs
+element-copy-out-narrow-3 : tie.Need-element-copy-out-narrow-3
+element-copy-out-narrow-3 c = search needs
 
-load-noted-requires : tie.Need-load-noted-requires
-load-noted-requires c κs = search needs
+narrow-requires-3 : tie.Need-narrow-requires-3
+narrow-requires-3 c κs = search needs
 
-load-noted-requires-2 : tie.Need-load-noted-requires-2
-load-noted-requires-2 c κs = search needs
+element-copy-out-t20 : tie.Need-element-copy-out-t20
+element-copy-out-t20 c = search needs
 
-load-second-requires : tie.Need-load-second-requires
-load-second-requires c κs = search needs
+element-copy-out-t24 : tie.Need-element-copy-out-t24
+element-copy-out-t24 c = search needs
+
+element-copy-out-t27 : tie.Need-element-copy-out-t27
+element-copy-out-t27 c = search needs
+
+element-copy-out-t30 : tie.Need-element-copy-out-t30
+element-copy-out-t30 c = search needs
+
+element-copy-out-t34 : tie.Need-element-copy-out-t34
+element-copy-out-t34 c = search needs
+
+element-copy-out-narrow-4 : tie.Need-element-copy-out-narrow-4
+element-copy-out-narrow-4 c = search needs
+
+narrow-requires-4 : tie.Need-narrow-requires-4
+narrow-requires-4 c κs = search needs
+
+element-copy-out-t42 : tie.Need-element-copy-out-t42
+element-copy-out-t42 c = search needs
 
 returns : tie.Need-returns
 unfolding passIn
-returns c =
-    let o = c .before .before .before .before .before in
-    rw (o .before .before .narrow .ensures, o .before .load-map .ensures, o .load-map2 .ensures, c .before .before .load-noted .ensures, c .before .load-noted2 .ensures, c .load-second .ensures)
+returns c = rw (c .before .before .before .before .before .before .before .before .before .before .before .before .before .narrow .ensures, c .before .before .before .before .before .before .before .before .before .before .before .narrow2 .ensures, c .before .before .before .before .before .before .before .before .narrow3 .ensures, c .before .narrow4 .ensures)
 
 pub load-spec : {M : Type 1} → statement M
 load-spec =
     tie.close
     (tie.spec
-    shared-slice-read-narrow
+    element-copy-out-narrow
     narrow-requires
-    load-map-requires
-    load-map-requires-2
-    shared-slice-read-t8
-    shared-slice-read-t10
-    load-noted-requires
-    load-noted-requires-2
-    load-second-requires
+    element-copy-out-narrow-2
+    narrow-requires-2
+    element-copy-out-t12
+    element-copy-out-narrow-3
+    narrow-requires-3
+    element-copy-out-t20
+    element-copy-out-t24
+    element-copy-out-t27
+    element-copy-out-t30
+    element-copy-out-t34
+    element-copy-out-narrow-4
+    narrow-requires-4
+    element-copy-out-t42
     returns)

@@ -1,12 +1,32 @@
--- `enter_name`, by its two ways.
-use mathlib.Core.Path.{refl}
+-- `enter_name`: refusal 11, the entry and the kind, then the name enters.
+use Rattle.forms.specs.Contract.{heapsIn}
+use Rattle.forms.proofs.EnterCase.{entry-new, noted-fits, enters-name}
 use borrow.Author.Needs.{needs}
-use Rattle.forms.proofs.EnterCase.{enters-heap, enters-slot}
 use Rattle.forms.proofs.bound.enter_name.Statement.{statement}
 use Rattle.forms.proofs.bound.enter_name.Tie as tie
 
-enter-heap-requires : tie.Need-enter-heap-requires
-enter-heap-requires c κs = search needs
+note-heap-requires : tie.Need-note-heap-requires
+note-heap-requires c κs = search needs
+
+depth-requires : tie.Need-depth-requires
+depth-requires c κs = search needs
+
+name-entry-requires : tie.Need-name-entry-requires
+name-entry-requires c κs = search needs
+
+name-kind-requires : tie.Need-name-kind-requires
+name-kind-requires c κs = search needs
+
+enter-with-requires : tie.Need-enter-with-requires
+enter-with-requires c κs =
+    let p₁ = c .before .before .before in
+    let p₂ = p₁ .before in
+    let p₃ = p₂ .before in
+    let start = p₃ .before .before .before .before in
+    let o = start .args in (
+      noted-fits (p₃ .note-heap .ensures) (start .pre .0),
+      entry-new (o .g .base) (heapsIn (o .g .heaps)) (o .j) (o .h) (p₂ .depth .result) (o .heap) (p₁ .name-entry .ensures),
+    )
 
 same-length : tie.Need-same-length
 same-length c = search needs
@@ -15,33 +35,22 @@ same-length-2 : tie.Need-same-length-2
 same-length-2 c = search needs
 
 returns : tie.Need-returns
-returns c = enters-heap _ _ _ _ (c .before .before .before .before .before .before .before .if1 .taken) (c .before .before .before .before .enter-heap .ensures)
-
-add-enter-local : tie.Need-add-enter-local
-add-enter-local c = search needs
-
-enter-local-requires : tie.Need-enter-local-requires
-enter-local-requires c κs = search needs
-
-same-length-3 : tie.Need-same-length-3
-same-length-3 c = search needs
-
-same-length-4 : tie.Need-same-length-4
-same-length-4 c = search needs
-
-returns-2 : tie.Need-returns-2
-returns-2 c = enters-slot _ _ _ _ (c .before .before .before .before .before .before .before .before .if1 .left) refl (c .before .before .before .before .enter-local .ensures)
+returns c =
+    let p₁ = c .before .before .before .before in
+    let p₂ = p₁ .before .before .before in
+    let p₃ = p₂ .before in
+    let p₄ = p₃ .before in
+    enters-name (p₄ .before .note-heap .ensures) (p₂ .name-kind .ensures) (p₄ .depth .ensures) (p₃ .name-entry .ensures) (p₁ .enter-with .ensures)
 
 pub enter-name-spec : {M : Type 1} → statement M
 enter-name-spec =
     tie.close
     (tie.spec
-    enter-heap-requires
+    note-heap-requires
+    depth-requires
+    name-entry-requires
+    name-kind-requires
+    enter-with-requires
     same-length
     same-length-2
-    returns
-    add-enter-local
-    enter-local-requires
-    same-length-3
-    same-length-4
-    returns-2)
+    returns)

@@ -13,11 +13,17 @@ span-at-requires c κs = search needs
 new-requires : tie.Need-new-requires
 new-requires c κs = search needs
 
-enter-requires : tie.Need-enter-requires
-enter-requires c κs = with-room _ _ _ _ _ (c .before .before .before .before .before .before .before .pre .0) (c .before .before .before .before .before .before .before .args .e) (c .before .before .before .before .before .before .before .pre .1)
+put-name-requires : tie.Need-put-name-requires
+put-name-requires c κs = with-room _ _ _ _ _ (c .before .before .before .before .before .before .before .pre .0) (c .before .before .before .before .before .before .before .args .e) (c .before .before .before .before .before .before .before .pre .1)
 
 store-information-requires : tie.Need-store-information-requires
 store-information-requires c κs = with-fact _ _ _ _ _ (c .before .before .before .before .before .before .before .before .before .before .before .pre .0)
+
+entered-requires : tie.Need-entered-requires
+entered-requires c κs =
+    let start = c .before .before .before .before .before .before .before .before .before .before .before .before .before .before in
+    let a = with-room _ _ _ _ _ (start .pre .0) (start .args .e) (start .pre .1) in
+    (a .1, a .3)
 
 same-length : tie.Need-same-length
 same-length c = search needs
@@ -26,7 +32,13 @@ same-length-2 : tie.Need-same-length-2
 same-length-2 c = search needs
 
 returns : tie.Need-returns
-returns c = enters-with _ _ _ _ _ (c .before .before .before .before .before .before .before .before .before .before .depth .ensures) (c .before .before .before .before .before .before .before .before .before .span-at .ensures) (c .before .before .before .before .before .before .before .before .new .ensures) (c .before .before .before .before .before .before .enter .ensures) (c .before .before .store-information .ensures)
+returns c =
+    let p₁ = c .before .before .before in
+    let p₂ = p₁ .before .before .before .before in
+    let p₃ = p₂ .before .before in
+    let p₄ = p₃ .before in
+    enters-with _ _ _ _ _ (p₄ .before .depth .ensures) (p₄ .span-at .ensures) (p₃ .new .ensures) (p₂ .put-name .ensures .is _ (c .entered .ensures))
+    (p₁ .store-information .ensures)
 
 pub enter-with-spec : {M : Type 1} → statement M
 enter-with-spec =
@@ -35,8 +47,9 @@ enter-with-spec =
     depth-requires
     span-at-requires
     new-requires
-    enter-requires
+    put-name-requires
     store-information-requires
+    entered-requires
     same-length
     same-length-2
     returns)

@@ -1,11 +1,11 @@
 -- `enter_let`: a layer at the bottom, and the names.
 use borrow.Author.Needs.{needs}
-use Rattle.forms.proofs.LetsCase.{let-names, let-entered}
+use Rattle.forms.proofs.LetsCase.{around-fits, let-names, let-entered}
 use Rattle.forms.proofs.lets.enter_let.Statement.{statement}
 use Rattle.forms.proofs.lets.enter_let.Tie as tie
 
 heaps-around-requires : tie.Need-heaps-around-requires
-heaps-around-requires c κs = search needs
+heaps-around-requires c κs = around-fits (c .before .before .before .before .before .before .pre)
 
 let-arguments-requires : tie.Need-let-arguments-requires
 let-arguments-requires c κs = search needs

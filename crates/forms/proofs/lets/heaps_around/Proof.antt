@@ -4,45 +4,55 @@ use Rattle.forms.proofs.LetsCase.{no-lambda, around-few, around-fact, n
 use Rattle.forms.proofs.lets.heaps_around.Statement.{statement}
 use Rattle.forms.proofs.lets.heaps_around.Tie as tie
 
-enum-known-f : tie.Need-enum-known-f
-enum-known-f c = search needs
-
-enum-told : tie.Need-enum-told
-enum-told c = search needs
-
 returns : tie.Need-returns
-returns c = no-lambda (c .enum-told .given .1) _ _
+returns c = no-lambda _ (c .if1 .taken) _ _
+
+sub-at : tie.Need-sub-at
+sub-at c = search needs
+
+cast-at : tie.Need-cast-at
+cast-at c = search needs
 
 function-at-requires : tie.Need-function-at-requires
-function-at-requires c κs = around-fact (c .before .f .given .1) (c .before .before .before .before .before .pre)
+function-at-requires c κs = around-fact _ (c .before .if1 .left) (c .before .before .before .before .before .pre)
 
 enum-known-found : tie.Need-enum-known-found
 enum-known-found c = search needs
 
-enum-told-2 : tie.Need-enum-told-2
-enum-told-2 c = search needs
+enum-told : tie.Need-enum-told
+enum-told c = search needs
 
 returns-2 : tie.Need-returns-2
-returns-2 c = no-function (c .before .before .before .before .f .given .1) (around-few (c .before .before .before .before .f .given .1) (c .before .before .before .before .before .before .before .before .pre)) (c .before .before .function-at .result) (c .before .before .function-at .ensures) (c .enum-told2 .given .1)
+returns-2 c =
+    let called = c .before .before in
+    let z = called .before .before .if1 .left in
+    no-function _ z (around-few _ z (called .before .before .before .before .before .before .pre)) (called .function-at .result) (called .function-at .ensures) (c .enum-told .given .1)
 
 heap-count-requires : tie.Need-heap-count-requires
-heap-count-requires c κs = list-inside (c .before .before .before .before .before .before .f .given .1) (around-few (c .before .before .before .before .before .before .f .given .1) (c .before .before .before .before .before .before .before .before .before .before .pre)) (c .before .before .before .before .function-at .result) (c .before .before .before .before .function-at .ensures) (c .before .before .found .given .1) (c .before .before .before .before .before .before .before .before .before .before .pre)
+heap-count-requires c κs =
+    let called = c .before .before .before .before in
+    let z = called .before .before .if1 .left in
+    let fits = called .before .before .before .before .before .before .pre in
+    list-inside _ z (around-few _ z fits) (called .function-at .result) (called .function-at .ensures) (c .before .before .found .given .1) fits
 
 returns-3 : tie.Need-returns-3
 returns-3 c =
+    let called = c .before .before .before .before .before in
+    let z = called .before .before .if1 .left in
+    let few = around-few _ z (called .before .before .before .before .before .before .pre) in
     let h = c .heap-count .ensures in
-    heaps-counted (c .before .before .before .before .before .before .before .f .given .1) (around-few (c .before .before .before .before .before .before .before .f .given .1) (c .before .before .before .before .before .before .before .before .before .before .before .pre)) (c .before .before .before .before .before .function-at .result) (c .before .before .before .before .before .function-at .ensures) (c .before .before .before .found .given .1) (h .0) (h .1)
+    heaps-counted _ z few (called .function-at .result) (called .function-at .ensures) (c .before .before .before .found .given .1) (h .0) (h .1)
 
 pub heaps-around-spec : {M : Type 1} → statement M
 heaps-around-spec =
     tie.close
     (tie.spec
-    enum-known-f
-    enum-told
     returns
+    sub-at
+    cast-at
     function-at-requires
     enum-known-found
-    enum-told-2
+    enum-told
     returns-2
     heap-count-requires
     returns-3)

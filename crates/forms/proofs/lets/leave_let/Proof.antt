@@ -1,4 +1,5 @@
 -- `leave_let`: the names, the fact, the layer.
+use mathlib.Core.Path.{_∙_}
 use borrow.Author.Needs.{needs}
 use Rattle.forms.proofs.LetEnds.{ends-fact, ends-make, ends-spacious, let-left}
 use Rattle.forms.proofs.lets.leave_let.Statement.{statement}
@@ -17,7 +18,10 @@ close-let-requires : tie.Need-close-let-requires
 close-let-requires c κs = ends-spacious (c .before .before .before .before .before .before .before .before .before .before .before .before .before .before .before .before .is-blank .ensures) (c .before .before .before .before .before .before .before .before .before .before .before .before .before .leave-names .ensures) (c .before .before .before .before .before .make-let .ensures) (c .before .before .before .before .before .before .before .before .before .before .before .before .before .before .before .before .before .before .before .before .before .before .pre)
 
 same-length : tie.Need-same-length
-same-length c = search needs
+same-length c =
+    let at-make-let = c .before .before .before .before .before .before .before .before in
+    let at-leave-names = at-make-let .before .before .before .before .before .before .before .before in
+    at-make-let .make-let .kept .1 .1 .1 .1 .1 .1 .1 .0 ∙ at-leave-names .leave-names .kept .1 .1 .1 .0
 
 same-length-2 : tie.Need-same-length-2
 same-length-2 c = search needs

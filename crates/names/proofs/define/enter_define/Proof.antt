@@ -11,8 +11,8 @@ define-fact-requires c κs = search needs
 top-level-requires : tie.Need-top-level-requires
 top-level-requires c κs = search needs
 
-enter-requires : tie.Need-enter-requires
-enter-requires c κs =
+put-name-requires : tie.Need-put-name-requires
+put-name-requires c κs =
     let p₁ = c .before in
     let start = p₁ .before .before .before .before .before .before in
     let a = start .pre .1 in
@@ -30,6 +30,12 @@ store-information-requires c κs =
     let h = start .pre .1 .here in
     bounds (h .good) (h .tied) (known-few (h .known) (h .place)) .row
 
+entered-requires : tie.Need-entered-requires
+entered-requires c κs =
+    let start = c .before .before .before .before .before .before .before .before .before .before .before .before .before .before in
+    let h = start .pre .1 .here in
+    (start .pre .0, known-few (h .known) (h .place))
+
 same-length : tie.Need-same-length
 same-length c = search needs
 
@@ -38,11 +44,11 @@ same-length-2 c = search needs
 
 returns : tie.Need-returns
 returns c =
-    let p₁ = c .before .before in
+    let p₁ = c .before .before .before in
     let p₂ = p₁ .before .before .before .before in
     let p₃ = p₂ .before .before in
     let p₄ = p₃ .before in
-    defines-by (p₄ .define-fact .ensures) (p₃ .top-level .ensures) (p₂ .enter .ensures) (p₁ .store-information .ensures)
+    defines-by (p₄ .define-fact .ensures) (p₃ .top-level .ensures) (p₂ .put-name .ensures .is _ (c .entered .ensures)) (p₁ .store-information .ensures)
 
 pub enter-define-spec : {M : Type 1} → statement M
 enter-define-spec =
@@ -50,8 +56,9 @@ enter-define-spec =
     (tie.spec
     define-fact-requires
     top-level-requires
-    enter-requires
+    put-name-requires
     store-information-requires
+    entered-requires
     same-length
     same-length-2
     returns)

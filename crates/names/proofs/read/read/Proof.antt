@@ -32,7 +32,7 @@ free-fact-requires c κs = search needs
 
 use-or-store-requires : tie.Need-use-or-store-requires
 use-or-store-requires c κs =
-    let start = c .before .before .before .before .before .before .before .before .before .before .before .before .before .before .before in
+    let start = c .before .before .before .before .before .before .before .before .before .before .before .before .before .before .before .before in
     let h = start .pre .here in
     let k = bounds (h .good) (h .tied) (known-few (h .known) (h .place)) in
     (k .row, k .fits)
@@ -44,7 +44,7 @@ read-global-requires : tie.Need-read-global-requires
 read-global-requires c κs =
     let p₁ = c .before .before .before in
     let p₂ = p₁ .before .before in
-    let p₃ = p₂ .before .before .before .before in
+    let p₃ = p₂ .before .before .before .before .before in
     let start = p₃ .before .before .before .before .before .before in
     bound-global (p₃ .name .ensures) (p₂ .rule-of .ensures) (start .pre .here) (p₁ .rule .given .1)
 
@@ -55,7 +55,7 @@ read-local-requires : tie.Need-read-local-requires
 read-local-requires c κs =
     let p₁ = c .before .before .before in
     let p₂ = p₁ .before .before in
-    let p₃ = p₂ .before .before .before .before in
+    let p₃ = p₂ .before .before .before .before .before in
     let start = p₃ .before .before .before .before .before .before in
     bound-local (p₃ .name .ensures) (p₂ .rule-of .ensures) (start .pre .here) (p₁ .rule2 .given .1)
 
@@ -66,7 +66,7 @@ read-taken-requires : tie.Need-read-taken-requires
 read-taken-requires c κs =
     let p₁ = c .before .before .before in
     let p₂ = p₁ .before .before in
-    let p₃ = p₂ .before .before .before .before in
+    let p₃ = p₂ .before .before .before .before .before in
     let start = p₃ .before .before .before .before .before .before in
     bound-taken (p₃ .name .ensures) (p₂ .rule-of .ensures) (start .pre .here) (p₁ .rule3 .given .1)
 
@@ -77,7 +77,7 @@ read-home-requires : tie.Need-read-home-requires
 read-home-requires c κs =
     let p₁ = c .before .before .before in
     let p₂ = p₁ .before .before in
-    let p₃ = p₂ .before .before .before .before in
+    let p₃ = p₂ .before .before .before .before .before in
     let start = p₃ .before .before .before .before .before .before in
     bound-home (p₃ .name .ensures) (p₂ .rule-of .ensures) (start .pre .here) (p₁ .rule4 .given .1)
 
@@ -94,7 +94,7 @@ returns c =
     let p₃ = p₂ .before in
     let p₄ = p₃ .before .before in
     let p₅ = p₄ .before .before in
-    let p₆ = p₅ .before .before in
+    let p₆ = p₅ .before .before .before in
     let p₇ = p₆ .before in
     let p₈ = p₇ .before in
     let start = p₈ .before .before .before .before .before .before in
@@ -112,7 +112,7 @@ returns-2 c =
     let p₁ = c .before .before .before .before in
     let p₂ = p₁ .before .before .before .before in
     let p₃ = p₂ .before .before in
-    let p₄ = p₃ .before .before .before in
+    let p₄ = p₃ .before .before .before .before in
     let p₅ = p₄ .before in
     let start = p₅ .before .before .before .before .before .before in
     does-global (p₅ .name .ensures) (p₃ .rule-of .ensures) (start .args .classes .now) (p₂ .rule .given .1) (p₄ .is-class .ensures)
@@ -129,7 +129,7 @@ returns-3 c =
     let p₁ = c .before .before .before .before in
     let p₂ = p₁ .before .before .before .before in
     let p₃ = p₂ .before .before in
-    let p₄ = p₃ .before .before in
+    let p₄ = p₃ .before .before .before in
     let p₅ = p₄ .before .before in
     let start = p₅ .before .before .before .before .before .before in
     does-local (p₅ .name .ensures) (p₃ .rule-of .ensures) (start .args .classes .now) (p₂ .rule2 .given .1) (p₄ .depth .ensures)
@@ -146,7 +146,7 @@ returns-4 c =
     let p₁ = c .before .before .before .before in
     let p₂ = p₁ .before .before .before .before in
     let p₃ = p₂ .before .before in
-    let p₄ = p₃ .before .before .before .before in
+    let p₄ = p₃ .before .before .before .before .before in
     let start = p₄ .before .before .before .before .before .before in
     does-taken (p₄ .name .ensures) (p₃ .rule-of .ensures) (start .args .classes .now) (p₂ .rule3 .given .1) (p₁ .read-taken .ensures)
 
@@ -161,7 +161,7 @@ returns-5 c =
     let p₁ = c .before .before .before .before in
     let p₂ = p₁ .before .before .before .before in
     let p₃ = p₂ .before .before in
-    let p₄ = p₃ .before .before in
+    let p₄ = p₃ .before .before .before in
     let p₅ = p₄ .before .before in
     let start = p₅ .before .before .before .before .before .before in
     does-home (p₅ .name .ensures) (p₃ .rule-of .ensures) (start .args .classes .now) (p₂ .rule4 .given .1) (p₄ .depth .ensures) (p₁ .read-home .ensures)

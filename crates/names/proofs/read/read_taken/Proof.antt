@@ -56,12 +56,12 @@ same-length c = search needs
 
 same-length-2 : tie.Need-same-length-2
 same-length-2 c =
-    let p₁ = c .before .before .before .before .before .before .before .before .before .before .before .before .before .before .before .before in
+    let p₁ = c .before .before .before .before .before .before .before .before .before .before .before .before .before .before .before .before .before in
     p₁ .use-taken .kept .1 .1 .1 .0
 
 returns : tie.Need-returns
 returns c =
-    let p₁ = c .before .before .before in
+    let p₁ = c .before .before .before .before in
     let p₂ = p₁ .before .before in
     let p₃ = p₂ .before in
     let p₄ = p₃ .before in

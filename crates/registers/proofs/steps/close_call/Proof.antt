@@ -7,7 +7,7 @@ load-requires : tie.Need-load-requires
 load-requires c κs = search needs
 
 end-call-requires : tie.Need-end-call-requires
-end-call-requires c κs = rw (c .before .load .ensures) (c .before .before .before .before .before .before .pre .1)
+end-call-requires c κs = rw (c .before .load .ensures) (c .before .before .before .before .before .pre)
 
 same-length : tie.Need-same-length
 same-length c = search needs

@@ -7,7 +7,7 @@ load-requires : tie.Need-load-requires
 load-requires c κs = search needs
 
 after-define-requires : tie.Need-after-define-requires
-after-define-requires c κs = rw (c .before .before .load .ensures) (c .before .before .before .before .before .before .before .before .pre .1)
+after-define-requires c κs = rw (c .before .before .load .ensures) (c .before .before .before .before .before .before .before .pre)
 
 store-requires : tie.Need-store-requires
 store-requires c κs = search needs
@@ -18,20 +18,10 @@ same-length c = search needs
 same-length-2 : tie.Need-same-length-2
 same-length-2 c = search needs
 
-same-length-3 : tie.Need-same-length-3
-same-length-3 c = search needs
-
 returns : tie.Need-returns
-returns c = rw (c .before .before .store .ensures, ← c .before .before .before .before .before .before .before .before .before .before .before .load .ensures) (c .before .before .before .before .before .before .before .before .after-define .ensures)
+returns c = rw (c .store .ensures, ← c .before .before .before .before .before .before .before .before .before .load .ensures) (c .before .before .before .before .before .before .after-define .ensures)
 
 pub close-define-spec : {M : Type 1} → statement M
 close-define-spec =
     tie.close
-    (tie.spec
-    load-requires
-    after-define-requires
-    store-requires
-    same-length
-    same-length-2
-    same-length-3
-    returns)
+    (tie.spec load-requires after-define-requires store-requires same-length same-length-2 returns)

@@ -7,10 +7,10 @@ load-requires : tie.Need-load-requires
 load-requires c κs = search needs
 
 leave-lambda-requires : tie.Need-leave-lambda-requires
-leave-lambda-requires c κs = rw (c .before .before .before .before .load .ensures) (c .before .before .before .before .before .before .before .before .before .before .before .before .pre .1)
+leave-lambda-requires c κs = rw (c .before .before .before .before .load .ensures) (c .before .before .before .before .before .before .before .before .before .before .before .pre)
 
 store-requires : tie.Need-store-requires
-store-requires c κs = c .before .before .before .before .before .before .before .before .before .before .before .before .before .before .before .before .before .before .before .before .before .before .pre .0
+store-requires c κs = search needs
 
 same-length : tie.Need-same-length
 same-length c = search needs
@@ -24,11 +24,8 @@ same-length-3 c = search needs
 same-length-4 : tie.Need-same-length-4
 same-length-4 c = search needs
 
-same-length-5 : tie.Need-same-length-5
-same-length-5 c = search needs
-
 returns : tie.Need-returns
-returns c = rw (c .before .before .store .ensures, ← c .before .before .before .before .before .before .before .before .before .before .before .before .before .before .before .before .before .load .ensures) (c .before .before .before .before .before .before .before .before .before .before .before .before .leave-lambda .ensures)
+returns c = rw (c .store .ensures, ← c .before .before .before .before .before .before .before .before .before .before .before .before .before .before .before .load .ensures) (c .before .before .before .before .before .before .before .before .before .before .leave-lambda .ensures)
 
 pub close-lambda-spec : {M : Type 1} → statement M
 close-lambda-spec =
@@ -41,5 +38,4 @@ close-lambda-spec =
     same-length-2
     same-length-3
     same-length-4
-    same-length-5
     returns)

@@ -7,7 +7,7 @@ load-requires : tie.Need-load-requires
 load-requires c κs = search needs
 
 mutate-requires : tie.Need-mutate-requires
-mutate-requires c κs = rw (c .before .before .load .ensures) (c .before .before .before .before .before .before .pre .1)
+mutate-requires c κs = rw (c .before .before .load .ensures) (c .before .before .before .before .before .pre)
 
 same-length : tie.Need-same-length
 same-length c = search needs
@@ -19,5 +19,4 @@ returns : tie.Need-returns
 returns c = rw (← c .before .before .before .before .before .before .before .load .ensures) (c .before .before .before .before .mutate .ensures)
 
 pub close-set-spec : {M : Type 1} → statement M
-close-set-spec =
-    tie.close (tie.spec load-requires mutate-requires same-length same-length-2 returns)
+close-set-spec = tie.close (tie.spec load-requires mutate-requires same-length same-length-2 returns)

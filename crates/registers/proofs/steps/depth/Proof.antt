@@ -1,17 +1,18 @@
 -- `depth`: of the pass that the table holds.
-use mathlib.Core.Path.{_∙_}
+use Rattle.registers.specs.Registers.{passIn}
 use borrow.Author.Needs.{needs}
 use Rattle.registers.proofs.steps.depth.Statement.{statement}
 use Rattle.registers.proofs.steps.depth.Tie as tie
 
-load-requires : tie.Need-load-requires
-load-requires c κs = search needs
+element-copy-out-narrow : tie.Need-element-copy-out-narrow
+element-copy-out-narrow c = search needs
 
-depth-requires : tie.Need-depth-requires
-depth-requires c κs = search needs
+narrow-requires : tie.Need-narrow-requires
+narrow-requires c κs = search needs
 
 returns : tie.Need-returns
-returns c = c .depth .ensures ∙ rw (c .before .load .ensures)
+unfolding passIn
+returns c = c .narrow .ensures
 
 pub depth-spec : {M : Type 1} → statement M
-depth-spec = tie.close (tie.spec load-requires depth-requires returns)
+depth-spec = tie.close (tie.spec element-copy-out-narrow narrow-requires returns)

@@ -7,7 +7,7 @@ load-requires : tie.Need-load-requires
 load-requires c κs = search needs
 
 enter-children-requires : tie.Need-enter-children-requires
-enter-children-requires c κs = rw (c .before .before .load .ensures) (c .before .before .before .before .before .before .before .before .before .pre .1)
+enter-children-requires c κs = rw (c .before .before .load .ensures) (c .before .before .before .before .before .before .before .before .pre)
 
 store-requires : tie.Need-store-requires
 store-requires c κs = search needs
@@ -18,11 +18,8 @@ same-length c = search needs
 same-length-2 : tie.Need-same-length-2
 same-length-2 c = search needs
 
-same-length-3 : tie.Need-same-length-3
-same-length-3 c = search needs
-
 returns : tie.Need-returns
-returns c = rw (c .before .before .store .ensures, ← c .before .before .before .before .before .before .before .before .before .before .before .load .ensures) (c .before .before .before .before .before .before .before .before .enter-children .ensures)
+returns c = rw (c .store .ensures, ← c .before .before .before .before .before .before .before .before .before .load .ensures) (c .before .before .before .before .before .before .enter-children .ensures)
 
 pub open-begin-spec : {M : Type 1} → statement M
 open-begin-spec =
@@ -33,5 +30,4 @@ open-begin-spec =
     store-requires
     same-length
     same-length-2
-    same-length-3
     returns)

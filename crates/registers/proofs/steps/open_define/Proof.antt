@@ -7,7 +7,7 @@ load-requires : tie.Need-load-requires
 load-requires c κs = search needs
 
 before-define-requires : tie.Need-before-define-requires
-before-define-requires c κs = rw (c .before .before .load .ensures) (c .before .before .before .before .before .before .before .before .pre .1)
+before-define-requires c κs = rw (c .before .before .load .ensures) (c .before .before .before .before .before .before .before .pre)
 
 store-requires : tie.Need-store-requires
 store-requires c κs = search needs
@@ -18,11 +18,8 @@ same-length c = search needs
 same-length-2 : tie.Need-same-length-2
 same-length-2 c = search needs
 
-same-length-3 : tie.Need-same-length-3
-same-length-3 c = search needs
-
 returns : tie.Need-returns
-returns c = rw (c .before .before .store .ensures, ← c .before .before .before .before .before .before .before .before .before .before .before .load .ensures) (c .before .before .before .before .before .before .before .before .before-define .ensures)
+returns c = rw (c .store .ensures, ← c .before .before .before .before .before .before .before .before .before .load .ensures) (c .before .before .before .before .before .before .before-define .ensures)
 
 pub open-define-spec : {M : Type 1} → statement M
 open-define-spec =
@@ -33,5 +30,4 @@ open-define-spec =
     store-requires
     same-length
     same-length-2
-    same-length-3
     returns)

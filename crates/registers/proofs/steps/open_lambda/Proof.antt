@@ -7,10 +7,10 @@ load-requires : tie.Need-load-requires
 load-requires c κs = search needs
 
 enter-lambda-requires : tie.Need-enter-lambda-requires
-enter-lambda-requires c κs = rw (c .before .before .before .load .ensures) (c .before .before .before .before .before .before .before .before .before .before .before .pre .1)
+enter-lambda-requires c κs = rw (c .before .before .before .load .ensures) (c .before .before .before .before .before .before .before .before .before .before .pre)
 
 store-requires : tie.Need-store-requires
-store-requires c κs = c .before .before .before .before .before .before .before .before .before .before .before .before .before .before .before .before .before .before .before .pre .0
+store-requires c κs = search needs
 
 same-length : tie.Need-same-length
 same-length c = search needs
@@ -21,11 +21,8 @@ same-length-2 c = search needs
 same-length-3 : tie.Need-same-length-3
 same-length-3 c = search needs
 
-same-length-4 : tie.Need-same-length-4
-same-length-4 c = search needs
-
 returns : tie.Need-returns
-returns c = rw (c .before .before .store .ensures, ← c .before .before .before .before .before .before .before .before .before .before .before .before .before .before .load .ensures) (c .before .before .before .before .before .before .before .before .before .before .enter-lambda .ensures)
+returns c = rw (c .store .ensures, ← c .before .before .before .before .before .before .before .before .before .before .before .before .load .ensures) (c .before .before .before .before .before .before .before .before .enter-lambda .ensures)
 
 pub open-lambda-spec : {M : Type 1} → statement M
 open-lambda-spec =
@@ -37,5 +34,4 @@ open-lambda-spec =
     same-length
     same-length-2
     same-length-3
-    same-length-4
     returns)

@@ -7,10 +7,10 @@ load-requires : tie.Need-load-requires
 load-requires c κs = search needs
 
 enter-let-requires : tie.Need-enter-let-requires
-enter-let-requires c κs = rw (c .before .before .load .ensures) (c .before .before .before .before .before .before .before .before .before .before .pre .1)
+enter-let-requires c κs = rw (c .before .before .load .ensures) (c .before .before .before .before .before .before .before .before .before .pre)
 
 store-requires : tie.Need-store-requires
-store-requires c κs = c .before .before .before .before .before .before .before .before .before .before .before .before .before .before .before .before .pre .0
+store-requires c κs = search needs
 
 same-length : tie.Need-same-length
 same-length c = search needs
@@ -18,20 +18,10 @@ same-length c = search needs
 same-length-2 : tie.Need-same-length-2
 same-length-2 c = search needs
 
-same-length-3 : tie.Need-same-length-3
-same-length-3 c = search needs
-
 returns : tie.Need-returns
-returns c = rw (c .before .before .store .ensures, ← c .before .before .before .before .before .before .before .before .before .before .before .load .ensures) (c .before .before .before .before .before .before .before .before .enter-let .ensures)
+returns c = rw (c .store .ensures, ← c .before .before .before .before .before .before .before .before .before .load .ensures) (c .before .before .before .before .before .before .enter-let .ensures)
 
 pub open-let-spec : {M : Type 1} → statement M
 open-let-spec =
     tie.close
-    (tie.spec
-    load-requires
-    enter-let-requires
-    store-requires
-    same-length
-    same-length-2
-    same-length-3
-    returns)
+    (tie.spec load-requires enter-let-requires store-requires same-length same-length-2 returns)

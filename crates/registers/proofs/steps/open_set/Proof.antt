@@ -12,12 +12,8 @@ clear-context-requires c κs = search needs
 store-requires : tie.Need-store-requires
 store-requires c κs = search needs
 
-same-length : tie.Need-same-length
-same-length c = search needs
-
 returns : tie.Need-returns
-returns c = rw (c .before .before .store .ensures, ← c .before .before .before .before .before .load .ensures) (c .before .before .before .before .clear-context .ensures)
+returns c = rw (c .store .ensures, ← c .before .before .before .load .ensures) (c .before .before .clear-context .ensures)
 
 pub open-set-spec : {M : Type 1} → statement M
-open-set-spec =
-    tie.close (tie.spec load-requires clear-context-requires store-requires same-length returns)
+open-set-spec = tie.close (tie.spec load-requires clear-context-requires store-requires returns)

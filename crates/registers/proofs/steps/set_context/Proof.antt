@@ -1,24 +1,17 @@
--- `set_context`: loaded, changed, stored.
-use mathlib.Core.Path.{_∙_}
+-- `set_context`: the one number.
+use Rattle.registers.proofs.StoreCase.{context-back}
 use borrow.Author.Needs.{needs}
 use Rattle.registers.proofs.steps.set_context.Statement.{statement}
 use Rattle.registers.proofs.steps.set_context.Tie as tie
 
-load-requires : tie.Need-load-requires
-load-requires c κs = search needs
+wide-requires : tie.Need-wide-requires
+wide-requires c κs = search needs
 
-with-context-requires : tie.Need-with-context-requires
-with-context-requires c κs = search needs
-
-store-requires : tie.Need-store-requires
-store-requires c κs = search needs
-
-same-length : tie.Need-same-length
-same-length c = search needs
+put-requires : tie.Need-put-requires
+put-requires c κs = search needs
 
 returns : tie.Need-returns
-returns c = c .before .before .store .ensures ∙ c .before .before .before .with-context .ensures ∙ rw (c .before .before .before .before .before .load .ensures)
+returns c = context-back (c .before .before .before .args .r .now) (c .before .before .put-arg .given .0 .1) (c .before .wide .ensures) (c .put .ensures)
 
 pub set-context-spec : {M : Type 1} → statement M
-set-context-spec =
-    tie.close (tie.spec load-requires with-context-requires store-requires same-length returns)
+set-context-spec = tie.close (tie.spec wide-requires put-requires returns)

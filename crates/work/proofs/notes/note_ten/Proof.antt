@@ -11,7 +11,7 @@ with-notes-requires : tie.Need-with-notes-requires
 with-notes-requires c κs = search needs
 
 returns : tie.Need-returns
-returns c = ten-noted _ (c .before .first .ensures) (c .with-notes .ensures)
+returns c = ten-noted _ (c .before .before .first .ensures) (c .with-notes .ensures)
 
 pub note-ten-spec : {M : Type 1} → statement M
 note-ten-spec = tie.close (tie.spec first-requires with-notes-requires returns)

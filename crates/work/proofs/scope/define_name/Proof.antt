@@ -8,14 +8,14 @@ use Rattle.work.proofs.scope.define_name.Tie as tie
 narrow-requires : tie.Need-narrow-requires
 narrow-requires c κs = search needs
 
-slice-relend-prefix-define : tie.Need-slice-relend-prefix-define
-slice-relend-prefix-define c = search needs
+slice-relend-prefix-define-at : tie.Need-slice-relend-prefix-define-at
+slice-relend-prefix-define-at c = search needs
 
-slice-aggregate-define : tie.Need-slice-aggregate-define
-slice-aggregate-define c = names-length (c .before .before .before .before .pre .0)
+slice-aggregate-define-at : tie.Need-slice-aggregate-define-at
+slice-aggregate-define-at c = names-length (c .before .before .before .before .pre .0)
 
-define-requires : tie.Need-define-requires
-define-requires c κs =
+define-at-requires : tie.Need-define-at-requires
+define-at-requires c κs =
     let o = c .before .before .before .before in
     (record { rows = omega (arith, o .pre .1); long = names-room (o .pre .0) .long }, omega (arith, o .pre .2, c .before .narrow .ensures))
 
@@ -24,7 +24,7 @@ same-length c = search needs
 
 returns : tie.Need-returns
 returns c =
-    let d = c .before .before .define in
+    let d = c .before .before .define-at in
     defines (c .before .before .before .before .before .before .before .pre .0) (d .kept .1 .0)
     (c .before .before .before .before .narrow .ensures) (d .ensures)
 
@@ -33,8 +33,8 @@ define-name-spec =
     tie.close
     (tie.spec
     narrow-requires
-    slice-relend-prefix-define
-    slice-aggregate-define
-    define-requires
+    slice-relend-prefix-define-at
+    slice-aggregate-define-at
+    define-at-requires
     same-length
     returns)

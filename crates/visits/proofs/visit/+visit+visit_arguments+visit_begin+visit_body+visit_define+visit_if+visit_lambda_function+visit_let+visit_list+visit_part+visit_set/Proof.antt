@@ -1,0 +1,340 @@
+-- The proof of the cycle of calls.
+mod Base
+mod Visit
+mod VisitArguments
+mod VisitBegin
+mod VisitBody
+mod VisitDefine
+mod VisitIf
+mod VisitLambdaFunction
+mod VisitLet
+mod VisitList
+mod VisitPart
+mod VisitSet
+use Rattle.visits.proofs.visit.visit.Reads as visit
+use Rattle.visits.proofs.visit.+visit+visit_arguments+visit_begin+visit_body+visit_define+visit_if+visit_lambda_function+visit_let+visit_list+visit_part+visit_set.Lts-visit as visit-lts
+use Rattle.visits.proofs.visit.visit_arguments.Reads as visit-arguments
+use Rattle.visits.proofs.visit.+visit+visit_arguments+visit_begin+visit_body+visit_define+visit_if+visit_lambda_function+visit_let+visit_list+visit_part+visit_set.Lts-visit_arguments as visit-arguments-lts
+use Rattle.visits.proofs.visit.visit_begin.Reads as visit-begin
+use Rattle.visits.proofs.visit.+visit+visit_arguments+visit_begin+visit_body+visit_define+visit_if+visit_lambda_function+visit_let+visit_list+visit_part+visit_set.Lts-visit_begin as visit-begin-lts
+use Rattle.visits.proofs.visit.visit_body.Reads as visit-body
+use Rattle.visits.proofs.visit.+visit+visit_arguments+visit_begin+visit_body+visit_define+visit_if+visit_lambda_function+visit_let+visit_list+visit_part+visit_set.Lts-visit_body as visit-body-lts
+use Rattle.visits.proofs.visit.visit_define.Reads as visit-define
+use Rattle.visits.proofs.visit.+visit+visit_arguments+visit_begin+visit_body+visit_define+visit_if+visit_lambda_function+visit_let+visit_list+visit_part+visit_set.Lts-visit_define as visit-define-lts
+use Rattle.visits.proofs.visit.visit_if.Reads as visit-if
+use Rattle.visits.proofs.visit.+visit+visit_arguments+visit_begin+visit_body+visit_define+visit_if+visit_lambda_function+visit_let+visit_list+visit_part+visit_set.Lts-visit_if as visit-if-lts
+use Rattle.visits.proofs.visit.visit_lambda_function.Reads as visit-lambda-function
+use Rattle.visits.proofs.visit.+visit+visit_arguments+visit_begin+visit_body+visit_define+visit_if+visit_lambda_function+visit_let+visit_list+visit_part+visit_set.Lts-visit_lambda_function as visit-lambda-function-lts
+use Rattle.visits.proofs.visit.visit_let.Reads as visit-let
+use Rattle.visits.proofs.visit.+visit+visit_arguments+visit_begin+visit_body+visit_define+visit_if+visit_lambda_function+visit_let+visit_list+visit_part+visit_set.Lts-visit_let as visit-let-lts
+use Rattle.visits.proofs.visit.visit_list.Reads as visit-list
+use Rattle.visits.proofs.visit.+visit+visit_arguments+visit_begin+visit_body+visit_define+visit_if+visit_lambda_function+visit_let+visit_list+visit_part+visit_set.Lts-visit_list as visit-list-lts
+use Rattle.visits.proofs.visit.visit_part.Reads as visit-part
+use Rattle.visits.proofs.visit.+visit+visit_arguments+visit_begin+visit_body+visit_define+visit_if+visit_lambda_function+visit_let+visit_list+visit_part+visit_set.Lts-visit_part as visit-part-lts
+use Rattle.visits.proofs.visit.visit_set.Reads as visit-set
+use Rattle.visits.proofs.visit.+visit+visit_arguments+visit_begin+visit_body+visit_define+visit_if+visit_lambda_function+visit_let+visit_list+visit_part+visit_set.Lts-visit_set as visit-set-lts
+use Rattle.visits.proofs.visit.+visit+visit_arguments+visit_begin+visit_body+visit_define+visit_if+visit_lambda_function+visit_let+visit_list+visit_part+visit_set.{statement}
+use Rattle.visits.proofs.visit.+visit+visit_arguments+visit_begin+visit_body+visit_define+visit_if+visit_lambda_function+visit_let+visit_list+visit_part+visit_set.Tie.{close}
+use Base.{μ-visit, μ-visit-arguments, μ-visit-begin, μ-visit-body, μ-visit-define, μ-visit-if, μ-visit-lambda-function, μ-visit-let, μ-visit-list, μ-visit-part, μ-visit-set, visit-at, visit-calls, visit-arguments-at, visit-arguments-calls, visit-begin-at, visit-begin-calls, visit-body-at, visit-body-calls, visit-define-at, visit-define-calls, visit-if-at, visit-if-calls, visit-lambda-function-at, visit-lambda-function-calls, visit-let-at, visit-let-calls, visit-list-at, visit-list-calls, visit-part-at, visit-part-calls, visit-set-at, visit-set-calls}
+
+pub +visit+visit-arguments+visit-begin+visit-body+visit-define+visit-if+visit-lambda-function+visit-let+visit-list+visit-part+visit-set-spec : {M : Type 1} → statement M
++visit+visit-arguments+visit-begin+visit-body+visit-define+visit-if+visit-lambda-function+visit-let+visit-list+visit-part+visit-set-spec =
+    close
+    μ-visit
+    μ-visit-arguments
+    μ-visit-begin
+    μ-visit-body
+    μ-visit-define
+    μ-visit-if
+    μ-visit-lambda-function
+    μ-visit-let
+    μ-visit-list
+    μ-visit-part
+    μ-visit-set
+    (λ t. visit-lts.spec (visit-calls t) (visit-at t) visit.Post
+    (Visit.form-requires t)
+    (Visit.visit-atom-requires t)
+    (Visit.visit-if-requires t)
+    (Visit.visit-let-requires t)
+    (Visit.visit-define-requires t)
+    (Visit.visit-lambda-function-requires t)
+    (Visit.visit-begin-requires t)
+    (Visit.visit-list-requires t)
+    (Visit.visit-set-requires t)
+    (Visit.same-length t)
+    (Visit.same-length-2 t)
+    (Visit.same-length-3 t)
+    (Visit.returns t)
+    (Visit.same-length-4 t)
+    (Visit.same-length-5 t)
+    (Visit.same-length-6 t)
+    (Visit.same-length-7 t)
+    (Visit.returns-2 t)
+    (Visit.same-length-8 t)
+    (Visit.same-length-9 t)
+    (Visit.same-length-10 t)
+    (Visit.same-length-11 t)
+    (Visit.returns-3 t)
+    (Visit.same-length-12 t)
+    (Visit.same-length-13 t)
+    (Visit.same-length-14 t)
+    (Visit.same-length-15 t)
+    (Visit.returns-4 t)
+    (Visit.same-length-16 t)
+    (Visit.same-length-17 t)
+    (Visit.same-length-18 t)
+    (Visit.same-length-19 t)
+    (Visit.returns-5 t)
+    (Visit.same-length-20 t)
+    (Visit.same-length-21 t)
+    (Visit.same-length-22 t)
+    (Visit.same-length-23 t)
+    (Visit.returns-6 t)
+    (Visit.same-length-24 t)
+    (Visit.same-length-25 t)
+    (Visit.same-length-26 t)
+    (Visit.same-length-27 t)
+    (Visit.returns-7 t)
+    (Visit.same-length-28 t)
+    (Visit.same-length-29 t)
+    (Visit.same-length-30 t)
+    (Visit.same-length-31 t)
+    (Visit.returns-8 t)
+    (Visit.returns-9 t))
+    (λ t. visit-arguments-lts.spec (visit-arguments-calls t) (visit-arguments-at t) visit-arguments.Post
+    VisitArguments.Inv-loop
+    VisitArguments.μ-loop
+    (VisitArguments.loop-holds t)
+    (VisitArguments.mul-start t)
+    (VisitArguments.mul-visit-part t)
+    (VisitArguments.sub-visit-part t)
+    (VisitArguments.part-visit-part-start t)
+    (VisitArguments.part-visit-part-end t)
+    (VisitArguments.add-visit-part t)
+    (VisitArguments.visit-part-requires t)
+    (VisitArguments.add-used t)
+    (VisitArguments.next-requires t)
+    (VisitArguments.add-i t)
+    (VisitArguments.loop-less t)
+    (VisitArguments.loop-again t)
+    (VisitArguments.same-length t)
+    (VisitArguments.same-length-2 t)
+    (VisitArguments.same-length-3 t)
+    (VisitArguments.same-length-4 t)
+    (VisitArguments.returns t))
+    (λ t. visit-begin-lts.spec (visit-begin-calls t) (visit-begin-at t) visit-begin.Post
+    VisitBegin.Inv-loop
+    VisitBegin.μ-loop
+    (VisitBegin.count-requires t)
+    (VisitBegin.wide-requires t)
+    (VisitBegin.add-open-begin t)
+    (VisitBegin.open-begin-requires t)
+    (VisitBegin.loop-holds t)
+    (VisitBegin.mul-start t)
+    (VisitBegin.add-last t)
+    (VisitBegin.mul-visit-part t)
+    (VisitBegin.sub-visit-part t)
+    (VisitBegin.part-visit-part-start t)
+    (VisitBegin.part-visit-part-end t)
+    (VisitBegin.add-visit-part t)
+    (VisitBegin.part-requires t)
+    (VisitBegin.visit-part-requires t)
+    (VisitBegin.add-used t)
+    (VisitBegin.add-i t)
+    (VisitBegin.loop-less t)
+    (VisitBegin.loop-again t)
+    (VisitBegin.same-length t)
+    (VisitBegin.same-length-2 t)
+    (VisitBegin.same-length-3 t)
+    (VisitBegin.same-length-4 t)
+    (VisitBegin.returns t))
+    (λ t. visit-body-lts.spec (visit-body-calls t) (visit-body-at t) visit-body.Post
+    (VisitBody.form-requires t)
+    (VisitBody.visit-lambda-function-requires t)
+    (VisitBody.same-length t)
+    (VisitBody.same-length-2 t)
+    (VisitBody.same-length-3 t)
+    (VisitBody.same-length-4 t)
+    (VisitBody.returns t)
+    (VisitBody.visit-part-requires t)
+    (VisitBody.same-length-5 t)
+    (VisitBody.same-length-6 t)
+    (VisitBody.same-length-7 t)
+    (VisitBody.same-length-8 t)
+    (VisitBody.returns-2 t))
+    (λ t. visit-define-lts.spec (visit-define-calls t) (visit-define-at t) visit-define.Post
+    (VisitDefine.add-body-at t)
+    (VisitDefine.body-at-requires t)
+    (VisitDefine.context-requires t)
+    (VisitDefine.open-define-requires t)
+    (VisitDefine.sub-visit-part t)
+    (VisitDefine.part-visit-part-start t)
+    (VisitDefine.part-visit-part-end t)
+    (VisitDefine.add-visit-part t)
+    (VisitDefine.part-requires t)
+    (VisitDefine.visit-part-requires t)
+    (VisitDefine.close-define-requires t)
+    (VisitDefine.add-result t)
+    (VisitDefine.same-length t)
+    (VisitDefine.same-length-2 t)
+    (VisitDefine.same-length-3 t)
+    (VisitDefine.same-length-4 t)
+    (VisitDefine.returns t))
+    (λ t. visit-if-lts.spec (visit-if-calls t) (visit-if-at t) visit-if.Post
+    (VisitIf.same-tail-requires t)
+    (VisitIf.sub-visit-part t)
+    (VisitIf.part-visit-part-start t)
+    (VisitIf.part-visit-part-end t)
+    (VisitIf.add-visit-part t)
+    (VisitIf.not-tail-requires t)
+    (VisitIf.visit-part-requires t)
+    (VisitIf.add-i t)
+    (VisitIf.mul-start t)
+    (VisitIf.mul-visit-part t)
+    (VisitIf.sub-visit-part-2 t)
+    (VisitIf.part-visit-part-start-2 t)
+    (VisitIf.part-visit-part-end-2 t)
+    (VisitIf.add-visit-part-2 t)
+    (VisitIf.visit-part-requires-2 t)
+    (VisitIf.add-j t)
+    (VisitIf.mul-next t)
+    (VisitIf.mul-visit-part-2 t)
+    (VisitIf.sub-visit-part-3 t)
+    (VisitIf.part-visit-part-start-3 t)
+    (VisitIf.part-visit-part-end-3 t)
+    (VisitIf.add-visit-part-3 t)
+    (VisitIf.visit-part-requires-3 t)
+    (VisitIf.add-result t)
+    (VisitIf.same-length t)
+    (VisitIf.same-length-2 t)
+    (VisitIf.same-length-3 t)
+    (VisitIf.same-length-4 t)
+    (VisitIf.returns t))
+    (λ t. visit-lambda-function-lts.spec (visit-lambda-function-calls t) (visit-lambda-function-at t) visit-lambda-function.Post
+    (VisitLambdaFunction.count-requires t)
+    (VisitLambdaFunction.wide-requires t)
+    (VisitLambdaFunction.add-start t)
+    (VisitLambdaFunction.open-lambda-requires t)
+    (VisitLambdaFunction.mul-start t)
+    (VisitLambdaFunction.add-start-2 t)
+    (VisitLambdaFunction.add-first t)
+    (VisitLambdaFunction.add-first-2 t)
+    (VisitLambdaFunction.mul-visit-body t)
+    (VisitLambdaFunction.sub-visit-body t)
+    (VisitLambdaFunction.part-visit-body-start t)
+    (VisitLambdaFunction.part-visit-body-end t)
+    (VisitLambdaFunction.id-requires t)
+    (VisitLambdaFunction.part-requires t)
+    (VisitLambdaFunction.visit-body-requires t)
+    (VisitLambdaFunction.add-end t)
+    (VisitLambdaFunction.holds-lambda-requires t)
+    (VisitLambdaFunction.close-lambda-requires t)
+    (VisitLambdaFunction.add-result t)
+    (VisitLambdaFunction.add-result-2 t)
+    (VisitLambdaFunction.same-length t)
+    (VisitLambdaFunction.same-length-2 t)
+    (VisitLambdaFunction.same-length-3 t)
+    (VisitLambdaFunction.same-length-4 t)
+    (VisitLambdaFunction.returns t))
+    (λ t. visit-let-lts.spec (visit-let-calls t) (visit-let-at t) visit-let.Post
+    (VisitLet.count-requires t)
+    (VisitLet.wide-requires t)
+    (VisitLet.add-start t)
+    (VisitLet.depth-requires t)
+    (VisitLet.context-requires t)
+    (VisitLet.parts-requires t)
+    (VisitLet.mul-start t)
+    (VisitLet.add-start-2 t)
+    (VisitLet.set-context-requires t)
+    (VisitLet.mul-visit-arguments t)
+    (VisitLet.sub-visit-arguments t)
+    (VisitLet.part-visit-arguments-start t)
+    (VisitLet.part-visit-arguments-end t)
+    (VisitLet.add-visit-arguments t)
+    (VisitLet.add-visit-arguments-2 t)
+    (VisitLet.visit-arguments-requires t)
+    (VisitLet.set-context-requires-2 t)
+    (VisitLet.open-let-requires t)
+    (VisitLet.add-i t)
+    (VisitLet.add-i-2 t)
+    (VisitLet.mul-next t)
+    (VisitLet.mul-visit-part t)
+    (VisitLet.sub-visit-part t)
+    (VisitLet.part-visit-part-start t)
+    (VisitLet.part-visit-part-end t)
+    (VisitLet.add-visit-part t)
+    (VisitLet.visit-part-requires t)
+    (VisitLet.close-let-requires t)
+    (VisitLet.add-result t)
+    (VisitLet.same-length t)
+    (VisitLet.same-length-2 t)
+    (VisitLet.same-length-3 t)
+    (VisitLet.same-length-4 t)
+    (VisitLet.returns t))
+    (λ t. visit-list-lts.spec (visit-list-calls t) (visit-list-at t) visit-list.Post
+    (VisitList.count-requires t)
+    (VisitList.wide-requires t)
+    (VisitList.sub-k t)
+    (VisitList.add-extent-at t)
+    (VisitList.extent-at-requires t)
+    (VisitList.add-first t)
+    (VisitList.add-first-2 t)
+    (VisitList.add-form t)
+    (VisitList.form-requires t)
+    (VisitList.mul-start t)
+    (VisitList.add-start t)
+    (VisitList.mul-visit-arguments t)
+    (VisitList.sub-visit-arguments t)
+    (VisitList.part-visit-arguments-start t)
+    (VisitList.part-visit-arguments-end t)
+    (VisitList.argument-requires t)
+    (VisitList.visit-arguments-requires t)
+    (VisitList.sub-visit-part t)
+    (VisitList.part-visit-part-start t)
+    (VisitList.part-visit-part-end t)
+    (VisitList.add-visit-part t)
+    (VisitList.narrow-requires t)
+    (VisitList.head-requires t)
+    (VisitList.visit-part-requires t)
+    (VisitList.close-call-requires t)
+    (VisitList.add-result t)
+    (VisitList.add-result-2 t)
+    (VisitList.same-length t)
+    (VisitList.same-length-2 t)
+    (VisitList.same-length-3 t)
+    (VisitList.same-length-4 t)
+    (VisitList.returns t))
+    (λ t. visit-part-lts.spec (visit-part-calls t) (visit-part-at t) visit-part.Post
+    (VisitPart.form-requires t)
+    (VisitPart.visit-atom-requires t)
+    (VisitPart.same-length t)
+    (VisitPart.same-length-2 t)
+    (VisitPart.same-length-3 t)
+    (VisitPart.returns t)
+    (VisitPart.returns-2 t)
+    (VisitPart.visit-requires t)
+    (VisitPart.same-length-4 t)
+    (VisitPart.same-length-5 t)
+    (VisitPart.same-length-6 t)
+    (VisitPart.same-length-7 t)
+    (VisitPart.returns-3 t))
+    (λ t. visit-set-lts.spec (visit-set-calls t) (visit-set-at t) visit-set.Post
+    (VisitSet.add-open-set t)
+    (VisitSet.open-set-requires t)
+    (VisitSet.sub-visit-part t)
+    (VisitSet.part-visit-part-start t)
+    (VisitSet.part-visit-part-end t)
+    (VisitSet.add-visit-part t)
+    (VisitSet.part-requires t)
+    (VisitSet.visit-part-requires t)
+    (VisitSet.add-name t)
+    (VisitSet.name-requires t)
+    (VisitSet.close-set-requires t)
+    (VisitSet.add-visit-atom t)
+    (VisitSet.visit-atom-requires t)
+    (VisitSet.add-result t)
+    (VisitSet.same-length t)
+    (VisitSet.same-length-2 t)
+    (VisitSet.same-length-3 t)
+    (VisitSet.same-length-4 t)
+    (VisitSet.returns t))

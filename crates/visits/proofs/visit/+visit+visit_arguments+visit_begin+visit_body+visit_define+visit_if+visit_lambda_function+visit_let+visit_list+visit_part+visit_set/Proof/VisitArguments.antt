@@ -1,0 +1,125 @@
+-- The needs of `visit_arguments`.
+use Prim.Native.Nat.{ℕ, _+_, _-_, _*_, _≤_}
+use mathlib.Core.Path.{_≡_, refl, _∙_}
+use lib.ListN.{length}
+use Rattle.table.specs.Part.{part, part-length}
+use Rattle.flags.specs.declared.Part.the-variants.{Next as After}
+use Rattle.registers.specs.Registers.{held}
+use Rattle.visits.specs.Contract.{FitAll}
+use Rattle.visits.proofs.Bounds as bounds
+use Rattle.tree.specs.TreeLaws.{many-sizes}
+use Rattle.visits.proofs.Views.{handed}
+use Rattle.visits.proofs.ArgumentsCase.{Left, all-left, left-at, Next, next, next-long, next-height, next-fits, one-less, all-done}
+use borrow.Author.Needs.{needs}
+use native.Mathlib.Omega.{arith}
+use Rattle.visits.proofs.visit.+visit+visit_arguments+visit_begin+visit_body+visit_define+visit_if+visit_lambda_function+visit_let+visit_list+visit_part+visit_set.Lts-visit_arguments as lts
+use Rattle.visits.proofs.visit.visit_arguments.Reads as reads
+use Rattle.visits.proofs.visit.+visit+visit_arguments+visit_begin+visit_body+visit_define+visit_if+visit_lambda_function+visit_let+visit_list+visit_part+visit_set.Proof.Base.{visit-arguments-at, visit-arguments-calls}
+
+abbrev pub Inv-loop : lts.InvT-loop
+Inv-loop classes all rs k at r₀ facts₀ captured₀ arguments₀ work₀ g₀ used₀ i₀ r facts captured arguments work g used i =
+    (i ≤ k)
+    × (length facts ≡ length facts₀) × (length captured ≡ length captured₀) × (length arguments ≡ length arguments₀) × (length work ≡ length work₀)
+    × ((x : FitAll classes all rs k at g₀ (held r₀ facts₀ captured₀ arguments₀ work₀)) → Left x used (k - i) g (held r facts captured arguments work))
+
+abbrev pub μ-loop : lts.MeasureT-loop
+μ-loop classes all rs k at r₀ facts₀ captured₀ arguments₀ work₀ g₀ used₀ i₀ r facts captured arguments work g used i = k - i
+
+module _ (t : ℕ) where
+  abbrev begun : lts.At-loop (visit-arguments-calls t) (visit-arguments-at t) reads.Post Inv-loop μ-loop → lts.Start (visit-arguments-calls t) (visit-arguments-at t) reads.Post Inv-loop μ-loop
+  begun c = c .before .before .before .before .before .before .before .before
+
+  abbrev turning : lts.After-visit-part (visit-arguments-calls t) (visit-arguments-at t) reads.Post Inv-loop μ-loop → lts.In-loop (visit-arguments-calls t) (visit-arguments-at t) reads.Post Inv-loop μ-loop
+  turning c = c .before .before .before .before .before .before .before
+
+  here : (c : lts.In-loop (visit-arguments-calls t) (visit-arguments-at t) reads.Post Inv-loop μ-loop) → let b = c .before in
+      let l = b .loop in
+      Next (begun b .pre .1) (l .used) (begun b .args .k - l .i) (l .g) (held (l .r) (l .facts) (l .captured) (l .arguments) (l .work))
+  here c = let b = c .before in next (b .loop .inv .5 (begun b .pre .1)) (omega (arith, c .loop-test .taken))
+
+  pub loop-holds : lts.Need-loop-holds (visit-arguments-calls t) (visit-arguments-at t) reads.Post Inv-loop μ-loop
+  loop-holds c = (omega arith, refl, refl, refl, refl, all-left)
+
+  pub mul-start : lts.Need-mul-start (visit-arguments-calls t) (visit-arguments-at t) reads.Post Inv-loop μ-loop
+  mul-start c = omega (arith, next-long (here c), bounds.all (begun (c .before) .pre .1))
+
+  pub mul-visit-part : lts.Need-mul-visit-part (visit-arguments-calls t) (visit-arguments-at t) reads.Post Inv-loop μ-loop
+  mul-visit-part c = omega (arith, next-long (here c), bounds.all (begun (c .before) .pre .1))
+
+  pub sub-visit-part : lts.Need-sub-visit-part (visit-arguments-calls t) (visit-arguments-at t) reads.Post Inv-loop μ-loop
+  sub-visit-part c = omega (arith, next-long (here c), bounds.all (begun (c .before) .pre .1))
+
+  pub part-visit-part-start : lts.Need-part-visit-part-start (visit-arguments-calls t) (visit-arguments-at t) reads.Post Inv-loop μ-loop
+  part-visit-part-start c = omega (arith, next-long (here c), bounds.all (begun (c .before) .pre .1))
+
+  pub part-visit-part-end : lts.Need-part-visit-part-end (visit-arguments-calls t) (visit-arguments-at t) reads.Post Inv-loop μ-loop
+  part-visit-part-end c = search needs
+
+  pub add-visit-part : lts.Need-add-visit-part (visit-arguments-calls t) (visit-arguments-at t) reads.Post Inv-loop μ-loop
+  add-visit-part c = let n = c .before in omega (arith, next-long (here n), bounds.all (begun (n .before) .pre .1))
+
+  pub visit-part-requires : lts.Need-visit-part-requires (visit-arguments-calls t) (visit-arguments-at t) reads.Post Inv-loop μ-loop
+  visit-part-requires c κs =
+      let n = c .before .before .before .before .before .before in
+      let b = n .before in
+      let o = begun b in
+      let rs = o .args .rs .now in
+      let i = b .loop .used in (
+        omega (arith, o .pre .0, next-long (here n), bounds.all (o .pre .1), part-length rs (6 * i)),
+        next-fits (here n) (part rs (6 * i)),
+      )
+
+  pub add-used : lts.Need-add-used (visit-arguments-calls t) (visit-arguments-at t) reads.Post Inv-loop μ-loop
+  add-used c =
+      let v = c .before .before .before .before .before .before .before .before in
+      let n = turning v in
+      let b = n .before in
+      omega (arith, bounds.used (next-fits (here n) (part (begun b .args .rs .now) (6 * b .loop .used))) (v .visit-part .ensures))
+
+  pub next-requires : lts.Need-next-requires (visit-arguments-calls t) (visit-arguments-at t) reads.Post Inv-loop μ-loop
+  next-requires c κs = next-height (here (c .before .before .before .before .before .before .before .before .before .before .before .before .before .before .before))
+
+  pub add-i : lts.Need-add-i (visit-arguments-calls t) (visit-arguments-at t) reads.Post Inv-loop μ-loop
+  add-i c =
+      let n = c .before .before .before .before .before .before .before .before .before .before .before .before .before .before .before .before in
+      let x = begun (n .before) .pre .1 in
+      omega (arith, n .loop-test .taken, bounds.all x, many-sizes (x .ts), x .count)
+
+  pub loop-less : lts.Need-loop-less (visit-arguments-calls t) (visit-arguments-at t) reads.Post Inv-loop μ-loop
+  loop-less c = search needs
+
+  pub loop-again : lts.Need-loop-again (visit-arguments-calls t) (visit-arguments-at t) reads.Post Inv-loop μ-loop
+  loop-again c =
+      let v = c .before .before .before .before .before .before .before .before .before in
+      let n = turning v in
+      let b = n .before in
+      let l = b .loop in
+      let k = v .visit-part .kept .1 .1 .1 .1 .1 .1 in
+      let m = begun b .args .k in
+      let e : m - l .i - 1 ≡ m - (l .i + 1) = omega arith in (
+        omega (arith, n .loop-test .taken),
+        k .0 ∙ l .inv .1,
+        k .1 .0 ∙ l .inv .2,
+        k .1 .1 .0 ∙ l .inv .3,
+        k .1 .1 .1 .0 ∙ l .inv .4,
+        λ x. left-at e (one-less (next (l .inv .5 x) (omega (arith, n .loop-test .taken))) (part (begun b .args .rs .now) (6 * l .used)) (v .visit-part .ensures)
+            (handed After (l .g) (c .next .ensures))),
+      )
+
+  pub same-length : lts.Need-same-length (visit-arguments-calls t) (visit-arguments-at t) reads.Post Inv-loop μ-loop
+  same-length c = search needs
+
+  pub same-length-2 : lts.Need-same-length-2 (visit-arguments-calls t) (visit-arguments-at t) reads.Post Inv-loop μ-loop
+  same-length-2 c = search needs
+
+  pub same-length-3 : lts.Need-same-length-3 (visit-arguments-calls t) (visit-arguments-at t) reads.Post Inv-loop μ-loop
+  same-length-3 c = search needs
+
+  pub same-length-4 : lts.Need-same-length-4 (visit-arguments-calls t) (visit-arguments-at t) reads.Post Inv-loop μ-loop
+  same-length-4 c = search needs
+
+  pub returns : lts.Need-returns (visit-arguments-calls t) (visit-arguments-at t) reads.Post Inv-loop μ-loop
+  returns c =
+      let b = c .before in
+      let e : begun b .args .k - b .loop .i ≡ 0 = omega (arith, c .loop-test .left) in
+      all-done (λ x. left-at e (b .loop .inv .5 x))

@@ -1,0 +1,148 @@
+-- The needs of `visit_define`.
+use Prim.Native.Nat.{ℕ, _+_, _≤_}
+use mathlib.Core.Path.{_∙_}
+use Rattle.tree.specs.Tree.{size}
+use Rattle.table.specs.Part.{part, part-length}
+use Rattle.registers.specs.Registers.{held}
+use Rattle.visits.specs.Contract.{Done}
+use Rattle.visits.proofs.Bounds as bounds
+use Rattle.visits.proofs.DefineCase.{define-long, body-stands, begins-fit, body-fits, ends-fit, context-told, define-done}
+use borrow.Author.Needs.{needs}
+use native.Mathlib.Omega.{arith}
+use Rattle.visits.proofs.visit.+visit+visit_arguments+visit_begin+visit_body+visit_define+visit_if+visit_lambda_function+visit_let+visit_list+visit_part+visit_set.Lts-visit_define as lts
+use Rattle.visits.proofs.visit.visit_define.Reads as reads
+use Rattle.visits.proofs.visit.+visit+visit_arguments+visit_begin+visit_body+visit_define+visit_if+visit_lambda_function+visit_let+visit_list+visit_part+visit_set.Proof.Base.{visit-define-at, visit-define-calls}
+
+module _ (t : ℕ) where
+  -- the places that are looked back to, each from the one after it
+
+  abbrev to-start : lts.After-body-at (visit-define-calls t) (visit-define-at t) reads.Post → lts.Start (visit-define-calls t) (visit-define-at t) reads.Post
+  to-start c = c .before .before .before .before .before .before .before .before
+
+  abbrev to-body-at : lts.After-context (visit-define-calls t) (visit-define-at t) reads.Post → lts.After-body-at (visit-define-calls t) (visit-define-at t) reads.Post
+  to-body-at c = c .before .before
+
+  abbrev to-context : lts.After-open-define (visit-define-calls t) (visit-define-at t) reads.Post → lts.After-context (visit-define-calls t) (visit-define-at t) reads.Post
+  to-context c = c .before .before .before .before
+
+  abbrev to-open-define : lts.After-part (visit-define-calls t) (visit-define-at t) reads.Post → lts.After-open-define (visit-define-calls t) (visit-define-at t) reads.Post
+  to-open-define c = c .before .before .before .before .before .before
+
+  abbrev to-define-body : lts.After-visit-part (visit-define-calls t) (visit-define-at t) reads.Post → lts.After-part (visit-define-calls t) (visit-define-at t) reads.Post
+  to-define-body c = c .before .before .before .before .before .before
+
+  abbrev to-visit : lts.After-close-define (visit-define-calls t) (visit-define-at t) reads.Post → lts.After-visit-part (visit-define-calls t) (visit-define-at t) reads.Post
+  to-visit c = c .before .before .before .before .before .before .before .before .before .before .before .before
+
+  first : (c : lts.Start (visit-define-calls t) (visit-define-at t) reads.Post) → 3 ≤ size (c .pre .1 .0 .t)
+  first c = define-long (c .pre .1 .1) (c .pre .1 .0)
+
+  done : (c : lts.After-close-define (visit-define-calls t) (visit-define-at t) reads.Post) →
+      let visit = to-visit c in
+      let define-body = to-define-body visit in
+      let open-define = to-open-define define-body in
+      let body-at = to-body-at (to-context open-define) in
+      let start = to-start body-at in
+      Done (start .args .classes .now) (start .args .all .now) (start .args .rs .now) (start .args .at) (start .args .f)
+      (held (start .args .r .now) (start .args .facts .now) (start .args .captured .now) (start .args .arguments .now) (start .args .work .now))
+      (2 + visit .visit-part .result)
+      (held (c .close-define .last .1 .1 .1 .1 .1 .0) (c .close-define .last .1 .1 .1 .1 .1 .1 .0) (visit .visit-part .last .1 .1 .1 .1 .1 .1 .1 .0) (visit .visit-part .last .1 .1 .1 .1 .1 .1 .1 .1 .0) (c .close-define .last .1 .1 .1 .1 .1 .1 .1 .0))
+  done c =
+      let visit = to-visit c in
+      let define-body = to-define-body visit in
+      let open-define = to-open-define define-body in
+      let context = to-context open-define in
+      let body-at = to-body-at context in
+      let start = to-start body-at in
+      define-done (start .pre .1 .1) (body-at .body-at .ensures) (open-define .open-define .ensures) (define-body .part .ensures)
+      (part (start .args .rs .now) 12) (visit .visit-part .ensures) (context-told (context .context .ensures) (c .close-define .ensures))
+
+  pub add-body-at : lts.Need-add-body-at (visit-define-calls t) (visit-define-at t) reads.Post
+  add-body-at c = search needs
+
+  pub body-at-requires : lts.Need-body-at-requires (visit-define-calls t) (visit-define-at t) reads.Post
+  body-at-requires c κs =
+      let start = c .before .before .before .before .before .before .before in
+      body-stands (start .pre .1 .1) (start .pre .1 .0)
+
+  pub context-requires : lts.Need-context-requires (visit-define-calls t) (visit-define-at t) reads.Post
+  context-requires c κs = search needs
+
+  pub open-define-requires : lts.Need-open-define-requires (visit-define-calls t) (visit-define-at t) reads.Post
+  open-define-requires c κs =
+      let start = to-start (to-body-at (c .before .before .before)) in
+      begins-fit (start .pre .1 .1) (start .pre .1 .0)
+
+  pub sub-visit-part : lts.Need-sub-visit-part (visit-define-calls t) (visit-define-at t) reads.Post
+  sub-visit-part c =
+      let start = to-start (to-body-at (to-context (c .before .before .before .before))) in
+      omega (arith, first start, bounds.whole (start .pre .1 .0))
+
+  pub part-visit-part-start : lts.Need-part-visit-part-start (visit-define-calls t) (visit-define-at t) reads.Post
+  part-visit-part-start c =
+      let start = to-start (to-body-at (to-context (c .before .before .before .before))) in
+      omega (arith, first start, bounds.whole (start .pre .1 .0))
+
+  pub part-visit-part-end : lts.Need-part-visit-part-end (visit-define-calls t) (visit-define-at t) reads.Post
+  part-visit-part-end c = search needs
+
+  pub add-visit-part : lts.Need-add-visit-part (visit-define-calls t) (visit-define-at t) reads.Post
+  add-visit-part c =
+      let start = to-start (to-body-at (to-context (c .before .before .before .before .before))) in
+      omega (arith, first start, bounds.whole (start .pre .1 .0))
+
+  pub part-requires : lts.Need-part-requires (visit-define-calls t) (visit-define-at t) reads.Post
+  part-requires c κs = search needs
+
+  pub visit-part-requires : lts.Need-visit-part-requires (visit-define-calls t) (visit-define-at t) reads.Post
+  visit-part-requires c κs =
+      let define-body = c .before .before .before .before .before in
+      let open-define = to-open-define define-body in
+      let body-at = to-body-at (to-context open-define) in
+      let start = to-start body-at in
+      let rs = start .args .rs .now in
+      let x = start .pre .1 .0 in (
+        omega (arith, start .pre .0, first start, bounds.whole x, part-length rs 12),
+        body-fits (start .pre .1 .1) (body-at .body-at .ensures) (open-define .open-define .ensures) (define-body .part .ensures) (part rs 12) x,
+      )
+
+  pub close-define-requires : lts.Need-close-define-requires (visit-define-calls t) (visit-define-at t) reads.Post
+  close-define-requires c κs =
+      let visit = c .before .before .before .before .before .before .before .before .before .before .before in
+      let define-body = to-define-body visit in
+      let open-define = to-open-define define-body in
+      let body-at = to-body-at (to-context open-define) in
+      let start = to-start body-at in
+      ends-fit (start .pre .1 .1) (body-at .body-at .ensures) (open-define .open-define .ensures) (define-body .part .ensures)
+      (part (start .args .rs .now) 12) (visit .visit-part .ensures) (start .pre .1 .0)
+
+  pub add-result : lts.Need-add-result (visit-define-calls t) (visit-define-at t) reads.Post
+  add-result c =
+      let close-define = c .before .before .before .before in
+      let start = to-start (to-body-at (to-context (to-open-define (to-define-body (to-visit close-define))))) in
+      omega (arith, bounds.used (start .pre .1 .0) (done close-define))
+
+  pub same-length : lts.Need-same-length (visit-define-calls t) (visit-define-at t) reads.Post
+  same-length c =
+      let close-define = c .before .before .before .before in
+      let visit = to-visit close-define in
+      close-define .close-define .kept .1 .1 .1 .1 .1 .1 .0
+      ∙ visit .visit-part .kept .1 .1 .1 .1 .1 .1 .0
+      ∙ to-open-define (to-define-body visit) .open-define .kept .1 .1 .1 .1 .1 .0
+
+  pub same-length-2 : lts.Need-same-length-2 (visit-define-calls t) (visit-define-at t) reads.Post
+  same-length-2 c = search needs
+
+  pub same-length-3 : lts.Need-same-length-3 (visit-define-calls t) (visit-define-at t) reads.Post
+  same-length-3 c = search needs
+
+  pub same-length-4 : lts.Need-same-length-4 (visit-define-calls t) (visit-define-at t) reads.Post
+  same-length-4 c =
+      let close-define = c .before .before .before .before in
+      let visit = to-visit close-define in
+      close-define .close-define .kept .1 .1 .1 .1 .1 .1 .1 .0
+      ∙ visit .visit-part .kept .1 .1 .1 .1 .1 .1 .1 .1 .1 .0
+      ∙ to-open-define (to-define-body visit) .open-define .kept .1 .1 .1 .1 .1 .1 .0
+
+  pub returns : lts.Need-returns (visit-define-calls t) (visit-define-at t) reads.Post
+  returns c = done (c .before .before .before .before)

@@ -1,0 +1,220 @@
+-- The needs of `visit_list`.
+use Prim.Native.Nat.{ℕ, suc, _+_, _-_, _*_, _≤_}
+use mathlib.Core.Path.{_≡_, subst, _∙_}
+use lib.Dec.{eqb}
+use Rattle.table.specs.Part.{part, part-length}
+use Rattle.tree.specs.RecordLaws.{nth}
+use Rattle.tree.specs.Tree.{size}
+use Rattle.pass.specs.Visit.{argumentFlags}
+use Rattle.flags.specs.Flags.{Handed, HandsHead}
+use Rattle.flags.specs.declared.Part.the-variants.{Argument, Head}
+use Rattle.visits.proofs.Views.{part-after, handed}
+use Rattle.visits.proofs.Bounds as bounds
+use Rattle.visits.proofs.CallCase.{form-lambda, call-long, operator-stands, operator-long, operands-fit, operator-fits, call-fits, call-done}
+use borrow.Author.Needs.{needs}
+use native.Mathlib.Omega.{arith}
+use Rattle.visits.proofs.visit.+visit+visit_arguments+visit_begin+visit_body+visit_define+visit_if+visit_lambda_function+visit_let+visit_list+visit_part+visit_set.Lts-visit_list as lts
+use Rattle.visits.proofs.visit.visit_list.Reads as reads
+use Rattle.visits.proofs.visit.+visit+visit_arguments+visit_begin+visit_body+visit_define+visit_if+visit_lambda_function+visit_let+visit_list+visit_part+visit_set.Proof.Base.{visit-list-at, visit-list-calls}
+
+module _ (t : ℕ) where
+  -- the places that are looked back to, each from the one after it
+
+  abbrev entry : lts.After-wide (visit-list-calls t) (visit-list-at t) reads.Post → lts.Start (visit-list-calls t) (visit-list-at t) reads.Post
+  entry c = c .before .before .before .before .before .before .before .before .before
+
+  abbrev counted : lts.After-extent-at (visit-list-calls t) (visit-list-at t) reads.Post → lts.After-wide (visit-list-calls t) (visit-list-at t) reads.Post
+  counted c = c .before
+
+  abbrev measured : lts.After-form (visit-list-calls t) (visit-list-at t) reads.Post → lts.After-extent-at (visit-list-calls t) (visit-list-at t) reads.Post
+  measured c = c .before
+
+  abbrev formed : lts.After-argument (visit-list-calls t) (visit-list-at t) reads.Post → lts.After-form (visit-list-calls t) (visit-list-at t) reads.Post
+  formed c = c .before .before
+
+  abbrev flagged : lts.After-visit-arguments (visit-list-calls t) (visit-list-at t) reads.Post → lts.After-argument (visit-list-calls t) (visit-list-at t) reads.Post
+  flagged c = c .before .before .before .before .before .before
+
+  abbrev visited : lts.After-head (visit-list-calls t) (visit-list-at t) reads.Post → lts.After-visit-arguments (visit-list-calls t) (visit-list-at t) reads.Post
+  visited c = c .before .before .before .before .before .before .before .before .before .before .before
+
+  abbrev headed : lts.After-visit-part (visit-list-calls t) (visit-list-at t) reads.Post → lts.After-head (visit-list-calls t) (visit-list-at t) reads.Post
+  headed c = c .before .before .before .before .before .before
+
+  abbrev inside : lts.After-close-call (visit-list-calls t) (visit-list-at t) reads.Post → lts.After-visit-part (visit-list-calls t) (visit-list-at t) reads.Post
+  inside c = c .before .before .before .before .before .before .before .before .before .before .before .before
+
+  abbrev start : lts.After-argument (visit-list-calls t) (visit-list-at t) reads.Post → lts.Start (visit-list-calls t) (visit-list-at t) reads.Post
+  start c = entry (counted (measured (formed c)))
+
+  many : (c : lts.After-wide (visit-list-calls t) (visit-list-at t) reads.Post) → suc (c .wide .result - 1) ≡ nth (entry c .args .all .now) (entry c .args .at) .count
+  many c = let o = entry c in omega (arith, c .wide .ensures, c .before .count .ensures, call-long (o .pre .1 .1) (o .pre .1 .0) .2)
+
+  reach : (c : lts.After-extent-at (visit-list-calls t) (visit-list-at t) reads.Post) → 1 + c .extent-at .result ≤ size (entry (counted c) .pre .1 .0 .t)
+  reach c = let o = entry (counted c) in operator-long (o .pre .1 .1) (c .extent-at .ensures) (o .pre .1 .0)
+
+  -- what the arguments are handed
+  operand : (c : lts.After-argument (visit-list-calls t) (visit-list-at t) reads.Post) → Handed (start c .args .f) argumentFlags (c .argument .result)
+  operand c = handed Argument (start c .args .f) (c .argument .ensures)
+
+  -- what the head is handed
+  operator : (c : lts.After-head (visit-list-calls t) (visit-list-at t) reads.Post)
+      → let a = flagged (visited c) in
+      HandsHead (start a .args .f) (eqb (formed a .form .result) 6) (counted (measured (formed a)) .wide .result - 1) (c .head .result)
+  operator c =
+      let a = flagged (visited c) in
+      let b = eqb (formed a .form .result) 6 in
+      subst (λ (j : ℕ). HandsHead (start a .args .f) b j (c .head .result)) (c .before .narrow .ensures) (handed (Head b (c .before .narrow .result)) (start a .args .f) (c .head .ensures))
+
+  pub count-requires : lts.Need-count-requires (visit-list-calls t) (visit-list-at t) reads.Post
+  count-requires c κs = let x = c .before .before .before .before .before .before .before .pre .1 .0 in omega (arith, bounds.whole x, bounds.some x)
+
+  pub wide-requires : lts.Need-wide-requires (visit-list-calls t) (visit-list-at t) reads.Post
+  wide-requires c κs = search needs
+
+  pub sub-k : lts.Need-sub-k (visit-list-calls t) (visit-list-at t) reads.Post
+  sub-k c = omega (arith, many c)
+
+  pub add-extent-at : lts.Need-add-extent-at (visit-list-calls t) (visit-list-at t) reads.Post
+  add-extent-at c = search needs
+
+  pub extent-at-requires : lts.Need-extent-at-requires (visit-list-calls t) (visit-list-at t) reads.Post
+  extent-at-requires c κs = let o = entry c in operator-stands (o .pre .1 .1) (o .pre .1 .0)
+
+  pub add-first : lts.Need-add-first (visit-list-calls t) (visit-list-at t) reads.Post
+  add-first c = search needs
+
+  pub add-first-2 : lts.Need-add-first-2 (visit-list-calls t) (visit-list-at t) reads.Post
+  add-first-2 c = omega (arith, reach c, bounds.whole (entry (counted c) .pre .1 .0))
+
+  pub add-form : lts.Need-add-form (visit-list-calls t) (visit-list-at t) reads.Post
+  add-form c = let o = entry (counted c) in let x = o .pre .1 .0 in omega (arith, call-long (o .pre .1 .1) x .0, bounds.whole x)
+
+  pub form-requires : lts.Need-form-requires (visit-list-calls t) (visit-list-at t) reads.Post
+  form-requires c κs = let o = entry (counted c) in let x = o .pre .1 .0 in omega (arith, call-long (o .pre .1 .1) x .0, bounds.whole x)
+
+  pub mul-start : lts.Need-mul-start (visit-list-calls t) (visit-list-at t) reads.Post
+  mul-start c = let m = measured c in omega (arith, reach m, bounds.whole (entry (counted m) .pre .1 .0))
+
+  pub add-start : lts.Need-add-start (visit-list-calls t) (visit-list-at t) reads.Post
+  add-start c = let m = measured c in omega (arith, reach m, bounds.whole (entry (counted m) .pre .1 .0))
+
+  pub mul-visit-arguments : lts.Need-mul-visit-arguments (visit-list-calls t) (visit-list-at t) reads.Post
+  mul-visit-arguments c = let m = measured c in omega (arith, reach m, bounds.whole (entry (counted m) .pre .1 .0))
+
+  pub sub-visit-arguments : lts.Need-sub-visit-arguments (visit-list-calls t) (visit-list-at t) reads.Post
+  sub-visit-arguments c = let m = measured c in omega (arith, reach m, bounds.whole (entry (counted m) .pre .1 .0))
+
+  pub part-visit-arguments-start : lts.Need-part-visit-arguments-start (visit-list-calls t) (visit-list-at t) reads.Post
+  part-visit-arguments-start c = let m = measured c in omega (arith, reach m, bounds.whole (entry (counted m) .pre .1 .0))
+
+  pub part-visit-arguments-end : lts.Need-part-visit-arguments-end (visit-list-calls t) (visit-list-at t) reads.Post
+  part-visit-arguments-end c = search needs
+
+  pub argument-requires : lts.Need-argument-requires (visit-list-calls t) (visit-list-at t) reads.Post
+  argument-requires c κs = search needs
+
+  pub visit-arguments-requires : lts.Need-visit-arguments-requires (visit-list-calls t) (visit-list-at t) reads.Post
+  visit-arguments-requires c κs = let h = c .before .before .before .before .before in
+      let m = measured (formed h) in
+      let o = start h in
+      let rs = o .args .rs .now in
+      let x = o .pre .1 .0 in
+      let k = m .extent-at .result in (
+        omega (arith, o .pre .0, reach m, bounds.whole x, part-length rs (6 + 6 * k)),
+        operands-fit (o .pre .1 .1) (many (counted m)) (m .extent-at .ensures) (operand h) (part-after rs k) x,
+      )
+
+  pub sub-visit-part : lts.Need-sub-visit-part (visit-list-calls t) (visit-list-at t) reads.Post
+  sub-visit-part c = let o = start (flagged (c .before .before .before .before .before .before .before .before)) in let x = o .pre .1 .0 in omega (arith, call-long (o .pre .1 .1) x .0, bounds.whole x)
+
+  pub part-visit-part-start : lts.Need-part-visit-part-start (visit-list-calls t) (visit-list-at t) reads.Post
+  part-visit-part-start c = let o = start (flagged (c .before .before .before .before .before .before .before .before)) in let x = o .pre .1 .0 in omega (arith, call-long (o .pre .1 .1) x .0, bounds.whole x)
+
+  pub part-visit-part-end : lts.Need-part-visit-part-end (visit-list-calls t) (visit-list-at t) reads.Post
+  part-visit-part-end c = search needs
+
+  pub add-visit-part : lts.Need-add-visit-part (visit-list-calls t) (visit-list-at t) reads.Post
+  add-visit-part c = let o = start (flagged (c .before .before .before .before .before .before .before .before .before)) in let x = o .pre .1 .0 in omega (arith, call-long (o .pre .1 .1) x .0, bounds.whole x)
+
+  pub narrow-requires : lts.Need-narrow-requires (visit-list-calls t) (visit-list-at t) reads.Post
+  narrow-requires c κs = let w = counted (measured (formed (flagged (c .before .before .before .before .before .before .before .before .before)))) in
+      let o = entry w in
+      let x = o .pre .1 .0 in
+      omega (arith, w .wide .ensures, w .before .count .ensures, call-long (o .pre .1 .1) x .1, x .fits .ample .height)
+
+  pub head-requires : lts.Need-head-requires (visit-list-calls t) (visit-list-at t) reads.Post
+  head-requires c κs = let w = counted (measured (formed (flagged (c .before .before .before .before .before .before .before .before .before .before)))) in
+      let o = entry w in
+      let x = o .pre .1 .0 in
+      omega (arith, c .narrow .ensures, w .wide .ensures, w .before .count .ensures, call-long (o .pre .1 .1) x .1, x .flags .height, x .fits .ample .height)
+
+  pub visit-part-requires : lts.Need-visit-part-requires (visit-list-calls t) (visit-list-at t) reads.Post
+  visit-part-requires c κs = let d = c .before .before .before .before .before in
+      let a = visited d in
+      let h = flagged a in
+      let m = measured (formed h) in
+      let o = start h in
+      let rs = o .args .rs .now in
+      let x = o .pre .1 .0 in (
+        omega (arith, o .pre .0, call-long (o .pre .1 .1) x .0, bounds.whole x, part-length rs 6),
+        operator-fits (o .pre .1 .1) (many (counted m)) (m .extent-at .ensures) (operand h) (part-after rs (m .extent-at .result))
+            (a .visit-arguments .ensures) (form-lambda (formed h .form .ensures)) (operator d) (part rs 6) x,
+      )
+
+  pub close-call-requires : lts.Need-close-call-requires (visit-list-calls t) (visit-list-at t) reads.Post
+  close-call-requires c κs = let v = c .before .before .before .before .before .before .before .before .before .before .before in
+      let d = headed v in
+      let a = visited d in
+      let h = flagged a in
+      let m = measured (formed h) in
+      let o = start h in
+      let rs = o .args .rs .now in
+      call-fits (o .pre .1 .1) (many (counted m)) (m .extent-at .ensures) (operand h) (part-after rs (m .extent-at .result))
+      (a .visit-arguments .ensures) (form-lambda (formed h .form .ensures)) (operator d) (part rs 6) (v .visit-part .ensures) (o .pre .1 .0)
+
+  pub add-result : lts.Need-add-result (visit-list-calls t) (visit-list-at t) reads.Post
+  add-result c = let a = visited (headed (c .before .before .before .before .before .before .before .before .before .before .before .before .before .before)) in
+      let h = flagged a in
+      let m = measured (formed h) in
+      let o = start h in
+      let rs = o .args .rs .now in
+      let x = o .pre .1 .0 in
+      let all = operands-fit (o .pre .1 .1) (many (counted m)) (m .extent-at .ensures) (operand h) (part-after rs (m .extent-at .result)) x in
+      omega (arith, reach m, bounds.whole x, bounds.used-all all (a .visit-arguments .ensures))
+
+  pub add-result-2 : lts.Need-add-result-2 (visit-list-calls t) (visit-list-at t) reads.Post
+  add-result-2 c = let a = visited (headed (c .before .before .before .before .before .before .before .before .before .before .before .before .before .before)) in
+      let h = flagged a in
+      let m = measured (formed h) in
+      let o = start h in
+      let rs = o .args .rs .now in
+      let x = o .pre .1 .0 in
+      let all = operands-fit (o .pre .1 .1) (many (counted m)) (m .extent-at .ensures) (operand h) (part-after rs (m .extent-at .result)) x in
+      omega (arith, reach m, bounds.whole x, bounds.used-all all (a .visit-arguments .ensures))
+
+  pub same-length : lts.Need-same-length (visit-list-calls t) (visit-list-at t) reads.Post
+  same-length c = let e = c .before .before in
+      let v = inside e in
+      e .close-call .kept .1 .1 .1 .1 .1 .1 .1 .0 ∙ v .visit-part .kept .1 .1 .1 .1 .1 .1 .0 ∙ visited (headed v) .visit-arguments .kept .1 .1 .1 .1 .1 .1 .1 .0
+
+  pub same-length-2 : lts.Need-same-length-2 (visit-list-calls t) (visit-list-at t) reads.Post
+  same-length-2 c = let v = c .before .before .before .before .before .before .before .before .before .before .before .before .before .before in v .visit-part .kept .1 .1 .1 .1 .1 .1 .1 .0 ∙ visited (headed v) .visit-arguments .kept .1 .1 .1 .1 .1 .1 .1 .1 .0
+
+  pub same-length-3 : lts.Need-same-length-3 (visit-list-calls t) (visit-list-at t) reads.Post
+  same-length-3 c = let v = c .before .before .before .before .before .before .before .before .before .before .before .before .before .before in v .visit-part .kept .1 .1 .1 .1 .1 .1 .1 .1 .0 ∙ visited (headed v) .visit-arguments .kept .1 .1 .1 .1 .1 .1 .1 .1 .1 .0
+
+  pub same-length-4 : lts.Need-same-length-4 (visit-list-calls t) (visit-list-at t) reads.Post
+  same-length-4 c = let v = c .before .before .before .before .before .before .before .before .before .before .before .before .before .before in v .visit-part .kept .1 .1 .1 .1 .1 .1 .1 .1 .1 .0 ∙ visited (headed v) .visit-arguments .kept .1 .1 .1 .1 .1 .1 .1 .1 .1 .1 .0
+
+  pub returns : lts.Need-returns (visit-list-calls t) (visit-list-at t) reads.Post
+  returns c = let e = c .before .before in
+      let v = inside e in
+      let d = headed v in
+      let a = visited d in
+      let h = flagged a in
+      let m = measured (formed h) in
+      let o = start h in
+      let rs = o .args .rs .now in
+      call-done (o .pre .1 .1) (many (counted m)) (m .extent-at .ensures) (operand h) (part-after rs (m .extent-at .result))
+      (a .visit-arguments .ensures) (form-lambda (formed h .form .ensures)) (operator d) (part rs 6) (v .visit-part .ensures) (e .close-call .ensures)
