@@ -119,18 +119,32 @@ fn nesting_has_a_limit() {
     }
 }
 
+/// Lambdas of ten parameters and lets in one another, so deep that the innermost call's arguments have this nesting. The call reads sixty
+/// of more than 256 names, and ids fall: a captured list is sorted while all are open.
+fn lambdas_and_lets(nesting: usize) -> Script {
+    let names = |n: usize| (0..10).map(|k| format!(" a{n}_{k}")).collect::<String>();
+    let opening = |n: usize| if n % 2 == 1 { format!("(lambda ({}) ", names(n)) } else { format!("(let ((b{n} 1)) ") };
+    let opened: String = (1..nesting - 1).map(opening).collect();
+    let read: String = (1..12).step_by(2).map(names).collect();
+    let mut script = Script::read(&format!("{opened}({read}){}", ")".repeat(nesting - 2)));
+    let ids = script.records.chunks_exact_mut(RECORD_WIDTH).map(|record| &mut record[1]);
+    ids.filter(|id| **id != 0).for_each(|id| *id = u32::MAX - *id);
+    script
+}
+
 #[test]
-fn the_deepest_script_runs_on_the_stack_that_is_promised() {
+fn the_deepest_scripts_run_on_the_stack_that_is_promised() {
     let mut room = Room::new();
-    let script = lets(DEEPEST);
-    let classes = script.classes();
-    for run in Run::BOTH {
-        let (records, tables) = (&script.records, room.tables());
-        thread::scope(|scope| {
-            let small = thread::Builder::new().stack_size(STACK);
-            let done = small.spawn_scoped(scope, || run.of(records, &classes, tables).is_ok());
-            assert!(done.expect("a thread").join().expect("no panic"));
-        });
+    for script in [lets(DEEPEST), lambdas_and_lets(DEEPEST)] {
+        let classes = script.classes();
+        for run in Run::BOTH {
+            let (records, tables) = (&script.records, room.tables());
+            thread::scope(|scope| {
+                let small = thread::Builder::new().stack_size(STACK);
+                let done = small.spawn_scoped(scope, || run.of(records, &classes, tables).is_ok());
+                assert!(done.expect("a thread").join().expect("no panic"));
+            });
+        }
     }
 }
 
