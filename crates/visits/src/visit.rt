@@ -64,7 +64,7 @@ pub fn visit(
     }
 }
 
-// A part of an expression. Most parts are identifiers and constants: they need no call of `visit`.
+// A part of an expression. Many parts are identifiers and constants: they need no call of `visit`.
 fn visit_part(
     classes: &[u8],
     all: &[u32],
