@@ -6,7 +6,7 @@ use native.Mathlib.Omega.{arith}
 use borrow.Author.Tests.{ne-eqb, le-leb, lt-leb}
 use lib.Dec.{eqb, leb}
 use Rattle.tree.specs.Form.{formOf, namesOf, othersOf, childrenOf, idFits}
-use Rattle.tree.specs.Field.{hasIdIn, nameBelowIn, countMostIn, dueMost}
+use Rattle.tree.specs.Field.{hasIdIn, nameBelowIn, countMostIn}
 use Rattle.tree.specs.Entry.{entryOf, entriesOf}
 use Rattle.tree.proofs.Forms.{unknown, by-form}
 
@@ -51,16 +51,9 @@ pub count-few : (f : ℕ) → entryOf 0xf0111010000 f ≤ 1
 unfolding entryOf
 count-few f = by-form (λ n. entryOf 0xf0111010000 n ≤ 1) (omega arith) (λ n h. rw (entry-unknown 0xf0111010000 n h) (omega arith)) f
 
--- the upper part of the name's entry is 1 for an identifier alone
-pub due-entry : (f : ℕ) → entryOf 0xf1111111241 f / 4 * 255 ≡ dueMost f
-unfolding entryOf dueMost
-due-entry f =
-    by-form (λ n. entryOf 0xf1111111241 n / 4 * 255 ≡ dueMost n) (omega arith)
-    (λ n h. rw (entry-unknown 0xf1111111241 n h, ne-eqb n 1 (λ e. omega arith))) f
-
 -- The id: its entry is 1 or 0
 
-abbrev bit : Bool → ℕ
+abbrev pub bit : Bool → ℕ
 bit true = 1
 bit false = 0
 
@@ -72,7 +65,7 @@ zero-only : (i : ℕ) → leb i 0 ≡ eqb i 0
 zero-only zero = refl
 zero-only (suc i) = lt-leb (suc i) 0 (omega arith) ∙ sym (ne-eqb (suc i) 0 (λ e. omega arith))
 
-as-bit : (b : Bool) (i : ℕ) → leb (bit b) i && leb i (bit b * 4294967294) ≡ idFits b i
+pub as-bit : (b : Bool) (i : ℕ) → leb (bit b) i && leb i (bit b * 4294967294) ≡ idFits b i
 as-bit true i = refl
 as-bit false i = rw (le-leb 0 i (omega arith)) (zero-only i)
 

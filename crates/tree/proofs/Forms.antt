@@ -6,12 +6,12 @@ use mathlib.Core.Option.{none}
 use mathlib.Core.Path.{_≡_, refl, ap, sym, _∙_}
 use native.Mathlib.Omega.{arith}
 use native.Mathlib.Decide.{decLe, decLt}
-use borrow.Author.Tests.{ne-eqb, le-leb, lt-leb}
+use borrow.Author.Tests.{le-leb, lt-leb}
 use lib.ListN.{length, getElem?}
 use lib.Dec.{T, leb}
 use Rattle.tree.specs.Record.{Record}
 use Rattle.tree.specs.Form.{Form, forms, formOf, namesOf, othersOf, childrenOf, fits}
-use Rattle.tree.specs.Field.{isForm, dueMost}
+use Rattle.tree.specs.Field.{isForm}
 use Rattle.tree.specs.Build.{mostIn, row}
 use Rattle.tree.proofs.Table.{Each, each}
 
@@ -38,7 +38,7 @@ true-of true t = refl
 true-of false t = absurd t
 
 -- the forms are the numbers 1 to 9
-is-form : (f : ℕ) → 1 ≤ f → f ≤ 9 → isForm (formOf f) ≡ true
+pub is-form : (f : ℕ) → 1 ≤ f → f ≤ 9 → isForm (formOf f) ≡ true
 unfolding formOf
 is-form f h g = true-of _ (by-form (λ n. 1 ≤ n → n ≤ 9 → T (isForm (formOf n))) (omega arith) (λ n a b c. absurd (omega arith)) f h g)
 
@@ -52,6 +52,11 @@ at-most f e (no g) = absurd (true≢false (sym e ∙ ap isForm (unknown f (omega
 
 pub known-most : (f : ℕ) → isForm (formOf f) ≡ true → f ≤ 9
 known-most f e = at-most f e (decLe f 9)
+
+pub known-least : (f : ℕ) → isForm (formOf f) ≡ true → 1 ≤ f
+unfolding formOf
+known-least zero e = absurd (true≢false (sym e))
+known-least (suc f) e = omega arith
 
 pub known : (f : ℕ) → 1 ≤ f → leb f 9 ≡ isForm (formOf f)
 known f h = from-one f h (decLe f 9)
@@ -72,10 +77,6 @@ children-at {f = f} {c} e p q h = (e ∙ rw (p, q), omega (arith, e, few-childre
 pub few-names : (f c : ℕ) → namesOf f c ≤ c + 1
 unfolding formOf namesOf
 few-names f c = by-form (λ n. namesOf n c ≤ c + 1) (omega arith) (λ n h. rw (unknown n h) (omega arith)) f
-
-pub few-due : (f : ℕ) → dueMost f ≤ 255
-unfolding dueMost
-few-due f = by-form (λ n. dueMost n ≤ 255) (omega arith) (λ n h. rw (ne-eqb n 1 (λ e. omega arith)) (omega arith)) f
 
 counted-names : (f c : ℕ) → c ≤ mostIn (formOf f) → namesOf f c ≤ 255
 unfolding formOf namesOf

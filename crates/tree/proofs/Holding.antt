@@ -1,37 +1,42 @@
--- The tables of the open records: a record takes a place, and is open.
+-- The open records in their tables: a record takes a place, and is open.
 use Prim.Native.Nat.{ℕ, suc, _+_, _-_, _≤_, _<_}
 use mathlib.Core.List.{List, [], _∷_}
-use mathlib.Core.Path.{_≡_, refl, ap, sym, subst, _∙_}
+use mathlib.Core.Bool.{Bool, true, false, cond}
+use mathlib.Core.Path.{_≡_, refl, sym, subst, _∙_}
 use native.Mathlib.Omega.{arith}
 use native.Mathlib.Decide.{decLt}
+use borrow.Author.Tests.{eqb-true, eqb-false}
+use lib.Dec.{eqb}
 use lib.ListN.{length, getD, set, length-set}
 use lib.Seq.{getD-set-same, getD-set-other}
 use Rattle.tree.specs.Place.{Open, closed, taken}
-use Rattle.tree.specs.Held.{toCome, Live, Kept, Held, Takes, Opens}
-use Rattle.tree.proofs.Places.{closed-done, closed-open, by-closing, taken-one}
+use Rattle.tree.specs.declared.sweep.Innermost.{Innermost}
+use Rattle.tree.specs.Held.{toCome, Held, Inner, Grounded, Steps}
+use Rattle.tree.proofs.Places.{closed-done, closed-open, by-closing, taken-one, taken-length}
 
-module _ (left level : List ℕ) where
-  few : (o : Open) (s : List Open) (p : ℕ) → Held left level (o ∷ s) p → ((q : ℕ) → Held left level s q → q ≤ length s) → Dec (0 < toCome o) → p ≤ length (o ∷ s)
+module _ (lefts levels : List ℕ) where
+  few : (o : Open) (s : List Open) (p : ℕ) → Held lefts levels (o ∷ s) p → ((q : ℕ) → Held lefts levels s q → q ≤ length s) → Dec (0 < toCome o) → p ≤ length (o ∷ s)
   few o s p h f (yes g) = omega (arith, f (p - 1) (h .1 g .1))
   few o s p h f (no g) = omega (arith, f p (h .0 (omega arith)))
 
   -- no more are kept than are open
-  pub held-few : (s : List Open) (p : ℕ) → Held left level s p → p ≤ length s
+  held-few : (s : List Open) (p : ℕ) → Held lefts levels s p → p ≤ length s
   held-few [] p h = omega (arith, h)
   held-few (o ∷ s) p h = few o s p h (λ q. held-few s q) (decLt 0 (toCome o))
 
-  -- the innermost's nesting
-  pub held-level : (s : List Open) (p : ℕ) → Live s → Held left level s p → getD level 0 0 ≡ 0 → getD level p 0 ≡ length s
-  held-level [] p g h z = rw h z
-  held-level (o ∷ s) p g h z = h .1 g .0 .at
+  pub inner-few : (s : List Open) {a : Innermost} → Inner lefts levels s a → a .under ≤ length s
+  inner-few [] u = held-few [] _ (u .under)
+  inner-few (o ∷ s) u = omega (arith, held-few s _ (u .under))
 
-  -- where none is kept, none is open
-  pub held-none : (s : List Open) (p : ℕ) → Live s → Held left level s p → p ≡ 0 → length s ≡ 0
-  held-none [] p g h z = refl
-  held-none (o ∷ s) p g h z = absurd (omega (arith, h .1 g .0 .some))
-
-  held-closed : (s : List Open) (p : ℕ) → Held left level s p → Held left level (closed s) p
-  held-closed s p = by-closing (λ s t. Held left level s p → Held left level t p) (λ h. h) (λ o s e f h. f (h .0 e)) (λ o s g h. h) s
+  -- what is kept at p is the innermost of those that are left
+  module _ (g : Grounded lefts levels) where
+    outer : (s : List Open) (p : ℕ) {b : Innermost} → b .left ≡ getD lefts p 0 → b .level ≡ getD levels p 0 → b .under ≡ p - 1 → Held lefts levels s p → Inner lefts levels (closed s) b
+    outer s p {b} el ev eu =
+        by-closing (λ s t. Held lefts levels s p → Inner lefts levels t b)
+        (λ h. record { toCome = el ∙ rw h (g .none); at = ev ∙ rw h (g .top); under = omega arith })
+        (λ o s e f h. f (h .0 e))
+        (λ o s z h. let k = h .1 z in record { toCome = el ∙ k .0 .toCome; at = ev ∙ k .0 .at; under = rw eu (k .1) })
+        s
 
 -- up to place p two tables are the same
 abbrev Same : List ℕ → List ℕ → ℕ → Type 0
@@ -51,93 +56,94 @@ module _ (left level left′ level′ : List ℕ) where
     ),
   )
 
--- at place 0 none is to come, so one that was the last stood above
-above : (left : List ℕ) (p : ℕ) → getD left p 0 ≡ 1 → getD left 0 0 ≡ 0 → Dec (0 < p) → 0 < p
-above left p e g (yes y) = y
-above left p e g (no y) = let z : p ≡ 0 = omega arith in absurd (omega (arith, ap (λ (q : ℕ). getD left q 0) z))
+-- what is picked, where the record has no children or not, and took the last place or not
+pub record Picked (lefts levels : List ℕ) (a : Innermost) (nesting children rest : ℕ) (leaf done : Bool) (b : Innermost) : Type 0 where
+  pub left : b .left ≡ cond leaf (cond done (getD lefts (a .under) 0) rest) children
+  pub level : b .level ≡ cond leaf (cond done (getD levels (a .under) 0) (a .level)) nesting
+  pub under : b .under ≡ cond leaf (cond done (a .under - 1) (a .under)) (cond done (a .under) (a .under + 1))
 
-pub last-above : (left : List ℕ) (p many : ℕ) → many ≡ getD left p 0 → getD left 0 0 ≡ 0 → many ≡ 1 → 0 < p
-last-above left p many m g z = above left p (sym m ∙ z) g (decLt 0 p)
+module _ (lefts levels : List ℕ) (a : Innermost) (rest : ℕ) (er : rest ≡ a .left - 1) (g : Grounded lefts levels) (small : a .under < 64) where
+  abbrev lefts′ : List ℕ
+  lefts′ = set lefts (a .under + 1) rest
 
--- the innermost at p has so many children to come
-module _ (left : List ℕ) (p many rest : ℕ) (h : p < length left) (m : many ≡ getD left p 0) (e : rest ≡ many - 1) where
-  -- what is kept beneath the innermost stays
-  beneath : (level : List ℕ) (s : List Open) {n l : ℕ} → Kept left level n l p → Held left level s (p - 1) → Held (set left p rest) level s (p - 1)
-  beneath level s k u = held-same left level (set left p rest) level s (p - 1) (same-set left p rest (p - 1) (omega (arith, k .some))) (λ j v. refl) u
+  abbrev levels′ : List ℕ
+  levels′ = set levels (a .under + 1) (a .level)
 
-  last-taken : many ≡ 1 → 0 < p → (level : List ℕ) (s : List Open) → Live s → Held left level s p → Held (set left p rest) level (taken s) (p - 1)
-  last-taken z y level [] g u = absurd (omega (arith, u))
-  last-taken z y level (o ∷ s) g u =
-      let k = u .1 g .0 in (
-        λ d. beneath level s k (u .1 g .1),
-        λ d. absurd (omega (arith, taken-one (o .names) (o .others), k .toCome)),
-      )
+  same-left : Same lefts lefts′ (a .under)
+  same-left = same-set lefts (a .under + 1) rest (a .under) (omega arith)
 
-  one-taken : (many ≡ 1 → ⊥) → (level : List ℕ) (s : List Open) → Live s → Held left level s p → Held (set left p rest) level (taken s) p
-  one-taken z level [] g u = u
-  one-taken z level (o ∷ s) g u =
-      let k = u .1 g .0 in (
-        λ d. absurd (omega (arith, taken-one (o .names) (o .others), k .toCome)),
-        λ d. (
-          record {
-            some = k .some;
-            toCome = getD-set-same left p rest 0 h ∙ omega (arith, taken-one (o .names) (o .others), k .toCome);
-            at = k .at;
-          },
-          beneath level s k (u .1 g .1),
-        ),
-      )
+  same-level : Same levels levels′ (a .under)
+  same-level = same-set levels (a .under + 1) (a .level) (a .under) (omega arith)
 
-  module _ (long : length left ≡ 65) (ground : getD left 0 0 ≡ 0) where
-    ground-stays : Dec (0 < p) → getD (set left p rest) 0 0 ≡ 0
-    ground-stays (yes y) = getD-set-other left p 0 rest 0 (λ z. omega arith) ∙ ground
-    ground-stays (no y) =
-        let z : p ≡ 0 = omega arith in
-        ap (λ (q : ℕ). getD (set left q rest) 0 0) z ∙ getD-set-same left 0 rest 0 (omega arith) ∙ omega (arith, ap (λ (q : ℕ). getD left q 0) z)
-
-    takes : (q : ℕ) → ((level : List ℕ) (s : List Open) → Live s → Held left level s p → Held (set left p rest) level (taken s) q) → Takes left p (set left p rest) q
-    takes q f = record { long = length-set left p rest ∙ long; ground = ground-stays (decLt 0 p); is = f }
-
-    pub takes-last : many ≡ 1 → Takes left p (set left p rest) (p - 1)
-    takes-last z = takes (p - 1) (last-taken z (last-above left p many m ground z))
-
-    pub takes-one : (many ≡ 1 → ⊥) → Takes left p (set left p rest) p
-    takes-one z = takes p (one-taken z)
-
-module _ (left level : List ℕ) (p nesting children : ℕ) (long : length left ≡ 65) (levels : length level ≡ 65) where
-  abbrev left′ : List ℕ
-  left′ = set left (p + 1) children
-
-  abbrev level′ : List ℕ
-  level′ = set level (p + 1) nesting
-
-  under : (s : List Open) → Held left level s p → Held left′ level′ s p
-  under s u = held-same left level left′ level′ s p (same-set left (p + 1) children p (omega arith)) (same-set level (p + 1) nesting p (omega arith)) u
-
-  opens : (q : ℕ) → ((s : List Open) (o : Open) → Held left level s p → nesting ≡ suc (length s) → children ≡ toCome o → Held left′ level′ (closed (o ∷ s)) q) → Opens left level p nesting children left′ level′ q
-  opens q f = record {
-    long = length-set left (p + 1) children ∙ long;
-    levels = length-set level (p + 1) nesting ∙ levels;
-    ground = same-set left (p + 1) children p (omega arith) 0 (omega arith);
-    top-level = same-set level (p + 1) nesting p (omega arith) 0 (omega arith);
-    is = f;
+  grounded : Grounded lefts′ levels′
+  grounded = record {
+    long = length-set lefts (a .under + 1) rest ∙ g .long;
+    high = length-set levels (a .under + 1) (a .level) ∙ g .high;
+    none = same-left 0 (omega arith) ∙ g .none;
+    top = same-level 0 (omega arith) ∙ g .top;
   }
 
-  pub opens-none : children ≡ 0 → Opens left level p nesting children left′ level′ p
-  opens-none z = opens p (λ s o u en ec.
-      subst (λ (t : List Open). Held left′ level′ t p) (sym (closed-done o s (sym ec ∙ z))) (held-closed left′ level′ s p (under s u)))
+  under-same : (s : List Open) → Held lefts levels s (a .under) → Held lefts′ levels′ s (a .under)
+  under-same s = held-same lefts levels lefts′ levels′ s (a .under) same-left same-level
 
-  pub opens-one : p < 64 → 0 < children → Opens left level p nesting children left′ level′ (p + 1)
-  opens-one h z = opens (p + 1) (λ s o u en ec.
-      let b : p ≡ p + 1 - 1 = omega arith in
-      subst (λ (t : List Open). Held left′ level′ t (p + 1)) (sym (closed-open o s (omega arith))) (
-        λ d. absurd (omega arith),
+  -- the last place is taken: the innermost has no child to come
+  last-taken : rest ≡ 0 → (s : List Open) → Inner lefts levels s a → Held lefts′ levels′ (taken s) (a .under)
+  last-taken z [] u = u .under
+  last-taken z (o ∷ s) u = (λ d. under-same s (u .under), λ d. absurd (omega (arith, taken-one (o .names) (o .others), u .toCome)))
+
+  -- there are more: it is kept above the others, or stays by itself
+  more-kept : 0 < rest → (s : List Open) → Inner lefts levels s a → Held lefts′ levels′ (taken s) (a .under + 1)
+  more-kept z [] u = absurd (omega (arith, u .toCome))
+  more-kept z (o ∷ s) u =
+      let b : a .under ≡ a .under + 1 - 1 = omega arith in
+      let t = taken-one (o .names) (o .others) in (
+        λ d. absurd (omega (arith, u .toCome)),
         λ d. (
           record {
             some = omega arith;
-            toCome = getD-set-same left (p + 1) children 0 (omega arith) ∙ ec;
-            at = getD-set-same level (p + 1) nesting 0 (omega arith) ∙ en;
+            toCome = getD-set-same lefts (a .under + 1) rest 0 (omega (arith, g .long)) ∙ omega (arith, u .toCome);
+            at = getD-set-same levels (a .under + 1) (a .level) 0 (omega (arith, g .high)) ∙ u .at;
           },
-          subst (Held left′ level′ s) b (under s u),
+          subst (Held lefts′ levels′ s) b (under-same s (u .under)),
         ),
-      ))
+      )
+
+  more-stays : 0 < rest → (s : List Open) → Inner lefts levels s a → {b : Innermost} → b .left ≡ rest → b .level ≡ a .level → b .under ≡ a .under → Inner lefts′ levels′ (closed (taken s)) b
+  more-stays z [] u el ev eu = absurd (omega (arith, u .toCome))
+  more-stays z (o ∷ s) u {b} el ev eu =
+      let t = taken-one (o .names) (o .others) in
+      subst (λ (t : List Open). Inner lefts′ levels′ t b) (sym (closed-open _ s (omega (arith, u .toCome))))
+      (record { toCome = omega (arith, u .toCome); at = ev ∙ u .at; under = rw eu (under-same s (u .under)) })
+
+  module _ (nesting children : ℕ) (b : Innermost) where
+    abbrev After : Type 0
+    After = (s : List Open) (o : Open) → Inner lefts levels s a → nesting ≡ suc (length s) → children ≡ toCome o → Inner lefts′ levels′ (closed (o ∷ taken s)) b
+
+    -- the record is open itself
+    opened : 0 < children → {p : ℕ} → ((s : List Open) → Inner lefts levels s a → Held lefts′ levels′ (taken s) p) → b .left ≡ children → b .level ≡ nesting → b .under ≡ p → After
+    opened z f el ev eu s o u en ec =
+        subst (λ (t : List Open). Inner lefts′ levels′ t b) (sym (closed-open o (taken s) (omega arith)))
+        (record { toCome = el ∙ ec; at = omega (arith, taken-length s); under = rw eu (f s u) })
+
+    -- it is not
+    passed : children ≡ 0 → ((s : List Open) → Inner lefts levels s a → Inner lefts′ levels′ (closed (taken s)) b) → After
+    passed z f s o u en ec = subst (λ (t : List Open). Inner lefts′ levels′ t b) (sym (closed-done o (taken s) (sym ec ∙ z))) (f s u)
+
+    by-picking : (leaf done : Bool) → eqb children 0 ≡ leaf → eqb rest 0 ≡ done → Picked lefts levels a nesting children rest leaf done b → After
+    by-picking true true e f k =
+        let z = eqb-true rest 0 f in
+        passed (eqb-true children 0 e) (λ s u.
+        outer lefts′ levels′ grounded (taken s) (a .under) (k .left ∙ sym (same-left _ (omega arith))) (k .level ∙ sym (same-level _ (omega arith))) (k .under) (last-taken z s u))
+    by-picking true false e f k =
+        let z = eqb-false rest 0 f in
+        passed (eqb-true children 0 e) (λ s u. more-stays (omega arith) s u (k .left) (k .level) (k .under))
+    by-picking false true e f k =
+        let y = eqb-false children 0 e in
+        opened (omega arith) (last-taken (eqb-true rest 0 f)) (k .left) (k .level) (k .under)
+    by-picking false false e f k =
+        let y = eqb-false children 0 e in
+        let z = eqb-false rest 0 f in
+        opened (omega arith) (more-kept (omega arith)) (k .left) (k .level) (k .under)
+
+    pub steps : Picked lefts levels a nesting children rest (eqb children 0) (eqb rest 0) b → Steps lefts levels a nesting children lefts′ levels′ b
+    steps k = record { ground = grounded; is = by-picking (eqb children 0) (eqb rest 0) refl refl k }

@@ -1,6 +1,8 @@
 pub mod Table
 pub mod Forms
 pub mod Entries
+pub mod Telling
+pub mod Limiting
 pub mod Search
 pub mod Places
 pub mod Missing

@@ -12,7 +12,7 @@ use lib.ListN.{length, drop}
 use Rattle.tree.specs.Record.{Record, records}
 use Rattle.tree.specs.RecordLaws.{blank, nth}
 use Rattle.tree.specs.Form.{formOf, namesOf, othersOf}
-use Rattle.tree.specs.Held.{toCome}
+use Rattle.tree.specs.Held.{toCome, below}
 use Rattle.tree.specs.Place.{Open, closed, takeOne, taken, after, Placed, isNamePlace, placed}
 use Rattle.tree.specs.First.{on, first}
 use Rattle.tree.specs.FirstLaws.{on-zero, first-hit, first-next, first-none}
@@ -27,14 +27,10 @@ abbrev Quiet : List Open → Type 0
 Quiet [] = Unit {0}
 Quiet (o ∷ s) = (o .names ≡ 0) × Quiet s
 
--- the innermost one's names to come, and the others
+-- the innermost one's names to come
 abbrev due : List Open → ℕ
 due [] = 0
 due (o ∷ s) = o .names
-
-abbrev below : List Open → List Open
-below [] = []
-below (o ∷ s) = s
 
 closed-quiet : (s : List Open) → Quiet s → Quiet (closed s)
 closed-quiet = by-closing (λ s t. Quiet s → Quiet t) (λ q. q) (λ o s h p q. p (q .1)) (λ o s h q. q)

@@ -1,25 +1,23 @@
 -- Checks 3 to 7 in one pass: none of them applies so far.
 use Prim.Native.Nat.{ℕ, _+_, _-_, _≤_, _<_}
 use mathlib.Core.List.{List}
-use mathlib.Core.Bool.{false, not, true≢false}
+use mathlib.Core.Bool.{not}
 use mathlib.Core.Path.{_≡_, ap, sym}
 use native.Mathlib.Omega.{arith}
 use native.Mathlib.Decide.{decLt}
 use borrow.Author.Tests.{not-false}
-use lib.ListN.{length, getD, replicate}
+use lib.ListN.{length, replicate}
 use Rattle.tree.specs.Record.{Record, records}
 use Rattle.tree.specs.RecordLaws.{nth}
 use Rattle.tree.specs.Form.{namesOf, childrenOf}
-use Rattle.tree.specs.Held.{Takes, Opens}
+use Rattle.tree.specs.declared.sweep.Innermost.{Innermost}
+use Rattle.tree.specs.Held.{Steps}
 use Rattle.tree.specs.Check.{check3, check7}
-use Rattle.tree.specs.Clear.{Tells, Sound, Clear}
+use Rattle.tree.specs.Clear.{Sound, Clear}
 use Rattle.tree.proofs.Forms.{fit-names}
 use Rattle.tree.proofs.Search.{outside, emptyCall, At, begin, next, fails, end}
 use Rattle.tree.proofs.Naming.{Naming, no-children, naming-begin, naming-next, none-due, none-misnamed}
 use Rattle.tree.proofs.Standing.{Standing, stand-begin, stand-next, stand-near, stand-shallow, stand-none, stand-whole}
-
-pub tells-no : {P : Type 0} → (P → ⊥) → Tells false P
-tells-no n = record { yes = λ f. absurd (true≢false (sym f)); all = λ p. absurd (n p) }
 
 -- a name that is due has no names, so no more are due than a record brings
 few-after : (N : ℕ) (r : Record) (due : ℕ) → Sound N r due → due ≤ 255 → Dec (0 < due) → due - 1 + namesOf (r .form) (r .count) ≤ 255
@@ -27,28 +25,28 @@ few-after N r due u h (yes z) = omega (arith, no-children r (u .named z))
 few-after N r due u h (no z) = omega (arith, fit-names N r (u .fit))
 
 -- the loop has come to record i
-pub record Sweeping (N : ℕ) (rs left level : List ℕ) (top due i : ℕ) : Type 0 where
+pub record Sweeping (N : ℕ) (rs lefts levels : List ℕ) (inner : Innermost) (due i : ℕ) : Type 0 where
   pub fields : At (outside N) rs i
   pub calls : At emptyCall rs i
   pub names : Naming rs i due
   pub few : due ≤ 255
-  pub places : Standing rs left level i top
+  pub places : Standing rs lefts levels inner i
 
-pub sweep-begin : (N : ℕ) (rs : List ℕ) → Sweeping N rs (replicate 65 0) (replicate 65 0) 0 0 0
+pub sweep-begin : (N : ℕ) (rs : List ℕ) → Sweeping N rs (replicate 65 0) (replicate 65 0) (record { left = 0; level = 0; under = 0 }) 0 0
 sweep-begin N rs = record { fields = begin (outside N) rs; calls = begin emptyCall rs; names = naming-begin rs; few = omega arith; places = stand-begin rs }
 
-module _ {N : ℕ} {rs left level : List ℕ} {top due i : ℕ} (a : Sweeping N rs left level top due i) where
+module _ {N : ℕ} {rs lefts levels : List ℕ} {b : Innermost} {due i : ℕ} (a : Sweeping N rs lefts levels b due i) where
   module _ (h : i < length (records rs)) (u : Sound N (nth rs i) due) {due′ : ℕ} (ed : due′ ≡ due - 1 + namesOf (nth rs i .form) (nth rs i .count)) where
-    pub sweep-next : {nesting over children top′ : ℕ} {left′ left″ level″ : List ℕ} → nesting ≡ getD level top 0 + 1 → nesting ≤ 64 → Takes left top left′ over → Opens left′ level over nesting children left″ level″ top′ → children ≡ childrenOf (nth rs i .form) (nth rs i .count) → Sweeping N rs left″ level″ top′ due′ (i + 1)
-    sweep-next en small t o ec = record {
+    pub sweep-next : {nesting children : ℕ} {lefts′ levels′ : List ℕ} {d : Innermost} → nesting ≡ b .level + 1 → nesting ≤ 64 → Steps lefts levels b nesting children lefts′ levels′ d → children ≡ childrenOf (nth rs i .form) (nth rs i .count) → Sweeping N rs lefts′ levels′ d due′ (i + 1)
+    sweep-next en small t ec = record {
       fields = next (outside N) rs (a .fields) h (ap not (u .fit));
       calls = next emptyCall rs (a .calls) h (u .called);
       names = naming-next (a .names) h due′ (u .named) ed;
       few = omega (arith, ed, few-after N (nth rs i) due u (a .few) (decLt 0 due));
-      places = stand-next (a .places) h en small t o ec;
+      places = stand-next (a .places) h en small t ec;
     }
 
-  pub sweep-end : length (records rs) ≤ i → top ≡ 0 → Clear N rs
+  pub sweep-end : length (records rs) ≤ i → b .left ≡ 0 → Clear N rs
   unfolding check3 check7
   sweep-end h z = record {
     fields = sym (end (outside N) rs (a .fields) h);
@@ -68,8 +66,8 @@ module _ {N : ℕ} {rs left level : List ℕ} {top due i : ℕ} (a : Sweeping N 
       named = λ z. none-due (a .names) h z N (k .names);
     }
 
-    pub clear-near : i < length (records rs) → getD level top 0 + 1 ≤ 64
+    pub clear-near : i < length (records rs) → b .level + 1 ≤ 64
     clear-near h = stand-near (a .places) h N (k .nesting)
 
-    pub clear-none : length (records rs) ≤ i → top ≡ 0
+    pub clear-none : length (records rs) ≤ i → b .left ≡ 0
     clear-none h = stand-none (a .places) h N (k .children)

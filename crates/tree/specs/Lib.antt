@@ -20,6 +20,7 @@ pub mod Found
 pub mod Seen
 pub mod Chain
 pub mod Walked
+pub mod Limits
 pub mod Held
 pub mod Clear
 pub mod Order

@@ -5,7 +5,7 @@ ghost use Prim.Native.Nat.{_≤_};
 ghost use lib.Dec.{leb, ltb};
 ghost use Rattle.tree.specs.Form.{formOf, namesOf, childrenOf, idFits};
 ghost use Rattle.tree.specs.Entry.{entryOf, partsOf, entriesOf};
-ghost use Rattle.tree.specs.Field.{isForm, hasIdIn, nameBelowIn, countMostIn, dueMost};
+ghost use Rattle.tree.specs.Field.{isForm, hasIdIn, nameBelowIn, countMostIn};
 use table::wide;
 
 const FORMS: u32 = 9;
@@ -123,11 +123,4 @@ pub fn count_fits(form: u32, count: u32) -> bool
     ensures { λ r. ⌜ r ≡ leb count (countMostIn (formOf form)) ⌝ }
 {
     wide(count) <= most(form)
-}
-
-// How many names may be due where a record of the form stands.
-pub fn may_be_due(form: u32) -> usize
-    ensures { λ r. ⌜ r ≡ dueMost form ⌝ }
-{
-    entry(NAME, form) / 4 * MOST_COUNT
 }

@@ -10,6 +10,7 @@ use scan::Found;
 
 pub mod form;
 mod ids;
+mod limits;
 mod nest;
 pub mod record;
 mod scan;

@@ -1,0 +1,56 @@
+-- `parts`: the two numbers of the record's form.
+use borrow.Author.Needs.{needs}
+use native.Mathlib.Omega.{arith}
+use Prim.Native.Nat.{_+_, _*_}
+use mathlib.Core.Path.{_≡_}
+use Rattle.tree.specs.RecordLaws.{nth}
+use Rattle.tree.specs.Limits.{partsAt}
+use Rattle.tree.proofs.limits.parts.Statement.{statement}
+use Rattle.tree.proofs.limits.parts.Tie as tie
+
+sum : (c : tie.After-wide) → let d = c .before .before in let s = d .before .before .before .before in
+    d .before .limit .result + d .limit2 .result * c .wide .result ≡ partsAt (s .args .t .now) (nth (s .args .rs .now) (s .args .i)) (s .args .j)
+sum c =
+    let d = c .before .before in
+    rw (d .before .limit .ensures, d .limit2 .ensures, c .wide .ensures, c .before .count .ensures, d .before .before .form .ensures)
+
+form-requires : tie.Need-form-requires
+form-requires c κs = search needs
+
+limit-requires : tie.Need-limit-requires
+limit-requires c κs = search needs
+
+add-limit : tie.Need-add-limit
+add-limit c = search needs
+
+limit-requires-2 : tie.Need-limit-requires-2
+limit-requires-2 c κs = search needs
+
+count-requires : tie.Need-count-requires
+count-requires c κs = search needs
+
+wide-requires : tie.Need-wide-requires
+wide-requires c κs = search needs
+
+mul-result : tie.Need-mul-result
+mul-result c = omega (arith, sum c)
+
+add-result : tie.Need-add-result
+add-result c = omega (arith, sum c)
+
+returns : tie.Need-returns
+returns c = sum c
+
+pub parts-spec : {M : Type 1} → statement M
+parts-spec =
+    tie.close
+    (tie.spec
+    form-requires
+    limit-requires
+    add-limit
+    limit-requires-2
+    count-requires
+    wide-requires
+    mul-result
+    add-result
+    returns)
