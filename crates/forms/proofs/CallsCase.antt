@@ -12,7 +12,7 @@ use Rattle.tree.specs.RecordLaws.{nth}
 use Rattle.tree.specs.Tree.{Ident, Node, Tree, Trees, ident, const, if, letin, define, lambda, begin, call, set!, nil, cons, many, size}
 use Rattle.tree.specs.Parts.{own}
 use Rattle.tree.specs.Stands.{Stands, StandAll}
-use Rattle.tree.specs.StandsLaws.{root, root-form, tree-few}
+use Rattle.tree.specs.StandsLaws.{root, root-form}
 use Rattle.tree.specs.StandsParts.{call-parts}
 use Rattle.tree.specs.StandsForms.{ident-of}
 use Rattle.semantic.specs.Information.{markLastUsage}
@@ -34,12 +34,12 @@ use Rattle.work.specs.Tied.{raw, Tied, Good}
 use Rattle.work.specs.declared.Pass.{Pass}
 use Rattle.work.specs.declared.entries.Entry.{Entry as Coded}
 use Rattle.work.specs.declared.scope.Binder.{Binder}
-use Rattle.walk.specs.Contract.{SomeTree, Extends}
+use Rattle.walk.specs.Contract.{SomeTree, StepsOver}
 use Rattle.forms.specs.Contract.{Fits, CallFits, EndsCall}
 use Rattle.forms.specs.FitsLaws.{fact-inside, tied-amend, Sized, sized-same, sized-then, sized-last, good-each}
 use Rattle.forms.specs.Calls.{Mentioned, IsLast, ArgumentFits, MarksArgument, ArgumentsFit, MarksArguments, MarksIfTail, Called, MakesCall}
 use Rattle.forms.proofs.Idents.{known-ident, name-is, id-is}
-use Rattle.forms.proofs.Trees.{Walks, Left, Head, left-all, left-done, left-head}
+use Rattle.forms.proofs.Trees.{Walks, Left, Head, left-all, left-done, left-head, step-few}
 use Rattle.work.specs.declared.scope.Binder.the-variants as binder
 
 -- the newest binder of a name, as the code finds it
@@ -200,14 +200,14 @@ module _ {rs : List ℕ} {first k : ℕ} {p : Pass} {F w : List ℕ} where
     pub marking-ends : k ≤ i → MarksArguments rs first k p F w F′
     marking-ends h = record { is = λ N C A s es a b f. left-done marks-walk N rs (m .is N C A s es a b f) (omega arith) }
 
-    pub marking-goes : i < k → {n : ℕ} {F″ : List ℕ} → MarksArgument rs at p F′ w F″ → Extends rs at n → Marking rs first k p F w (at + n) (i + 1) F″
+    pub marking-goes : i < k → {n : ℕ} {F″ : List ℕ} → MarksArgument rs at p F′ w F″ → StepsOver rs at (k - (i + 1)) n → Marking rs first k p F w (at + n) (i + 1) F″
     marking-goes h {n} {F″} d x = record {
       is = λ N C A s es a b f.
           let l = m .is N C A s es a b f in
           let t = left-head marks-walk N rs l (omega arith) in
           let g : Fits rs (raw p F″ C A w) (markArgument (t .t) (l .s)) =
           record { good = good-argument (t .t) (l .fits .good); tied = d .is N C A (l .s) (t .t) (t .stands) (l .fits) } in
-          subst (λ (j : ℕ). Left marks-walk N rs (at + n) j (raw p F″ C A w) (markArguments es s)) (omega arith) (t .next n _ (x .is N (t .t) (t .stands)) g);
+          subst (λ (j : ℕ). Left marks-walk N rs (at + n) j (raw p F″ C A w) (markArguments es s)) (omega arith) (t .next n _ (subst (λ (j : ℕ). StepsOver rs at j n) (omega arith) x) g);
     }
 
     module _ (a : ArgumentsFit rs first k p F w) (h : i < k) where
@@ -231,8 +231,8 @@ module _ {rs : List ℕ} {first k : ℕ} {p : Pass} {F w : List ℕ} where
       pub marking-tree : SomeTree rs at
       marking-tree = record { names = a .names; tree = record { t = tree-here .t; stands = tree-here .stands } }
 
-      pub marking-few : {n : ℕ} → Extends rs at n → at + n ≤ 4096
-      marking-few x = omega (arith, tree-few (tree-here .stands), x .is (a .names) (tree-here .t) (tree-here .stands))
+      pub marking-few : {j n : ℕ} → StepsOver rs at j n → at + n ≤ 4096
+      marking-few x = step-few (tree-here .stands) x
 
 -- Where the call is a tail call
 

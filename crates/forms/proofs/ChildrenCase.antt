@@ -10,7 +10,7 @@ use Rattle.tree.specs.RecordLaws.{nth}
 use Rattle.tree.specs.Tree.{Ident, Tree, Trees, ident, const, if, letin, define, lambda, begin, call, set!, many}
 use Rattle.tree.specs.Parts.{own}
 use Rattle.tree.specs.Stands.{Stands, StandAll}
-use Rattle.tree.specs.StandsLaws.{root, root-form, tree-few}
+use Rattle.tree.specs.StandsLaws.{root, root-form}
 use Rattle.tree.specs.StandsParts.{define-parts}
 use Rattle.tree.specs.StandsForms.{define-of}
 use Rattle.semantic.specs.Information.{NONE}
@@ -22,14 +22,14 @@ use Rattle.pass.specs.Laws.Sound.Rooms.{grows-none, grows-wide, grows-define}
 use Rattle.work.specs.WorksLaws.{names-many}
 use Rattle.work.specs.Tied.{raw, Tied, Good}
 use Rattle.work.specs.declared.Pass.{Pass}
-use Rattle.walk.specs.Contract.{SomeTree, SomeTreeOf, Extends, TellsBody}
+use Rattle.walk.specs.Contract.{SomeTree, SomeTreeOf, StepsOver, TellsBody}
 use Rattle.walk.specs.declared.body.Body.{Body as Says}
 use Rattle.names.specs.Contract.{Room, Defined, DefinesBy}
 use Rattle.forms.specs.Contract.{Fits, NamesRoom, ChildFits, EntersChild, ChildrenFit, EntersChildren}
 use Rattle.forms.specs.Defines.{enterIf, enterOne, enterEach}
 use Rattle.forms.specs.GoodLaws.{good-define}
 use Rattle.forms.proofs.Idents.{known-ident}
-use Rattle.forms.proofs.Trees.{Walks, Left, Head, left-all, left-done, left-head}
+use Rattle.forms.proofs.Trees.{Walks, Left, Head, left-all, left-done, left-head, step-few}
 use Rattle.forms.proofs.DefinesCase.{define-here}
 
 -- One tree
@@ -139,14 +139,14 @@ module _ {classes rs : List ℕ} {first k : ℕ} {kind : IdentifierStatus} {p : 
       left {C = C} {A} l t d =
           record { good = good-one classes kind (t .t) (t .stands) (l .fits .good); tied = d .is C A (l .s) (t .t) (t .stands) (l .fits) }
 
-      pub going-goes : {n : ℕ} {q′ : Pass} {F″ w″ : List ℕ} → EntersChild classes rs at kind q F′ w′ q′ F″ w″ → Extends rs at n
+      pub going-goes : {n : ℕ} {q′ : Pass} {F″ w″ : List ℕ} → EntersChild classes rs at kind q F′ w′ q′ F″ w″ → StepsOver rs at (k - (i + 1)) n
           → Going classes rs first k kind p F w (at + n) (i + 1) q′ F″ w″
       going-goes {n} {q′} {F″} {w″} d x = record {
         is = λ C A s es a b f.
             let l = m .is C A s es a b f in
             let t = left-head (enters-walk classes kind) (length classes) rs l (omega arith) in
             subst (λ (j : ℕ). Left (enters-walk classes kind) (length classes) rs (at + n) j (raw q′ F″ C A w″) (enterEach classes kind es s)) (omega arith)
-            (t .next n _ (x .is (length classes) (t .t) (t .stands)) (left l t d));
+            (t .next n _ (subst (λ (j : ℕ). StepsOver rs at j n) (omega arith) x) (left l t d));
       }
 
       module _ (a : ChildrenFit (length classes) rs first k p F w) where
@@ -170,8 +170,8 @@ module _ {classes rs : List ℕ} {first k : ℕ} {kind : IdentifierStatus} {p : 
         pub going-tree : SomeTree rs at
         going-tree = record { names = length classes; tree = record { t = tree-here .t; stands = tree-here .stands } }
 
-        pub going-few : {n : ℕ} → Extends rs at n → at + n ≤ 4096
-        going-few x = omega (arith, tree-few (tree-here .stands), x .is (length classes) (tree-here .t) (tree-here .stands))
+        pub going-few : {j n : ℕ} → StepsOver rs at j n → at + n ≤ 4096
+        going-few x = step-few (tree-here .stands) x
 
         -- one name more at most
         pub going-room : {q′ : Pass} {F″ w″ : List ℕ} → NamesRoom q (k - i) → EntersChild classes rs at kind q F′ w′ q′ F″ w″ → NamesRoom q′ (k - (i + 1))

@@ -4,7 +4,7 @@ use semantic::CallSiteInformation;
 use semantic::NONE;
 use semantic::Span;
 use table::wide;
-use walk::extent::extent_at;
+use walk::extent::step_over;
 use work::Pass;
 use work::entries::load_entry;
 use work::scope::Binder;
@@ -58,8 +58,8 @@ fn mark_arguments(all: &[u32], first: usize, k: usize, p: Pass, facts: &mut [u32
     let mut i = 0;
     while i < k {
         mark_argument(all, at, p, facts, work);
-        at += extent_at(all, at);
         i += 1;
+        at += step_over(all, at, k - i);
     }
 }
 

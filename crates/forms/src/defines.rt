@@ -4,7 +4,7 @@ use semantic::IdentifierStatus;
 use semantic::NONE;
 use walk::body::Body;
 use walk::body::body_at;
-use walk::extent::extent_at;
+use walk::extent::step_over;
 use work::Pass;
 ghost use lib.ListN.{length};
 ghost use Rattle.forms.specs.Contract.{DefineFits, BeforeDefine, EntersValue, AfterDefine, ChildFits, EntersChild, ChildrenFit, EntersChildren};
@@ -134,8 +134,8 @@ pub fn enter_children(
     let mut i = 0;
     while i < k {
         q = enter_child(classes, all, at, kind, q, facts, work);
-        at += extent_at(all, at);
         i += 1;
+        at += step_over(all, at, k - i);
     }
     q
 }

@@ -304,3 +304,8 @@ module _ (e : Entries) {p : Pass} {C w : List ℕ} (inside : Inside e) where
             b .is rs F A (rowsDone false (e .length) (e .first) 0 s) (rows-good false (e .length) (e .first) 0 s inside g) (a .is rs F A s g t);
       };
     }
+
+-- a list of no entries
+pub none-numbered : (e : Entries) {p : Pass} {C w : List ℕ} → e .length ≡ 0 → Numbers e p C w p C w
+unfolding numberList numberRows
+none-numbered e z = record { is = λ rs. record { is = λ F A s g t. rw z t } }

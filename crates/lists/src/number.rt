@@ -210,6 +210,9 @@ pub fn number_list(e: Entries, p: Pass, captured: &mut [u32], work: &mut [u32]) 
     requires { ⌜ Inside e × CapturesRoom p e × SomeHeld p (now captured) (now work) ⌝ }
     ensures { λ r. ⌜ Numbers e p (now (captured .entry)) (now (work .entry)) r (now (captured .exit)) (now (work .exit)) ⌝ }
 {
+    if e.length == 0 {
+        return p;
+    }
     let q = number_rows(false, e, p, captured, work);
     number_rows(true, e, q, captured, work)
 }

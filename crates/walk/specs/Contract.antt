@@ -1,5 +1,5 @@
 -- What the functions over the records of a tree promise, of every tree that stands there.
-use Prim.Native.Nat.{ℕ, _+_}
+use Prim.Native.Nat.{ℕ, _+_, _<_}
 use mathlib.Core.List.{List, map}
 use mathlib.Core.Bool.{Bool}
 use mathlib.Core.Path.{_≡_}
@@ -24,6 +24,11 @@ pub record SomeTree (rs : List ℕ) (at : ℕ) : Type 0 where
 
 pub record Extends (rs : List ℕ) (at n : ℕ) : Type 0 where
   pub is : (N : ℕ) (t : Tree) → Stands N rs at t → n ≡ size t
+
+-- the next tree starts n records on, where `left` are to come
+pub record StepsOver (rs : List ℕ) (at left n : ℕ) : Type 0 where
+  pub none : left ≡ 0 → n ≡ 0
+  pub some : 0 < left → Extends rs at n
 
 -- the records from `first` up to `end` are a tree's
 pub record SomeBody (rs : List ℕ) (first end : ℕ) : Type 0 where

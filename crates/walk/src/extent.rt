@@ -1,7 +1,7 @@
 // How many records a tree has.
 ghost use mathlib.Core.List.{List};
 ghost use Prim.Native.Nat.{ℕ};
-ghost use Rattle.walk.specs.Contract.{SomeTree, Extends};
+ghost use Rattle.walk.specs.Contract.{SomeTree, Extends, StepsOver};
 
 pub fn extent_at(all: &[u32], at: usize) -> usize
     requires { ⌜ SomeTree (now all) at ⌝ }
@@ -14,4 +14,15 @@ pub fn extent_at(all: &[u32], at: usize) -> usize
         i += 1;
     }
     i - at
+}
+
+// How far on the next tree starts, where so many are to come. Where none is, no record of this one is passed.
+pub fn step_over(all: &[u32], at: usize, left: usize) -> usize
+    requires { ⌜ SomeTree (now all) at ⌝ }
+    ensures { λ r. ⌜ StepsOver (now (all .entry)) at left r ⌝ }
+{
+    if left == 0 {
+        return 0;
+    }
+    extent_at(all, at)
 }

@@ -19,20 +19,23 @@ loop-holds c = (omega arith, refl, marking-starts)
 mark-argument-requires : tie.Need-mark-argument-requires Inv-loop μ-loop
 mark-argument-requires c κs = marking-fits (c .before .before .loop .inv .2) (c .before .before .before .before .before .before .pre) (omega arith)
 
-extent-at-requires : tie.Need-extent-at-requires Inv-loop μ-loop
-extent-at-requires c κs = marking-tree (c .before .before .before .before .before .loop .inv .2) (c .before .before .before .before .before .before .before .before .before .pre) (omega arith)
-
-add-at : tie.Need-add-at Inv-loop μ-loop
-add-at c = record { fits = omega (arith, marking-few (c .before .before .before .before .before .before .loop .inv .2) (c .before .before .before .before .before .before .before .before .before .before .pre) (omega arith) (c .extent-at .ensures)) }
-
 add-i : tie.Need-add-i Inv-loop μ-loop
 add-i c = omega arith
+
+sub-step-over : tie.Need-sub-step-over Inv-loop μ-loop
+sub-step-over c = omega arith
+
+step-over-requires : tie.Need-step-over-requires Inv-loop μ-loop
+step-over-requires c κs = marking-tree (c .before .before .before .before .before .loop .inv .2) (c .before .before .before .before .before .before .before .before .before .pre) (omega arith)
+
+add-at : tie.Need-add-at Inv-loop μ-loop
+add-at c = record { fits = omega (arith, marking-few (c .before .before .before .before .before .before .loop .inv .2) (c .before .before .before .before .before .before .before .before .before .before .pre) (omega arith) (c .step-over .ensures)) }
 
 loop-less : tie.Need-loop-less Inv-loop μ-loop
 loop-less c = omega arith
 
 loop-again : tie.Need-loop-again Inv-loop μ-loop
-loop-again c = (omega arith, omega arith, marking-goes (c .before .before .before .before .before .before .loop .inv .2) (omega arith) (c .before .before .before .mark-argument .ensures) (c .extent-at .ensures))
+loop-again c = (omega arith, omega arith, marking-goes (c .before .before .before .before .before .before .loop .inv .2) (omega arith) (c .before .before .before .mark-argument .ensures) (c .step-over .ensures))
 
 same-length : tie.Need-same-length Inv-loop μ-loop
 same-length c = omega arith
@@ -48,9 +51,10 @@ mark-arguments-spec =
     μ-loop
     loop-holds
     mark-argument-requires
-    extent-at-requires
-    add-at
     add-i
+    sub-step-over
+    step-over-requires
+    add-at
     loop-less
     loop-again
     same-length

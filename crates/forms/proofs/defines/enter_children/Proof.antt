@@ -22,14 +22,17 @@ loop-holds c = (omega arith, refl, refl, omega (arith, c .before .before .before
 enter-child-requires : tie.Need-enter-child-requires Inv-loop μ-loop
 enter-child-requires c κs = going-fits (c .before .before .before .loop .inv .4) (omega arith) (c .before .before .before .before .before .before .before .before .pre) (c .before .before .before .loop .inv .3)
 
-extent-at-requires : tie.Need-extent-at-requires Inv-loop μ-loop
-extent-at-requires c κs = going-tree (c .before .before .before .before .before .before .before .before .loop .inv .4) (omega arith) (c .before .before .before .before .before .before .before .before .before .before .before .before .before .pre)
-
-add-at : tie.Need-add-at Inv-loop μ-loop
-add-at c = record { fits = omega (arith, going-few (c .before .before .before .before .before .before .before .before .before .loop .inv .4) (omega arith) (c .before .before .before .before .before .before .before .before .before .before .before .before .before .before .pre) (c .extent-at .ensures)) }
-
 add-i : tie.Need-add-i Inv-loop μ-loop
 add-i c = omega arith
+
+sub-step-over : tie.Need-sub-step-over Inv-loop μ-loop
+sub-step-over c = omega arith
+
+step-over-requires : tie.Need-step-over-requires Inv-loop μ-loop
+step-over-requires c κs = going-tree (c .before .before .before .before .before .before .before .before .loop .inv .4) (omega arith) (c .before .before .before .before .before .before .before .before .before .before .before .before .before .pre)
+
+add-at : tie.Need-add-at Inv-loop μ-loop
+add-at c = record { fits = omega (arith, going-few (c .before .before .before .before .before .before .before .before .before .loop .inv .4) (omega arith) (c .before .before .before .before .before .before .before .before .before .before .before .before .before .before .pre) (c .step-over .ensures)) }
 
 loop-less : tie.Need-loop-less Inv-loop μ-loop
 loop-less c = omega arith
@@ -37,7 +40,7 @@ loop-less c = omega arith
 loop-again : tie.Need-loop-again Inv-loop μ-loop
 loop-again c =
     let g = c .before .before .before .before .before .before .before .before .before .loop .inv .4 in
-    (omega arith, omega arith, omega arith, going-room g (omega arith) (c .before .before .before .before .before .before .before .before .before .before .before .before .before .before .pre) (c .before .before .before .before .before .before .before .before .before .loop .inv .3) (c .before .before .before .before .before .enter-child .ensures), going-goes g (omega arith) (c .before .before .before .before .before .enter-child .ensures) (c .extent-at .ensures))
+    (omega arith, omega arith, omega arith, going-room g (omega arith) (c .before .before .before .before .before .before .before .before .before .before .before .before .before .before .pre) (c .before .before .before .before .before .before .before .before .before .loop .inv .3) (c .before .before .before .before .before .enter-child .ensures), going-goes g (omega arith) (c .before .before .before .before .before .enter-child .ensures) (c .step-over .ensures))
 
 same-length : tie.Need-same-length Inv-loop μ-loop
 same-length c = omega arith
@@ -56,9 +59,10 @@ enter-children-spec =
     μ-loop
     loop-holds
     enter-child-requires
-    extent-at-requires
-    add-at
     add-i
+    sub-step-over
+    step-over-requires
+    add-at
     loop-less
     loop-again
     same-length

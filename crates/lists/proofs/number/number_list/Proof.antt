@@ -1,18 +1,21 @@
 -- `number_list`.
-use Rattle.lists.proofs.NumberCase.{first-held, second-held, both}
+use Rattle.lists.proofs.NumberCase.{first-held, second-held, both, none-numbered}
 use borrow.Author.Needs.{needs}
 use Rattle.lists.proofs.number.number_list.Statement.{statement}
 use Rattle.lists.proofs.number.number_list.Tie as tie
 
+returns : tie.Need-returns
+returns c = none-numbered (c .before .before .before .before .args .e) (c .if1 .taken)
+
 number-rows-requires : tie.Need-number-rows-requires
 number-rows-requires c κs =
-    let start = c .before .before .before .before in
+    let start = c .before .before .before .before .before .before in
     (start .pre .0, first-held (start .args .e) (start .pre .0) (start .pre .1) (start .pre .2))
 
 number-rows-requires-2 : tie.Need-number-rows-requires-2
 number-rows-requires-2 c κs =
     let at-number-rows = c .before .before .before .before .before .before in
-    let start = at-number-rows .before .before .before .before .before in
+    let start = at-number-rows .before .before .before .before .before .before .before in
     (start .pre .0, second-held (start .args .e) (start .pre .0) (at-number-rows .number-rows .ensures) (start .pre .1) (start .pre .2))
 
 same-length : tie.Need-same-length
@@ -21,14 +24,14 @@ same-length c = search needs
 same-length-2 : tie.Need-same-length-2
 same-length-2 c = search needs
 
-returns : tie.Need-returns
-returns c =
+returns-2 : tie.Need-returns-2
+returns-2 c =
     let at-number-rows2 = c .before .before .before .before in
     let at-number-rows = at-number-rows2 .before .before .before .before .before .before .before in
-    let start = at-number-rows .before .before .before .before .before in
+    let start = at-number-rows .before .before .before .before .before .before .before in
     both (start .args .e) (start .pre .0) (at-number-rows .number-rows .ensures) (at-number-rows2 .number-rows2 .ensures)
 
 pub number-list-spec : {M : Type 1} → statement M
 number-list-spec =
     tie.close
-    (tie.spec number-rows-requires number-rows-requires-2 same-length same-length-2 returns)
+    (tie.spec returns number-rows-requires number-rows-requires-2 same-length same-length-2 returns-2)
