@@ -8,12 +8,11 @@ use native.Mathlib.Omega.{arith}
 use lib.ListN.{length, take, drop, length-take}
 use lib.Dec.{leb, ltb}
 use lib.Seq.{sets, length-sets}
-use Rattle.tree.specs.Tree.{Ident, Tree}
+use Rattle.tree.specs.Tree.{Ident, Node, Tree}
 use Rattle.tree.specs.Check.{member}
 use Rattle.tree.specs.Accepted.{All}
 use Rattle.scope_map.specs.ScopeMap.{ScopeMap, Live, newestLayer}
-use Rattle.semantic.specs.Information.{NONE}
-use Rattle.semantic.specs.Rows.{Row, Blank, Function, Item, rowWidth, putRow}
+use Rattle.semantic.specs.Rows.{Blank, Function, Item, rowWidth, putRow}
 use Rattle.semantic.specs.Kinds.{functionIn, functionFound}
 use Rattle.semantic.specs.Leaves.{Stores, Tells}
 use Rattle.semantic.specs.declared.Entries.{Entries}
@@ -21,7 +20,7 @@ use Rattle.semantic.specs.declared.FunctionInformation.{FunctionInformation}
 use Rattle.semantic.specs.declared.FoundFunction.{FoundFunction}
 use Rattle.pass.specs.State.{State, Capture, rowAt, entryAt, newest, insert, itemOf, depth}
 use Rattle.pass.specs.Lists.{addCaptured, capturedIn, capturedVars, insertById, sortById, listIn, keep, nameOf, namesOf, amendList, storeCaptured, storeArguments, rewriteCaptured}
-use Rattle.pass.specs.Lambda.{nameIn, itemsOf, markLasts, closeScope, closeCaptures, endParameters, makeFunction, nowUsed, keptOf, holdsLambda, amendFunction, leaveLambda}
+use Rattle.pass.specs.Lambda.{nameIn, itemsOf, markLasts, closeScope, closeCaptures, endParameters, makeFunction, nowUsed, keptOf, holdsLambda, amendFunction, functionEnds, leaveLambda}
 use Rattle.pass.specs.Sound.{Property, Lawful, Each}
 use Rattle.pass.specs.Laws.Sound.Each.{Fine, fine}
 use Rattle.pass.specs.Laws.Sound.Items.{sorted-items, kept-items, listed-items, amended-items, captured-items}
@@ -31,7 +30,7 @@ use Rattle.pass.specs.Run.{rowsMost, itemsMost}
 use Rattle.work.specs.Works.{Spacious}
 use Rattle.work.specs.WorksLaws.{spacious, depth-is, names-many, captured-top, arguments-top}
 use Rattle.work.specs.Leaves.{Becomes}
-use Rattle.work.specs.Tied.{raw, Tied}
+use Rattle.work.specs.Tied.{raw, Tied, Good}
 use Rattle.work.specs.declared.Pass.{Pass}
 use Rattle.walk.specs.declared.uses.Names.{Names}
 use Rattle.lists.specs.Contract.{Told, Inside, Body, Ended, Named, HeldNamed, amendedList, AmendsList, StoresList}
@@ -39,8 +38,10 @@ use Rattle.lists.specs.declared.amend.Ending.{Ending}
 use Rattle.forms.specs.Contract.{Fits, LambdaEnds, LeavesLambda}
 use Rattle.forms.specs.FitsLaws.{Sized, sized-same, sized-then, sized-amend, sized-last, fact-inside, tied-insert, told, good-each}
 use Rattle.forms.specs.Bound.{MarksLasts, LayerFits, StoresLayer, NamesEnd, EndsParameters}
-use Rattle.forms.specs.Lambdas.{closed, Closes, madeOf, shorterOf, MakeFits, MakesFunction, AmendFits, AmendsFunction}
+use Rattle.forms.specs.Lambdas.{closed, Closes, madeList, layerList, withLists, entriesBetween, capturedEntries, argumentEntries, functionFact, ListsEnd, EndsLists}
+use Rattle.forms.specs.declared.lambda.EndedLists.{EndedLists}
 use Rattle.forms.proofs.ArgumentsCase.{items-length}
+use Rattle.forms.proofs.LambdaEnter.{fact-is}
 use Rattle.forms.proofs.Closing.{Lists, listsOf, put, closed-lists, commutes, lasts-closed, capturedStored, captured-put, argumentsStored, stored-put, rewritten, rewritten-put}
 use Rattle.semantic.specs.declared.FoundFunction.the-variants as function
 
@@ -159,109 +160,13 @@ items-put : (k : Lists) (s : State) (l : List (Live Ident)) → itemsOf (put k s
 items-put k s [] = refl
 items-put k s (e ∷ l) = ap (λ (m : List Item). itemOf (e .value) (entryAt s (e .value .at)) ∷ m) (items-put k s l)
 
--- The fact is made
+-- Lists keep a state good
 
-stored : ℕ → List Ident → State → State
-stored at xs s = storeArguments (itemsOf s (newestLayer (s .scope .names))) (storeCaptured at (sortById (capturedVars (map nameIn xs) s)) s)
-
-module _ {rs : List ℕ} {at : ℕ} {n : Names} {p : Pass} {F C A w : List ℕ} {a : Pass} {C′ w′ : List ℕ} (lists : StoresList rs at n p C w a C′ w′) where
-  list-fits : {s : State} {xs : List Ident} → Told rs n xs → Fits rs (raw p F C A w) s
-      → Fits rs (raw a F C′ A w′) (storeCaptured at (sortById (capturedVars (map nameIn xs) s)) s)
-  list-fits {s} {xs} t f =
-      let c = sortById (capturedVars (map nameIn xs) s) in
-      let e = captured-put at c s in
-      record {
-        good = good-each (f .good) (record { rows = ap (λ (u : State). length (u .facts .rows)) e; arguments = ap (λ (u : State). length (u .facts .arguments)) e })
-            (λ Q k G z h. each-store k z at c (sorted-items (Fine Q G) (capturedVars (map nameIn xs) s) (captured-items k (map nameIn xs) h)) h);
-        tied = lists .is xs t .is F A s (f .good) (f .tied);
-      }
-
-  pub layer-fits : MakeFits rs at n p F C A w → LayerFits rs a A w′
-  layer-fits b = record {
-    facts = F;
-    captured = C′;
-    s = storeCaptured at (sortById (capturedVars (map nameIn (b .xs)) (b .s))) (b .s);
-    fits = list-fits (b .told) (b .fits);
-    room = rw (captured-put at (sortById (capturedVars (map nameIn (b .xs)) (b .s))) (b .s)) (b .room);
-  }
-
-  module _ {b : Pass} {A′ : List ℕ} (layer : StoresLayer rs a A w′ b A′) where
-    stored-fits : {s : State} {xs : List Ident} → Told rs n xs → Fits rs (raw p F C A w) s → Fits rs (raw b F C′ A′ w′) (stored at xs s)
-    unfolding stored storeArguments
-    stored-fits {s} {xs} t f =
-        let g = list-fits t f in
-        let l = itemsOf s (newestLayer (s .scope .names)) in
-        let u = storeCaptured at (sortById (capturedVars (map nameIn xs) s)) s in
-        let e = ap (λ (v : State). itemsOf v (newestLayer (v .scope .names))) (captured-put at (sortById (capturedVars (map nameIn xs) s)) s)
-        ∙ items-put (capturedStored at (sortById (capturedVars (map nameIn xs) s)) (listsOf s)) s (newestLayer (s .scope .names)) in
-        let z : Sized u (stored at xs s) = record { rows = refl; arguments = length-sets (u .facts .arguments) (u .facts .argumentsTop) l } in
-        record {
-          good = good-each (g .good) z (λ Q k G y h. each-arguments k y l h);
-          tied = subst (λ (l : List Item). Tied (raw b F C′ A′ w′) (storeArguments l u)) e (layer .is F C′ u g);
-        }
-
-    pub stored-names : MakeFits rs at n p F C A w → NamesEnd rs n b F w′
-    stored-names m = record { captured = C′; arguments = A′; s = _; xs = m .xs; told = m .told; fits = stored-fits (m .told) (m .fits) }
-
-    -- how far the lists reach
-    tops : {s : State} {xs : List Ident} → Told rs n xs → Fits rs (raw p F C A w) s
-        → (b .«captured_top» ≡ p .«captured_top» + length (sortById (capturedVars (map nameIn xs) s)))
-        × (b .«arguments_top» ≡ p .«arguments_top» + length (itemsOf s (newestLayer (s .scope .names))))
-    unfolding stored
-    tops {s} {xs} t f =
-        let k = stored-fits t f .tied .works in
-        let e = stored-put at (sortById (capturedVars (map nameIn xs) s)) (itemsOf s (newestLayer (s .scope .names))) s in (
-          captured-top k ∙ ap (λ (u : State). u .facts .capturedTop) e ∙ rw (captured-top (f .tied .works)),
-          arguments-top k ∙ ap (λ (u : State). u .facts .argumentsTop) e ∙ rw (arguments-top (f .tied .works)),
-        )
-
-    pub tops-fit : MakeFits rs at n p F C A w → (p .«captured_top» ≤ b .«captured_top») × (b .«captured_top» < 4294967296)
-        × (p .«arguments_top» ≤ b .«arguments_top») × (b .«arguments_top» < 4294967296)
-    tops-fit m =
-        let t = tops (m .told) (m .fits) in
-        let c = capturedVars (map nameIn (m .xs)) (m .s) in
-        let k = spacious (m .fits .tied .works) .names in
-        let few : length c ≤ itemsMost = captured-few (map nameIn (m .xs)) (m .s) (omega (arith, names-many (m .fits .tied .works))) in
-        let x : b .«captured_top» ≡ p .«captured_top» + length c = t .0 ∙ ap (λ (i : ℕ). p .«captured_top» + i) (sort-length c) in
-        let y = items-length (m .s) (newestLayer (m .s .scope .names)) in
-        (omega (arith, x), omega (arith, x, m .captured), omega (arith, t .1), omega (arith, t .1, m .room, arguments-top (m .fits .tied .works)))
-
-    module _ {q : Pass} {F₁ w″ : List ℕ} (closes : Closes rs n b F w′ q F₁ w″) where
-      pub made-fact : MakeFits rs at n p F C A w → rowWidth * at + rowWidth ≤ length F₁
-      made-fact m =
-          let f = stored-fits (m .told) (m .fits) in
-          fact-inside (closes .is C′ A′ _ (m .xs) (m .told) f) (sized-closed (m .xs) _ .rows ∙ f .good .rows) at (m .few)
-
-      pub function-made : at < rowsMost → {escapes : Bool} {d : ℕ} {v : FunctionInformation} {F₂ : List ℕ} → d ≡ q .scope .depth → v ≡ madeOf p b escapes d
-          → Stores putRow F₁ at (Function v) F₂ → MakesFunction rs at n escapes p F C A w q F₂ C′ A′ w″
-      unfolding makeFunction stored
-      function-made few {escapes} {d} {v} {F₂} ed ev st = record {
-        is = λ s xs m em t f.
-            let c = sortById (capturedVars (map nameIn xs) s) in
-            let l = itemsOf s (newestLayer (s .scope .names)) in
-            let u = closed xs s in
-            let g = stored-fits t f in
-            let k = closes .is C′ A′ (stored at xs s) xs t g in
-            let e : closed xs (stored at xs s) ≡ storeArguments l (storeCaptured at c u) =
-            commutes (λ w. storeArguments l (storeCaptured at c w)) (λ k. argumentsStored l (capturedStored at c k)) (stored-put at c l) xs s in
-            let i = tied-insert k (sized-closed xs _ .rows ∙ g .good .rows) at few (Function v) st in
-            let top = tops t f in
-            let x : p .«captured_top» ≡ u .facts .capturedTop = captured-top (f .tied .works) ∙ ap (λ (k : Lists). k .capturedTop) (sym (closed-lists xs s)) in
-            let y : p .«arguments_top» ≡ u .facts .argumentsTop = arguments-top (f .tied .works) ∙ ap (λ (k : Lists). k .argumentsTop) (sym (closed-lists xs s)) in
-            let z : b .«captured_top» - p .«captured_top» ≡ length c = omega (arith, top .0) in
-            let a : b .«arguments_top» - p .«arguments_top» ≡ length l = omega (arith, top .1) in
-            let n : d ≡ depth u = ed ∙ depth-is (k .works) ∙ ap depth e ∙ ap depth (stored-put at c l u) in
-            let r : v ≡ record {
-              «captured_vars» = record { first = u .facts .capturedTop; length = length c };
-              arguments = record { first = u .facts .argumentsTop; length = length l };
-              escapes = escapes;
-              «aliases_to» = NONE;
-              depth = depth u;
-            } = ev ∙ rw (z, a, x, y, n) in
-            rw (em, ← r, ← e) i;
-      }
-
--- or its list is amended
+good-made : {rs : List ℕ} (at : ℕ) (xs : List Ident) {s : State} → Good rs s → Good rs (storeCaptured at (madeList xs s) s)
+good-made at xs {s} g =
+    let e = captured-put at (madeList xs s) s in
+    good-each g (record { rows = ap (λ (u : State). length (u .facts .rows)) e; arguments = ap (λ (u : State). length (u .facts .arguments)) e })
+    (λ Q k G z h. each-store k z at (madeList xs s) (sorted-items (Fine Q G) (capturedVars (map nameIn xs) s) (captured-items k (map nameIn xs) h)) h)
 
 amended-fine : {Q : Property} {G : ℕ → Type 0} → Lawful Q → (xs : List Ident) (b : Tree) (e : Entries) {s : State} → Each Q G s
     → All (Fine Q G) (amendedList xs b e s)
@@ -271,129 +176,180 @@ amended-fine {Q} {G} lawful xs b e {s} h =
     let l = all-either (Fine Q G) (holdsLambda b) (listIn (s .facts .captured) e) _ p (kept-items (Fine Q G) _ (listIn (s .facts .captured) e) p) in
     amended-items (Fine Q G) (λ x v i u p. (lawful .changed x v i (p .0), subst G (sym u) (p .1))) now (s .captures) [] _ l
 
-amendedState : List Ident → Tree → Entries → State → State
-amendedState xs b e s = rewriteCaptured e (amendedList xs b e s) s
+good-lists : {rs : List ℕ} (o : Option FunctionInformation) (at : ℕ) (xs : List Ident) (b : Tree) {s : State} → Good rs s → Good rs (withLists o at xs b s)
+unfolding storeArguments
+good-lists none at xs b {s} g =
+    let u = storeCaptured at (madeList xs s) s in
+    let z : Sized u (storeArguments (layerList s) u) = record { rows = refl; arguments = length-sets (u .facts .arguments) (u .facts .argumentsTop) (layerList s) } in
+    good-each (good-made at xs g) z (λ Q k G y h. each-arguments k y (layerList s) h)
+good-lists (some i) at xs b {s} g =
+    let l = amendedList xs b (i .«captured_vars») s in
+    let k = rewritten-put (i .«captured_vars») l s in
+    good-each g (record { rows = ap (λ (u : State). length (u .facts .rows)) k; arguments = ap (λ (u : State). length (u .facts .arguments)) k })
+    (λ Q k G z h. each-rewrite k z (i .«captured_vars») l (amended-fine k xs b (i .«captured_vars») h) h)
 
-amended-fits : {rs : List ℕ} {d : Ending} (e : Entries) {p : Pass} {F C w : List ℕ} {n : ℕ} {C′ w′ : List ℕ} → AmendsList rs d e p C w n C′ w′
-    → {A : List ℕ} {s : State} {xs : List Ident} {b : Tree} → Told rs (d .names) xs → Body rs d b → Fits rs (raw p F C A w) s → Named s
-    → Fits rs (raw p F C′ A w′) (amendedState xs b e s)
-unfolding amendedState
-amended-fits e {F = F} amends {A} {s} {xs} {b} t y f named =
-    let k = rewritten-put e (amendedList xs b e s) s in
-    record {
-      good = good-each (f .good) (record { rows = ap (λ (u : State). length (u .facts .rows)) k; arguments = ap (λ (u : State). length (u .facts .arguments)) k })
-          (λ Q g G z h. each-rewrite g z e (amendedList xs b e s) (amended-fine g xs b e h) h);
-      tied = amends .is F A s xs b t y (f .good) named (f .tied);
+-- The lists are made
+
+module _ {rs : List ℕ} {at : ℕ} (d : Ending) {v : FoundFunction} {p : Pass} {C A w : List ℕ} (nothing : v ≡ function.Nothing)
+    {a : Pass} {C′ w′ : List ℕ} (lists : StoresList rs at (d .names) p C w a C′ w′) where
+  list-fits : {F : List ℕ} {s : State} {xs : List Ident} → Told rs (d .names) xs → Fits rs (raw p F C A w) s → Fits rs (raw a F C′ A w′) (storeCaptured at (madeList xs s) s)
+  list-fits {F} {s} {xs} t f = record { good = good-made at xs (f .good); tied = lists .is xs t .is F A s (f .good) (f .tied) }
+
+  pub layer-fits : ListsEnd rs at d v p C A w → LayerFits rs a A w′
+  layer-fits b = record {
+    facts = b .facts;
+    captured = C′;
+    s = storeCaptured at (madeList (b .xs) (b .s)) (b .s);
+    fits = list-fits (b .told) (b .fits);
+    room = rw (captured-put at (madeList (b .xs) (b .s)) (b .s)) (b .made (ap functionFound nothing));
+  }
+
+  module _ {b : Pass} {A′ : List ℕ} (layer : StoresLayer rs a A w′ b A′) where
+    made-tied : {F : List ℕ} {s : State} {xs : List Ident} → Told rs (d .names) xs → Fits rs (raw p F C A w) s
+        → Tied (raw b F C′ A′ w′) (storeArguments (layerList s) (storeCaptured at (madeList xs s) s))
+    made-tied {F} {s} {xs} t f =
+        let u = storeCaptured at (madeList xs s) s in
+        let e : layerList u ≡ layerList s = ap layerList (captured-put at (madeList xs s) s) ∙ items-put (capturedStored at (madeList xs s) (listsOf s)) s (newestLayer (s .scope .names)) in
+        subst (λ (l : List Item). Tied (raw b F C′ A′ w′) (storeArguments l u)) e (layer .is F C′ u (list-fits t f))
+
+    -- how far they reach
+    tops : {F : List ℕ} {s : State} {xs : List Ident} → Told rs (d .names) xs → Fits rs (raw p F C A w) s
+        → (b .«captured_top» ≡ p .«captured_top» + length (madeList xs s)) × (b .«arguments_top» ≡ p .«arguments_top» + length (layerList s))
+    tops {s = s} {xs} t f =
+        let k = made-tied t f .works in
+        let e = stored-put at (madeList xs s) (layerList s) s in (
+          captured-top k ∙ ap (λ (u : State). u .facts .capturedTop) e ∙ rw (captured-top (f .tied .works)),
+          arguments-top k ∙ ap (λ (u : State). u .facts .argumentsTop) e ∙ rw (arguments-top (f .tied .works)),
+        )
+
+    pub tops-fit : ListsEnd rs at d v p C A w → (p .«captured_top» ≤ b .«captured_top») × (b .«captured_top» < 4294967296)
+        × (p .«arguments_top» ≤ b .«arguments_top») × (b .«arguments_top» < 4294967296)
+    tops-fit m =
+        let t = tops (m .told) (m .fits) in
+        let c = capturedVars (map nameIn (m .xs)) (m .s) in
+        let k = spacious (m .fits .tied .works) .names in
+        let few : length c ≤ itemsMost = captured-few (map nameIn (m .xs)) (m .s) (omega (arith, names-many (m .fits .tied .works))) in
+        let x : b .«captured_top» ≡ p .«captured_top» + length c = t .0 ∙ ap (λ (i : ℕ). p .«captured_top» + i) (sort-length c) in
+        let y = items-length (m .s) (newestLayer (m .s .scope .names)) in
+        let room = m .made (ap functionFound nothing) in
+        (omega (arith, x), omega (arith, x, m .captured), omega (arith, t .1), omega (arith, t .1, room, arguments-top (m .fits .tied .works)))
+
+    pub lists-made : {c l : Entries} → c ≡ entriesBetween (p .«captured_top») (b .«captured_top») → l ≡ entriesBetween (p .«arguments_top») (b .«arguments_top»)
+        → EndsLists rs at d v p C A w (record { pass = b; captured = c; arguments = l }) C′ A′ w′
+    lists-made ec el = record {
+      is = λ F s xs body t y f n.
+          let top = tops t f in
+          let i : b .«captured_top» - p .«captured_top» ≡ length (madeList xs s) = omega (arith, top .0) in
+          let j : b .«arguments_top» - p .«arguments_top» ≡ length (layerList s) = omega (arith, top .1) in
+          rw nothing (record {
+            tied = made-tied t f;
+            captured = ec ∙ rw (i, captured-top (f .tied .works));
+            arguments = el ∙ rw (j, arguments-top (f .tied .works));
+          });
     }
 
-module _ {rs : List ℕ} {at : ℕ} {d : Ending} {v : FunctionInformation} {p : Pass} {F C w : List ℕ} where
-  pub amend-held : AmendFits rs at d v p F C w → Inside (v .«captured_vars») × Ended rs d × HeldNamed rs p C w
+-- or the captured one is amended
+
+module _ {rs : List ℕ} {at : ℕ} {d : Ending} {v : FoundFunction} {p : Pass} {C A w : List ℕ} {i : FunctionInformation} (found : v ≡ function.Found i) where
+  pub amend-held : ListsEnd rs at d v p C A w → Inside (i .«captured_vars») × Ended rs d × HeldNamed rs p C w
   amend-held a = (
-    a .inside,
+    a .amended i (ap functionFound found),
     record { xs = a .xs; b = a .b; names = a .told; body = a .body },
-    record { held = record { facts = F; arguments = a .arguments; s = a .s; good = a .fits .good; tied = a .fits .tied }; named = a .named },
+    record { held = record { facts = a .facts; arguments = A; s = a .s; good = a .fits .good; tied = a .fits .tied }; named = a .named },
   )
 
-  module _ {n : ℕ} {C′ w′ : List ℕ} (amends : AmendsList rs d (v .«captured_vars») p C w n C′ w′) where
-    pub amended-names : AmendFits rs at d v p F C w → NamesEnd rs (d .names) p F w′
-    amended-names a = record {
-      captured = C′;
-      arguments = a .arguments;
-      s = amendedState (a .xs) (a .b) (v .«captured_vars») (a .s);
-      xs = a .xs;
-      told = a .told;
-      fits = amended-fits (v .«captured_vars») amends (a .told) (a .body) (a .fits) (a .named);
-    }
-
-    pub amended-few : AmendFits rs at d v p F C w → n < 4294967296
+  module _ {n : ℕ} {C′ w′ : List ℕ} (amends : AmendsList rs d (i .«captured_vars») p C w n C′ w′) where
+    pub amended-few : ListsEnd rs at d v p C A w → n < 4294967296
     amended-few a = omega (
       arith,
-      amends .many F (a .arguments) (a .s) (a .xs) (a .b) (a .told) (a .body) (a .fits .good) (a .named) (a .fits .tied),
-      amended-length (a .xs) (a .b) (v .«captured_vars») (a .s),
-      a .inside,
+      amends .many (a .facts) A (a .s) (a .xs) (a .b) (a .told) (a .body) (a .fits .good) (a .named) (a .fits .tied),
+      amended-length (a .xs) (a .b) (i .«captured_vars») (a .s),
+      a .amended i (ap functionFound found),
     )
 
-    module _ {q : Pass} {F₁ w″ : List ℕ} (closes : Closes rs (d .names) p F w′ q F₁ w″) where
-      pub amended-fact : AmendFits rs at d v p F C w → rowWidth * at + rowWidth ≤ length F₁
-      amended-fact a =
-          let f = amended-fits (v .«captured_vars») amends (a .told) (a .body) (a .fits) (a .named) in
-          fact-inside (closes .is C′ (a .arguments) _ (a .xs) (a .told) f) (sized-closed (a .xs) _ .rows ∙ f .good .rows) at (a .few)
+    pub lists-amended : {k : ℕ} → k ≡ n
+        → EndsLists rs at d v p C A w (record { pass = p; captured = record { first = i .«captured_vars» .first; length = k }; arguments = i .arguments }) C′ A w′
+    lists-amended e = record {
+      is = λ F s xs b t y f named. rw found (record {
+        tied = amends .is F A s xs b t y (f .good) named (f .tied);
+        captured = rw (e, amends .many F A s xs b t y (f .good) named (f .tied));
+        arguments = refl;
+      });
+    }
 
-      pub function-amended : at < rowsMost → {u : FunctionInformation} {F₂ : List ℕ} → u ≡ shorterOf v n → Stores putRow F₁ at (Function u) F₂
-          → AmendsFunction rs at d v p F C w q F₂ C′ w″
-      unfolding amendFunction amendedState
-      function-amended few {u} {F₂} eu st = record {
-        is = λ A s xs b m em t y f named.
-            let e = v .«captured_vars» in
-            let l = amendedList xs b e s in
-            let g = amended-fits (v .«captured_vars») amends t y f named in
-            let k = closes .is C′ A (amendedState xs b e s) xs t g in
-            let c : closed xs (amendedState xs b e s) ≡ rewriteCaptured e l (closed xs s) =
-            commutes (rewriteCaptured e l) (rewritten e l) (rewritten-put e l) xs s in
-            let i = tied-insert k (sized-closed xs _ .rows ∙ g .good .rows) at few (Function u) st in
-            let z : u ≡ shorterOf v (length l) = eu ∙ ap (shorterOf v) (amends .many F A s xs b t y (f .good) named (f .tied)) in
-            let r : closed xs s .facts .captured ≡ s .facts .captured = ap (λ (k : Lists). k .captured) (closed-lists xs s) in
-            let used = nowUsed b (capturedVars (map nameIn xs) s) in
-            let i′ : Tied (raw q F₂ C′ A w″) (insert at (Function (shorterOf v (length l))) (rewriteCaptured e l (closed xs s))) = rw (← z, ← c) i in
-            let out : List Item → Type 0 = λ (g : List Item).
-            let h = amendList used (s .captures) [] (keptOf b used (listIn g e)) in
-            Tied (raw q F₂ C′ A w″) (insert at (Function (shorterOf v (length h))) (rewriteCaptured e h (closed xs s))) in
-            rw em (subst out (sym r) i′);
+-- A lambda leaves: its lists, the layer, then the fact
+
+leaves-by : (o : Option FunctionInformation) (m : Node) (xs : List Ident) (b : Tree) (escapes : Bool) (s : State)
+    → (let u = closed xs (withLists o (m .at) xs b s) in
+    functionEnds o m b escapes (capturedVars (map nameIn xs) s) (layerList s) (s .captures) (closed xs s)
+    ≡ insert (m .at) (Function (functionFact o (capturedEntries o xs b s) (argumentEntries o s) escapes (depth u))) u)
+unfolding makeFunction amendFunction
+leaves-by none m xs b escapes s =
+    let u = closed xs s in
+    let c = madeList xs s in
+    let l = layerList s in
+    let e : closed xs (storeArguments l (storeCaptured (m .at) c s)) ≡ storeArguments l (storeCaptured (m .at) c u) =
+    commutes (λ t. storeArguments l (storeCaptured (m .at) c t)) (λ k. argumentsStored l (capturedStored (m .at) c k)) (stored-put (m .at) c l) xs s in
+    let x : u .facts .capturedTop ≡ s .facts .capturedTop = ap (λ (k : Lists). k .capturedTop) (closed-lists xs s) in
+    let y : u .facts .argumentsTop ≡ s .facts .argumentsTop = ap (λ (k : Lists). k .argumentsTop) (closed-lists xs s) in
+    let n : depth (closed xs (storeArguments l (storeCaptured (m .at) c s))) ≡ depth u = ap depth e ∙ ap depth (stored-put (m .at) c l u) in
+    rw (← e, x, y, ← n)
+leaves-by (some i) m xs b escapes s =
+    let e = i .«captured_vars» in
+    let l = amendedList xs b e s in
+    let r : closed xs s .facts .captured ≡ s .facts .captured = ap (λ (k : Lists). k .captured) (closed-lists xs s) in
+    let c : closed xs (rewriteCaptured e l s) ≡ rewriteCaptured e l (closed xs s) = commutes (rewriteCaptured e l) (rewritten e l) (rewritten-put e l) xs s in
+    let used = nowUsed b (capturedVars (map nameIn xs) s) in
+    let out : List Item → State = λ (g : List Item).
+    let h = amendList used (s .captures) [] (keptOf b used (listIn g e)) in
+    insert (m .at) (Function (functionFact (some i) (record { first = e .first; length = length h }) (i .arguments) escapes (i .depth))) (rewriteCaptured e h (closed xs s)) in
+    ap out r ∙ rw (← c)
+
+module _ {rs : List ℕ} {at : ℕ} {d : Ending} {p : Pass} {F C A w : List ℕ} (few : at < rowsMost) (v : FoundFunction)
+    (found : Tells putRow Blank functionIn F at (functionFound v)) where
+  pub ends-lists : LambdaEnds rs at d p F C A w → ListsEnd rs at d v p C A w
+  ends-lists a = record {
+    facts = F;
+    s = a .s;
+    xs = a .xs;
+    b = a .b;
+    told = a .told;
+    body = a .body;
+    fits = a .fits;
+    few = few;
+    made = λ e. a .ends .made (sym (fact-is few v found (a .fits)) ∙ e);
+    amended = λ i e. a .ends .amended i (sym (fact-is few v found (a .fits)) ∙ e);
+    captured = a .ends .captured;
+    named = a .ends .named;
+  }
+
+  module _ {e : EndedLists} {C′ A′ w′ : List ℕ} (ends : EndsLists rs at d v p C A w e C′ A′ w′) where
+    ended-fits : {s : State} {xs : List Ident} {b : Tree} → Told rs (d .names) xs → Body rs d b → Fits rs (raw p F C A w) s → Named s
+        → Fits rs (raw (e .pass) F C′ A′ w′) (withLists (functionFound v) at xs b s)
+    ended-fits {s} {xs} {b} t y f named = record { good = good-lists (functionFound v) at xs b (f .good); tied = ends .is F s xs b t y f named .tied }
+
+    pub ended-names : LambdaEnds rs at d p F C A w → NamesEnd rs (d .names) (e .pass) F w′
+    ended-names a = record { captured = C′; arguments = A′; s = _; xs = a .xs; told = a .told; fits = ended-fits (a .told) (a .body) (a .fits) (a .ends .named) }
+
+    module _ {q : Pass} {F₁ w″ : List ℕ} (closes : Closes rs (d .names) (e .pass) F w′ q F₁ w″) where
+      pub ended-fact : LambdaEnds rs at d p F C A w → rowWidth * at + rowWidth ≤ length F₁
+      ended-fact a =
+          let f = ended-fits (a .told) (a .body) (a .fits) (a .ends .named) in
+          fact-inside (closes .is C′ A′ _ (a .xs) (a .told) f) (sized-closed (a .xs) _ .rows ∙ f .good .rows) at few
+
+      pub lambda-left : {escapes : Bool} {k : ℕ} {u : FunctionInformation} {F₂ : List ℕ} → k ≡ q .scope .depth
+          → u ≡ functionFact (functionFound v) (e .captured) (e .arguments) escapes k → Stores putRow F₁ at (Function u) F₂
+          → LeavesLambda rs at d escapes p F C A w q F₂ C′ A′ w″
+      unfolding leaveLambda
+      lambda-left {escapes} {u = u} {F₂} ek eu st = record {
+        is = λ s xs b m em t y f x.
+            let l = ends .is F s xs b t y f (x .named) in
+            let g = ended-fits t y f (x .named) in
+            let c = closes .is C′ A′ _ xs t g in
+            let i = tied-insert c (sized-closed xs _ .rows ∙ g .good .rows) at few (Function u) st in
+            let o = functionFound v in
+            let z : functionIn (rowAt s (m .at)) ≡ o = ap (λ (i : ℕ). functionIn (rowAt s i)) em ∙ sym (fact-is few v found f) in
+            let r : u ≡ functionFact o (capturedEntries o xs b s) (argumentEntries o s) escapes (depth (closed xs (withLists o at xs b s))) =
+            eu ∙ rw (l .captured, l .arguments, ek, depth-is (c .works)) in
+            rw (z, leaves-by o m xs b escapes s, em, ← r) i;
       }
-
--- The end, by whether the lambda has a fact
-
-fact-of : {rs : List ℕ} {at : ℕ} {p : Pass} {F C A w : List ℕ} {s : State} (v : FoundFunction) → Tells putRow Blank functionIn F at (functionFound v)
-    → at < rowsMost → Fits rs (raw p F C A w) s → functionFound v ≡ functionIn (rowAt s at)
-fact-of {at = at} v found few f = told (f .tied) (f .good .rows) at few functionIn found
-
-module _ {rs : List ℕ} {at : ℕ} {d : Ending} {p : Pass} {F C A w : List ℕ} (v : FoundFunction) (found : Tells putRow Blank functionIn F at (functionFound v)) where
-  pub ends-fact : LambdaEnds rs at d p F C A w → rowWidth * at + rowWidth ≤ length F
-  ends-fact a = fact-inside (a .fits .tied) (a .fits .good .rows) at (a .few)
-
-  module _ (e : v ≡ function.Nothing) where
-    pub ends-made : LambdaEnds rs at d p F C A w → MakeFits rs at (d .names) p F C A w
-    ends-made a = record {
-      s = a .s;
-      xs = a .xs;
-      told = a .told;
-      fits = a .fits;
-      few = a .few;
-      room = a .ends .made (sym (fact-of v found (a .few) (a .fits)) ∙ ap functionFound e);
-      captured = a .ends .captured;
-    }
-
-    pub lambda-left : at < rowsMost → {escapes : Bool} {p′ : Pass} {F′ C′ A′ w′ : List ℕ} → MakesFunction rs at (d .names) escapes p F C A w p′ F′ C′ A′ w′
-        → LeavesLambda rs at d escapes p F C A w p′ F′ C′ A′ w′
-    unfolding leaveLambda
-    lambda-left few m = record {
-      is = λ s xs b node em t y f x.
-          let z : functionIn (rowAt s (node .at)) ≡ none =
-          ap (λ (i : ℕ). functionIn (rowAt s i)) em ∙ sym (fact-of v found few f) ∙ ap functionFound e in
-          rw z (m .is s xs node em t f);
-    }
-
-  module _ {i : FunctionInformation} (e : v ≡ function.Found i) where
-    pub ends-amended : LambdaEnds rs at d p F C A w → AmendFits rs at d i p F C w
-    ends-amended a = record {
-      arguments = A;
-      s = a .s;
-      xs = a .xs;
-      b = a .b;
-      told = a .told;
-      body = a .body;
-      fits = a .fits;
-      few = a .few;
-      named = a .ends .named;
-      inside = a .ends .amended i (sym (fact-of v found (a .few) (a .fits)) ∙ ap functionFound e);
-    }
-
-    pub lambda-left-again : at < rowsMost → {escapes : Bool} {p′ : Pass} {F′ C′ w′ : List ℕ} → AmendsFunction rs at d i p F C w p′ F′ C′ w′
-        → LeavesLambda rs at d escapes p F C A w p′ F′ C′ A w′
-    unfolding leaveLambda
-    lambda-left-again few m = record {
-      is = λ s xs b node em t y f x.
-          let z : functionIn (rowAt s (node .at)) ≡ some i =
-          ap (λ (j : ℕ). functionIn (rowAt s j)) em ∙ sym (fact-of v found few f) ∙ ap functionFound e in
-          rw z (m .is A s xs b node em t y f (x .named));
-    }

@@ -144,7 +144,7 @@ inside-of (some i) h = h i refl
 module _ {rs : List ℕ} {at : ℕ} {p : Pass} {F C A w : List ℕ} (few : at < rowsMost) (v : FoundFunction)
     (found : Tells putRow Blank functionIn F at (functionFound v)) where
   -- the fact that the row holds
-  fact-is : {s : State} → Fits rs (raw p F C A w) s → functionFound v ≡ functionIn (rowAt s at)
+  pub fact-is : {s : State} → Fits rs (raw p F C A w) s → functionFound v ≡ functionIn (rowAt s at)
   fact-is f = told (f .tied) (f .good .rows) at few functionIn found
 
   pub lambda-opens : {n : Names} → LambdaFits rs at n p F C A w → ListOpens v p C w

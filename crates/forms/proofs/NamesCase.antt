@@ -1,23 +1,32 @@
 -- Names enter one after another, over states.
 use Prim.Native.Nat.{ℕ, suc, _+_, _-_, _≤_, _<_}
-use mathlib.Core.List.{List}
-use mathlib.Core.Bool.{Bool, cond}
+use mathlib.Core.List.{List, [], _∷_}
+use mathlib.Core.Bool.{Bool, true, false, cond, _&&_}
+use mathlib.Core.Option.{Option, none, some}
 use mathlib.Core.Path.{_≡_, refl, ap, sym, _∙_}
 use native.Mathlib.Omega.{arith}
 use lib.ListN.{length, length-map}
+use lib.Dec.{ltb}
 use Rattle.tree.specs.Tree.{Ident, named}
-use Rattle.semantic.specs.Rows.{Item}
-use Rattle.pass.specs.State.{State}
+use Rattle.scope_map.specs.ScopeMap.{ScopeMap, define, hasAtTop}
+use Rattle.scope_map.specs.declared.ScopeMap.{ScopeMap as Map}
+use Rattle.semantic.specs.Rows.{Row, Item}
+use Rattle.semantic.specs.declared.IdentifierStatus.{IdentifierStatus}
+use Rattle.pass.specs.State.{State, Capture, Entry, withNames, insert, putEntry, depth}
+use Rattle.pass.specs.Read.{noteLive, enter}
 use Rattle.pass.specs.Lists.{listIn}
-use Rattle.pass.specs.Lambda.{isHeap, enterName, enterNames}
+use Rattle.pass.specs.Lambda.{isHeap, noteHeap, enterName, enterNames}
 use Rattle.pass.specs.Run.{itemsLength}
-use Rattle.work.specs.WorksLaws.{names-many}
+use Rattle.work.specs.Coded.{notedOf}
+use Rattle.work.specs.Works.{Beside, Works}
+use Rattle.work.specs.WorksLaws.{names-many, captures-many, depth-is, captures-depth, context-is, captured-top, arguments-top}
 use Rattle.work.specs.Tied.{Raw, raw}
 use Rattle.work.specs.declared.Pass.{Pass}
 use Rattle.walk.specs.declared.uses.Names.{Names}
 use Rattle.lists.specs.Contract.{Told}
-use Rattle.forms.specs.Contract.{Fits, NamesRoom, NamesFit, EntersNames, heapsIn}
+use Rattle.forms.specs.Contract.{Fits, NamesRoom, NamesFit, EntersNames, heapsIn, withEntered}
 use Rattle.forms.specs.declared.bound.Entering.{Entering}
+use Rattle.forms.specs.declared.bound.EnteredNames.{EnteredNames}
 use Rattle.forms.specs.FitsLaws.{arguments-length}
 use Rattle.forms.specs.GoodLaws.{good-name, grows-name}
 use Rattle.forms.specs.Bound.{TellsHeap, NameFits, EntersName}
@@ -33,6 +42,85 @@ enterOneName g before j h x s = enterName (g .kind) (g .base) (heapsIn (g .heaps
 moved : (rs : List ℕ) (g : Entering) (before : List Item) {a a′ k k′ j j′ h h′ : ℕ} {z : Raw} {out : State} → a ≡ a′ → k ≡ k′ → j ≡ j′ → h ≡ h′
     → Left rs a k z (entersFrom g before j h) out → Left rs a′ k′ z (entersFrom g before j′ h′) out
 moved rs g before ea ek ej eh l = rw (← ea, ← ek, ← ej, ← eh) l
+
+-- What names that enter leave as it was
+
+record Aside : Type 0 where
+  depth : ℕ
+  captures : ScopeMap Capture
+  context : ℕ
+  capturedTop : ℕ
+  argumentsTop : ℕ
+  ten : Option ℕ
+
+abbrev asideOf : State → Aside
+asideOf s = record {
+  depth = s .scope .names .depth;
+  captures = s .captures;
+  context = s .context;
+  capturedTop = s .facts .capturedTop;
+  argumentsTop = s .facts .argumentsTop;
+  ten = s .noted .ten;
+}
+
+live-aside : (b : Bool) (x : Ident) (s : State) → asideOf (withNames (define (x .name) x (s .scope .names)) (noteLive b (x .at) s)) ≡ asideOf s
+live-aside true x s = refl
+live-aside false x s = refl
+
+heap-aside : (o : Option ℕ) (x : Ident) (s : State) → asideOf (noteHeap o x s) ≡ asideOf s
+heap-aside none x s = refl
+heap-aside (some k) x s = refl
+
+fact-aside : (i : ℕ) (r : Row) (x : Ident) (e : Entry) (s : State) → asideOf (insert i r (enter x e s)) ≡ asideOf s
+unfolding insert enter putEntry
+fact-aside i r x e s = live-aside (ltb 1 (depth s) && hasAtTop (s .scope .names) (x .name)) x s
+
+module _ (kind : IdentifierStatus) (base : ℕ) (heaps : Option ℕ) (before : List Item) where
+  name-aside : (b : Bool) (x : Ident) (j h : ℕ) (s : State) → asideOf (enterName kind base heaps before b x j h s) ≡ asideOf s
+  unfolding enterName
+  name-aside true x j h s = fact-aside (x .at) _ x _ (noteHeap heaps x s) ∙ heap-aside heaps x s
+  name-aside false x j h s = fact-aside (x .at) _ x _ s
+
+  names-aside : (xs : List Ident) (j h : ℕ) (s : State) → asideOf (enterNames kind base heaps before xs j h s) ≡ asideOf s
+  unfolding enterNames
+  names-aside [] j h s = refl
+  names-aside (x ∷ xs) j h s = names-aside xs (suc j) _ _ ∙ name-aside (isHeap before j) x j h s
+
+map-is : {m k : Map} → m .depth ≡ k .depth → m .length ≡ k .length → m ≡ k
+map-is {m} {k} d l = let z : record { depth = m .depth; length = m .length } ≡ k = rw (d, l) in z
+
+-- so the pass is what it was, but for what they changed
+
+abbrev changedIn : Pass → EnteredNames
+changedIn q = record { length = q .scope .length; nine = q .nine; second = q .second }
+
+works-entered : {p q : Pass} {w w′ : List ℕ} {s t : State} → Works p w s → Works q w′ t → asideOf t ≡ asideOf s → Works (withEntered (changedIn q) p) w′ t
+works-entered {p} {q} {t = t} a b e =
+    let d : p .captures .depth ≡ q .captures .depth = captures-depth a ∙ ap (λ (k : Aside). k .captures .depth) (sym e) ∙ sym (captures-depth b) in
+    let l : p .captures .length ≡ q .captures .length = captures-many a ∙ ap (λ (k : Aside). length (k .captures .live)) (sym e) ∙ sym (captures-many b) in
+    let c = map-is d l in
+    let ten : notedOf (p .ten) ≡ t .noted .ten = ap (λ (k : Beside). k .ten) (a .beside) ∙ ap (λ (k : Aside). k .ten) (sym e) in
+    let context = context-is a ∙ ap (λ (k : Aside). k .context) (sym e) in
+    let captured = captured-top a ∙ ap (λ (k : Aside). k .capturedTop) (sym e) in
+    let arguments = arguments-top a ∙ ap (λ (k : Aside). k .argumentsTop) (sym e) in
+    let nine = ap (λ (k : Beside). k .nine) (b .beside) in
+    let second = ap (λ (k : Beside). k .second) (b .beside) in
+    record {
+      long = b .long;
+      names = record {
+        depth = depth-is a ∙ ap (λ (k : Aside). k .depth) (sym e);
+        many = b .names .many;
+        room = b .names .room;
+        live = b .names .live;
+        index = b .names .index;
+        sorted = b .names .sorted;
+      };
+      entries = b .entries;
+      captures = rw c (b .captures);
+      taken = b .taken;
+      binders = b .binders;
+      beside = rw (context, captured, arguments, nine, ten, second);
+    }
 
 -- the state of the loop: j names have entered, h of them on the heap
 pub record Coming (rs : List ℕ) (n : Names) (g : Entering) (p : Pass) (F A w : List ℕ) (j h : ℕ) (q : Pass) (F′ w′ : List ℕ) : Type 0 where
@@ -52,9 +140,14 @@ module _ {rs : List ℕ} {n : Names} {g : Entering} {p : Pass} {F A w : List ℕ
   names-few a = omega (arith, a .told .stand .within .few, length-map (a .xs) named, a .told .count)
 
   module _ {j h : ℕ} {q : Pass} {F′ w′ : List ℕ} (m : Coming rs n g p F A w j h q F′ w′) where
-    pub coming-ends : n .count ≤ j → EntersNames rs n g p F A w q F′ w′
+    pub coming-ends : n .count ≤ j → EntersNames rs n g p F A w (withEntered (changedIn q) p) F′ w′
     unfolding enterNames
-    coming-ends k = record { is = λ C s xs t f. left-done rs (m .is C s xs t f) (omega arith) (λ u. refl) }
+    coming-ends k = record {
+      is = λ C s xs t f.
+          let d = left-done rs (m .is C s xs t f) (omega arith) (λ u. refl) in
+          let e = names-aside (g .kind) (g .base) (heapsIn (g .heaps)) (listIn (s .facts .arguments) (g .before)) xs 0 0 s in
+          record { facts = d .facts; captured = d .captured; arguments = d .arguments; works = works-entered (f .tied .works) (d .works) e };
+    }
 
     module _ (k : j < n .count) {b : Bool} (heap : TellsHeap A (g .before) j b) where
       is-heap : {C : List ℕ} {s : State} → Fits rs (raw p F C A w) s → b ≡ isHeap (listIn (s .facts .arguments) (g .before)) j

@@ -20,6 +20,7 @@ use Rattle.pass.specs.Lists.{listIn}
 use Rattle.pass.specs.Lambda.{enterNames, enterLambda, leaveLambda, enterLet, leaveLet}
 use Rattle.pass.specs.Visit.{Flags, isLambda, endCall, clearContext, beforeDefine, afterDefine}
 use Rattle.pass.specs.Run.{rowsMost, itemsMost}
+use Rattle.work.specs.Passes.{inScope, withNotes}
 use Rattle.work.specs.Tied.{Raw, raw, Tied, Good}
 use Rattle.work.specs.declared.Pass.{Pass}
 use Rattle.walk.specs.Contract.{bodyOf}
@@ -31,6 +32,7 @@ use Rattle.flags.specs.Flags.{AroundIs}
 use Rattle.forms.specs.Defines.{enterValue, enterOne, enterEach}
 use Rattle.flags.specs.declared.Around.{Around}
 use Rattle.forms.specs.declared.bound.Entering.{Entering}
+use Rattle.forms.specs.declared.bound.EnteredNames.{EnteredNames}
 use Rattle.forms.specs.declared.bound.Heaps.{Heaps}
 use Rattle.forms.specs.declared.bound.Heaps.the-variants as heaps
 
@@ -72,6 +74,10 @@ pub record NamesFit (rs : List ℕ) (n : Names) (g : Entering) (p : Pass) (F A w
 pub record EntersNames (rs : List ℕ) (n : Names) (g : Entering) (p : Pass) (F A w : List ℕ) (p′ : Pass) (F′ w′ : List ℕ) : Type 0 where
   pub is : (C : List ℕ) (s : State) (xs : List Ident) → Told rs n xs → Fits rs (raw p F C A w) s
       → Tied (raw p′ F′ C A w′) (enterNames (g .kind) (g .base) (heapsIn (g .heaps)) (listIn (s .facts .arguments) (g .before)) xs 0 0 s)
+
+-- the pass with what they changed
+abbrev pub withEntered : EnteredNames → Pass → Pass
+withEntered e p = inScope (record { depth = p .scope .depth; length = e .length }) (withNotes (e .nine) (p .ten) (e .second) p)
 
 -- Lambda
 

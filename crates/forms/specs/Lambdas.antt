@@ -2,26 +2,29 @@
 use Prim.Native.Nat.{ℕ, _+_, _-_, _≤_, _<_}
 use mathlib.Core.List.{List, map}
 use mathlib.Core.Bool.{Bool}
-use mathlib.Core.Option.{Option, some}
+use mathlib.Core.Option.{Option, none, some}
 use mathlib.Core.Path.{_≡_}
 use lib.ListN.{length}
-use Rattle.tree.specs.Tree.{Ident, Node, Tree}
+use Rattle.tree.specs.Tree.{Ident, Tree}
 use Rattle.scope_map.specs.ScopeMap.{newestLayer}
 use Rattle.semantic.specs.Kinds.{functionFound}
 use Rattle.semantic.specs.Information.{NONE}
+use Rattle.semantic.specs.Rows.{Item}
+use Rattle.semantic.specs.declared.Entries.{Entries}
 use Rattle.semantic.specs.declared.FoundFunction.{FoundFunction}
 use Rattle.semantic.specs.declared.FunctionInformation.{FunctionInformation}
 use Rattle.pass.specs.State.{State}
-use Rattle.pass.specs.Lists.{listIn, capturedVars, sortById}
-use Rattle.pass.specs.Lambda.{enterNames, openCaptures, enterParameters, markLasts, closeScope, closeCaptures, endParameters, itemsOf, makeFunction, amendFunction, nameIn}
+use Rattle.pass.specs.Lists.{listIn, capturedVars, sortById, storeCaptured, storeArguments, rewriteCaptured}
+use Rattle.pass.specs.Lambda.{enterNames, openCaptures, enterParameters, markLasts, closeScope, closeCaptures, endParameters, itemsOf, nameIn}
 use Rattle.pass.specs.Run.{rowsMost, itemsMost}
 use Rattle.work.specs.Tied.{raw, Tied}
 use Rattle.work.specs.declared.Pass.{Pass}
 use Rattle.walk.specs.declared.uses.Names.{Names}
-use Rattle.lists.specs.Contract.{Told, Inside, CapturesRoom, Body, Named}
+use Rattle.lists.specs.Contract.{Told, Inside, CapturesRoom, Body, Named, amendedList}
 use Rattle.lists.specs.declared.amend.Ending.{Ending}
 use Rattle.forms.specs.Contract.{Fits, FewHeaps, heapsIn}
 use Rattle.forms.specs.declared.bound.Entering.{Entering}
+use Rattle.forms.specs.declared.lambda.EndedLists.{EndedLists}
 
 -- On entering
 
@@ -59,51 +62,69 @@ closed xs s = endParameters xs (markLasts (newestLayer (s .scope .names)) (close
 pub record Closes (rs : List ℕ) (n : Names) (p : Pass) (F w : List ℕ) (p′ : Pass) (F′ w′ : List ℕ) : Type 0 where
   pub is : (C A : List ℕ) (s : State) (xs : List Ident) → Told rs n xs → Fits rs (raw p F C A w) s → Tied (raw p′ F′ C A w′) (closed xs s)
 
-abbrev pub madeOf : Pass → Pass → Bool → ℕ → FunctionInformation
-madeOf p q escapes depth = record {
-  «captured_vars» = record { first = p .«captured_top»; length = q .«captured_top» - p .«captured_top» };
-  arguments = record { first = p .«arguments_top»; length = q .«arguments_top» - p .«arguments_top» };
+-- the lists: made where the lambda has no fact, else its captured one amended
+
+abbrev pub madeList : List Ident → State → List Item
+madeList xs s = sortById (capturedVars (map nameIn xs) s)
+
+abbrev pub layerList : State → List Item
+layerList s = itemsOf s (newestLayer (s .scope .names))
+
+abbrev pub withLists : Option FunctionInformation → ℕ → List Ident → Tree → State → State
+withLists none at xs b s = storeArguments (layerList s) (storeCaptured at (madeList xs s) s)
+withLists (some i) at xs b s = rewriteCaptured (i .«captured_vars») (amendedList xs b (i .«captured_vars») s) s
+
+-- where they lie
+
+abbrev pub entriesBetween : ℕ → ℕ → Entries
+entriesBetween from to = record { first = from; length = to - from }
+
+abbrev pub capturedEntries : Option FunctionInformation → List Ident → Tree → State → Entries
+capturedEntries none xs b s = record { first = s .facts .capturedTop; length = length (madeList xs s) }
+capturedEntries (some i) xs b s = record { first = i .«captured_vars» .first; length = length (amendedList xs b (i .«captured_vars») s) }
+
+abbrev pub argumentEntries : Option FunctionInformation → State → Entries
+argumentEntries none s = record { first = s .facts .argumentsTop; length = length (layerList s) }
+argumentEntries (some i) s = i .arguments
+
+-- the fact with them: a new one, or the one that the lambda has
+abbrev pub functionFact : Option FunctionInformation → Entries → Entries → Bool → ℕ → FunctionInformation
+functionFact none captured arguments escapes depth = record {
+  «captured_vars» = captured;
+  arguments = arguments;
   escapes = escapes;
   «aliases_to» = NONE;
   depth = depth;
 }
-
-abbrev pub shorterOf : FunctionInformation → ℕ → FunctionInformation
-shorterOf v n = record {
-  «captured_vars» = record { first = v .«captured_vars» .first; length = n };
-  arguments = v .arguments;
-  escapes = v .escapes;
-  «aliases_to» = v .«aliases_to»;
-  depth = v .depth;
+functionFact (some i) captured arguments escapes depth = record {
+  «captured_vars» = captured;
+  arguments = arguments;
+  escapes = i .escapes;
+  «aliases_to» = i .«aliases_to»;
+  depth = i .depth;
 }
 
--- the fact is made
-pub record MakeFits (rs : List ℕ) (at : ℕ) (n : Names) (p : Pass) (F C A w : List ℕ) : Type 0 where
-  pub s : State
-  pub xs : List Ident
-  pub told : Told rs n xs
-  pub fits : Fits rs (raw p F C A w) s
-  pub few : at < rowsMost
-  pub room : s .facts .argumentsTop + length (newestLayer (s .scope .names)) ≤ itemsMost
-  pub captured : p .«captured_top» + itemsMost < 4294967296
-
-pub record MakesFunction (rs : List ℕ) (at : ℕ) (n : Names) (escapes : Bool) (p : Pass) (F C A w : List ℕ) (p′ : Pass) (F′ C′ A′ w′ : List ℕ) : Type 0 where
-  pub is : (s : State) (xs : List Ident) (m : Node) → m .at ≡ at → Told rs n xs → Fits rs (raw p F C A w) s
-      → Tied (raw p′ F′ C′ A′ w′) (makeFunction m escapes (sortById (capturedVars (map nameIn xs) s)) (itemsOf s (newestLayer (s .scope .names))) (closed xs s))
-
--- or amended
-pub record AmendFits (rs : List ℕ) (at : ℕ) (d : Ending) (v : FunctionInformation) (p : Pass) (F C w : List ℕ) : Type 0 where
-  pub arguments : List ℕ
+-- what they need
+pub record ListsEnd (rs : List ℕ) (at : ℕ) (d : Ending) (v : FoundFunction) (p : Pass) (C A w : List ℕ) : Type 0 where
+  pub facts : List ℕ
   pub s : State
   pub xs : List Ident
   pub b : Tree
   pub told : Told rs (d .names) xs
   pub body : Body rs d b
-  pub fits : Fits rs (raw p F C arguments w) s
+  pub fits : Fits rs (raw p facts C A w) s
   pub few : at < rowsMost
-  pub inside : Inside (v .«captured_vars»)
+  pub made : functionFound v ≡ none → s .facts .argumentsTop + length (newestLayer (s .scope .names)) ≤ itemsMost
+  pub amended : (i : FunctionInformation) → functionFound v ≡ some i → Inside (i .«captured_vars»)
+  pub captured : p .«captured_top» + itemsMost < 4294967296
   pub named : Named s
 
-pub record AmendsFunction (rs : List ℕ) (at : ℕ) (d : Ending) (v : FunctionInformation) (p : Pass) (F C w : List ℕ) (p′ : Pass) (F′ C′ w′ : List ℕ) : Type 0 where
-  pub is : (A : List ℕ) (s : State) (xs : List Ident) (b : Tree) (m : Node) → m .at ≡ at → Told rs (d .names) xs → Body rs d b → Fits rs (raw p F C A w) s → Named s
-      → Tied (raw p′ F′ C′ A w′) (amendFunction m b (capturedVars (map nameIn xs) s) (s .captures) v (closed xs s))
+-- the lists are in the tables, and the code says where they lie
+pub record Listed (o : Option FunctionInformation) (at : ℕ) (xs : List Ident) (b : Tree) (s : State) (e : EndedLists) (F C A w : List ℕ) : Type 0 where
+  pub tied : Tied (raw (e .pass) F C A w) (withLists o at xs b s)
+  pub captured : e .captured ≡ capturedEntries o xs b s
+  pub arguments : e .arguments ≡ argumentEntries o s
+
+pub record EndsLists (rs : List ℕ) (at : ℕ) (d : Ending) (v : FoundFunction) (p : Pass) (C A w : List ℕ) (e : EndedLists) (C′ A′ w′ : List ℕ) : Type 0 where
+  pub is : (F : List ℕ) (s : State) (xs : List Ident) (b : Tree) → Told rs (d .names) xs → Body rs d b → Fits rs (raw p F C A w) s → Named s
+      → Listed (functionFound v) at xs b s e F C′ A′ w′

@@ -2,12 +2,15 @@
 use lists::captured::info_of;
 use names::define::entered;
 use names::define::put_name;
+use scope_map::ScopeMap;
 use semantic::Entries;
 use semantic::IdentifierStatus;
 use semantic::SemanticInformation;
 use table::wide;
 use walk::uses::Names;
+use work::Noted;
 use work::Pass;
+use work::Second;
 use work::entries::Entry;
 use work::entries::load_entry;
 use work::narrow;
@@ -25,7 +28,7 @@ ghost use Rattle.pass.specs.Lambda.{orZero};
 ghost use Rattle.pass.specs.Run.{rowsMost, itemsMost, factsLength, itemsLength};
 ghost use Rattle.work.specs.Coded.{coded};
 ghost use Rattle.lists.specs.Contract.{Inside};
-ghost use Rattle.forms.specs.Contract.{heapsIn, NamesFit, EntersNames};
+ghost use Rattle.forms.specs.Contract.{heapsIn, withEntered, NamesFit, EntersNames};
 ghost use Rattle.forms.specs.Bound.{TellsHeap, NameFits, EntersWith, nameEntry, NotesHeap, EntersName, SlotsFit, Marked, MarksLast, MarksLasts, BinderFits, LayerFits, NamesStore, StoresArgument, StoresLayer, StoresNames, NamesEnd, EndsParameters, LeavesNames};
 
 pub fn no_entries() -> Entries
@@ -156,6 +159,13 @@ fn enter_name(
     enter_with(all, at, name_kind(heap, kind), e, q, facts, work)
 }
 
+// What names that entered change of the pass.
+pub struct EnteredNames {
+    pub length: usize,
+    pub nine: Noted,
+    pub second: Second,
+}
+
 pub fn enter_names(
     all: &[u32],
     names: Names,
@@ -164,9 +174,9 @@ pub fn enter_names(
     facts: &mut [u32],
     arguments: &[u32],
     work: &mut [u32],
-) -> Pass
+) -> EnteredNames
     requires { ⌜ NamesFit (now all) names g p (now facts) (now arguments) (now work) ⌝ }
-    ensures { λ r. ⌜ EntersNames (now (all .entry)) names g p (now (facts .entry)) (now (arguments .entry)) (now (work .entry)) r (now (facts .exit)) (now (work .exit)) ⌝ }
+    ensures { λ r. ⌜ EntersNames (now (all .entry)) names g p (now (facts .entry)) (now (arguments .entry)) (now (work .entry)) (withEntered r p) (now (facts .exit)) (now (work .exit)) ⌝ }
 {
     let first = names.first;
     let before = g.before;
@@ -179,6 +189,30 @@ pub fn enter_names(
         h = next_heap(heap, h);
         j += 1;
     }
+    let scope = q.scope;
+    let nine = q.nine;
+    let second = q.second;
+    EnteredNames {
+        length: scope.length,
+        nine,
+        second,
+    }
+}
+
+pub fn with_entered(p: Pass, e: EnteredNames) -> Pass
+    ensures { λ r. ⌜ r ≡ withEntered e p ⌝ }
+{
+    let names = p.scope;
+    let scope = ScopeMap {
+        depth: names.depth,
+        length: e.length,
+    };
+    let nine = e.nine;
+    let second = e.second;
+    let mut q = p;
+    q.scope = scope;
+    q.nine = nine;
+    q.second = second;
     q
 }
 

@@ -6,6 +6,7 @@ use crate::bound::enter_names;
 use crate::bound::mark_lasts;
 use crate::bound::no_entries;
 use crate::bound::store_layer;
+use crate::bound::with_entered;
 use lists::amend::Ending;
 use lists::amend::amend_list;
 use lists::captured::store_captured;
@@ -22,7 +23,6 @@ use work::captures::close_captures;
 use work::captures::open_captures;
 use work::narrow;
 use work::scope::close_scope;
-use work::scope::newest_layer;
 use work::scope::open_scope;
 ghost use mathlib.Core.Path.{_≡_};
 ghost use Prim.Native.Nat.{_≤_, _<_};
@@ -31,7 +31,7 @@ ghost use Rattle.semantic.specs.Kinds.{functionFound};
 ghost use Rattle.pass.specs.Run.{itemsLength};
 ghost use Rattle.forms.specs.Contract.{LambdaFits, EntersLambda, LambdaEnds, LeavesLambda};
 ghost use Rattle.forms.specs.Bound.{NamesEnd};
-ghost use Rattle.forms.specs.Lambdas.{ListOpens, OpensList, ListInside, EntersBy, Closes, madeOf, shorterOf, MakeFits, MakesFunction, AmendFits, AmendsFunction};
+ghost use Rattle.forms.specs.Lambdas.{ListOpens, OpensList, ListInside, EntersBy, Closes, entriesBetween, functionFact, ListsEnd, EndsLists};
 
 // The captures' layer opens, with the lambda's list where it has a fact; one that escapes ends the context.
 fn open_list(v: FoundFunction, p: Pass, captured: &mut [u32], work: &mut [u32]) -> Pass
@@ -92,7 +92,8 @@ pub fn enter_lambda(
     let o = open_list(v, p, captured, work);
     let q = open_scope(o);
     let g = entering(v, captured);
-    enter_names(all, names, g, q, facts, arguments, work)
+    let e = enter_names(all, names, g, q, facts, arguments, work);
+    with_entered(q, e)
 }
 
 // The layer goes, and what its names were is marked.
@@ -107,87 +108,89 @@ fn close_lambda(all: &[u32], names: Names, p: Pass, facts: &mut [u32], work: &mu
     q
 }
 
-fn made(p: Pass, q: Pass, escapes: bool, depth: u32) -> FunctionInformation
-    requires { ⌜ (p .«captured_top» ≤ q .«captured_top») × (q .«captured_top» < 4294967296) × (p .«arguments_top» ≤ q .«arguments_top») × (q .«arguments_top» < 4294967296) ⌝ }
-    ensures { λ r. ⌜ r ≡ madeOf p q escapes depth ⌝ }
+// The list of the entries between two tops.
+fn between(from: usize, to: usize) -> Entries
+    requires { ⌜ (from ≤ to) × (to < 4294967296) ⌝ }
+    ensures { λ r. ⌜ r ≡ entriesBetween from to ⌝ }
 {
-    FunctionInformation {
-        captured_vars: Entries {
-            first: narrow(p.captured_top),
-            length: narrow(q.captured_top - p.captured_top),
-        },
-        arguments: Entries {
-            first: narrow(p.arguments_top),
-            length: narrow(q.arguments_top - p.arguments_top),
-        },
-        escapes,
-        aliases_to: NONE,
-        depth,
+    Entries {
+        first: narrow(from),
+        length: narrow(to - from),
     }
 }
 
-fn shorter(v: FunctionInformation, n: usize) -> FunctionInformation
-    requires { ⌜ n < 4294967296 ⌝ }
-    ensures { λ r. ⌜ r ≡ shorterOf v n ⌝ }
-{
-    let list = v.captured_vars;
-    let arguments = v.arguments;
-    FunctionInformation {
-        captured_vars: Entries {
-            first: list.first,
-            length: narrow(n),
-        },
-        arguments,
-        escapes: v.escapes,
-        aliases_to: v.aliases_to,
-        depth: v.depth,
-    }
+// The pass after a lambda's lists are made or amended, and where they lie.
+struct EndedLists {
+    pass: Pass,
+    captured: Entries,
+    arguments: Entries,
 }
 
-// The first run makes the fact.
-fn make_function(
-    all: &[u32],
-    at: usize,
-    names: Names,
-    escapes: bool,
-    p: Pass,
-    facts: &mut [u32],
-    captured: &mut [u32],
-    arguments: &mut [u32],
-    work: &mut [u32],
-) -> Pass
-    requires { ⌜ MakeFits (now all) at names p (now facts) (now captured) (now arguments) (now work) ⌝ }
-    ensures { λ r. ⌜ MakesFunction (now (all .entry)) at names escapes p (now (facts .entry)) (now (captured .entry)) (now (arguments .entry)) (now (work .entry)) r (now (facts .exit)) (now (captured .exit)) (now (arguments .exit)) (now (work .exit)) ⌝ }
-{
-    let a = store_captured(all, at, names, p, captured, work);
-    let b = store_layer(all, a, arguments, work);
-    let q = close_lambda(all, names, b, facts, work);
-    let v = made(p, b, escapes, q.depth());
-    semantic::rows::store_function(facts, at, v);
-    q
-}
-
-// The second amends its list.
-fn amend_function(
+// The first run makes the lists, the second amends the captured one.
+fn end_lists(
     all: &[u32],
     at: usize,
     d: Ending,
-    v: FunctionInformation,
+    v: FoundFunction,
     p: Pass,
-    facts: &mut [u32],
     captured: &mut [u32],
+    arguments: &mut [u32],
     work: &mut [u32],
-) -> Pass
-    requires { ⌜ AmendFits (now all) at d v p (now facts) (now captured) (now work) ⌝ }
-    ensures { λ r. ⌜ AmendsFunction (now (all .entry)) at d v p (now (facts .entry)) (now (captured .entry)) (now (work .entry)) r (now (facts .exit)) (now (captured .exit)) (now (work .exit)) ⌝ }
+) -> EndedLists
+    requires { ⌜ ListsEnd (now all) at d v p (now captured) (now arguments) (now work) ⌝ }
+    ensures { λ r. ⌜ EndsLists (now (all .entry)) at d v p (now (captured .entry)) (now (arguments .entry)) (now (work .entry)) r (now (captured .exit)) (now (arguments .exit)) (now (work .exit)) ⌝ }
 {
-    let list = v.captured_vars;
-    let names = d.names;
+    let FoundFunction::Found(i) = v else {
+        let names = d.names;
+        let a = store_captured(all, at, names, p, captured, work);
+        let b = store_layer(all, a, arguments, work);
+        let made = between(p.captured_top, b.captured_top);
+        let layer = between(p.arguments_top, b.arguments_top);
+        return EndedLists {
+            pass: b,
+            captured: made,
+            arguments: layer,
+        };
+    };
+    let list = i.captured_vars;
+    let kept = i.arguments;
     let n = amend_list(all, d, list, p, captured, work);
-    let q = close_lambda(all, names, p, facts, work);
-    let less = shorter(v, n);
-    semantic::rows::store_function(facts, at, less);
-    q
+    EndedLists {
+        pass: p,
+        captured: Entries {
+            first: list.first,
+            length: narrow(n),
+        },
+        arguments: kept,
+    }
+}
+
+// The fact with its lists: a new one, or the one that the lambda has.
+fn function_fact(
+    v: FoundFunction,
+    captured: Entries,
+    arguments: Entries,
+    escapes: bool,
+    depth: u32,
+) -> FunctionInformation
+    ensures { λ r. ⌜ r ≡ functionFact (functionFound v) captured arguments escapes depth ⌝ }
+{
+    let FoundFunction::Found(i) = v else {
+        return FunctionInformation {
+            captured_vars: captured,
+            arguments,
+            escapes,
+            aliases_to: NONE,
+            depth,
+        };
+    };
+    FunctionInformation {
+        captured_vars: captured,
+        arguments,
+        escapes: i.escapes,
+        aliases_to: i.aliases_to,
+        depth: i.depth,
+    }
 }
 
 pub fn leave_lambda(
@@ -206,18 +209,12 @@ pub fn leave_lambda(
 {
     let names = d.names;
     let found = semantic::kinds::function_at(facts, at);
-    match found {
-        FoundFunction::Found(v) => amend_function(all, at, d, v, p, facts, captured, work),
-        FoundFunction::Nothing => make_function(
-            all,
-            at,
-            names,
-            escapes,
-            p,
-            facts,
-            captured,
-            arguments,
-            work,
-        ),
-    }
+    let e = end_lists(all, at, d, found, p, captured, arguments, work);
+    let b = e.pass;
+    let q = close_lambda(all, names, b, facts, work);
+    let list = e.captured;
+    let layer = e.arguments;
+    let v = function_fact(found, list, layer, escapes, q.depth());
+    semantic::rows::store_function(facts, at, v);
+    q
 }

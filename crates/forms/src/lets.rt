@@ -5,6 +5,7 @@ use crate::bound::enter_names;
 use crate::bound::leave_names;
 use crate::bound::no_entries;
 use crate::bound::store_names;
+use crate::bound::with_entered;
 use flags::Around;
 use lists::number::heap_count;
 use semantic::Entries;
@@ -95,7 +96,8 @@ pub fn enter_let(
         before,
     };
     let q = open_let(p);
-    enter_names(all, names, g, q, facts, arguments, work)
+    let e = enter_names(all, names, g, q, facts, arguments, work);
+    with_entered(q, e)
 }
 
 // The let's fact, if it has none yet.

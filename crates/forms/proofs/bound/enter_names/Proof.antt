@@ -57,7 +57,7 @@ same-length-2 : tie.Need-same-length-2 Inv-loop μ-loop
 same-length-2 c = omega arith
 
 returns : tie.Need-returns Inv-loop μ-loop
-returns c = coming-ends (c .before .before .loop .inv .5) (omega arith)
+returns c = coming-ends (c .before .before .before .before .before .loop .inv .5) (omega arith)
 
 pub enter-names-spec : {M : Type 1} → statement M
 enter-names-spec =

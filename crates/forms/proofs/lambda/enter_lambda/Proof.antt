@@ -1,4 +1,5 @@
 -- `enter_lambda`: the layers, then the parameters.
+use native.Mathlib.Omega.{arith}
 use borrow.Author.Needs.{needs}
 use Rattle.forms.specs.FitsLaws.{fact-inside}
 use Rattle.forms.proofs.LambdaEnter.{lambda-opens, lambda-inside, scope-shallow, scope-captured, lambda-names, lambda-entered}
@@ -20,17 +21,20 @@ entering-requires c κs = (lambda-inside (c .before .before .before .before .bef
 enter-names-requires : tie.Need-enter-names-requires
 enter-names-requires c κs = lambda-names (c .before .before .before .before .before .before .before .before .before .before .before .before .before .before .before .before .before .before .before .pre .few) (c .before .before .before .before .before .before .before .before .before .before .before .before .function-at .result) (c .before .before .before .before .before .before .before .before .before .before .before .before .function-at .ensures) (c .before .before .before .before .before .before .before .before .before .open-list .ensures) (c .before .before .before .before .open-scope .ensures) (c .before .before .entering .ensures) (c .before .before .before .before .before .before .before .before .before .before .before .before .before .before .before .before .before .before .before .pre)
 
+with-entered-requires : tie.Need-with-entered-requires
+with-entered-requires c κs = search needs
+
 same-length : tie.Need-same-length
 same-length c = search needs
 
 same-length-2 : tie.Need-same-length-2
-same-length-2 c = search needs
+same-length-2 c = omega (arith, c .before .before .before .before .before .before .before .before .before .before .before .before .before .before .captured .given)
 
 same-length-3 : tie.Need-same-length-3
-same-length-3 c = search needs
+same-length-3 c = omega (arith, c .before .before .before .before .before .before .before .before .before .before .before .before .work .given, c .before .before .work2 .given)
 
 returns : tie.Need-returns
-returns c = lambda-entered (c .before .before .before .before .before .before .before .before .before .before .before .before .before .before .before .before .before .before .before .before .before .before .before .before .pre .few) (c .before .before .before .before .before .before .before .before .before .before .before .before .before .before .before .before .before .function-at .result) (c .before .before .before .before .before .before .before .before .before .before .before .before .before .before .before .before .before .function-at .ensures) (c .before .before .before .before .before .before .before .before .before .before .before .before .before .before .open-list .ensures) (c .before .before .before .before .before .before .before .before .before .open-scope .ensures) (c .before .before .before .before .before .before .before .entering .ensures) (c .before .before .before .before .enter-names .ensures)
+returns c = rw (c .with-entered .ensures) (lambda-entered (c .before .before .before .before .before .before .before .before .before .before .before .before .before .before .before .before .before .before .before .before .before .before .before .before .before .pre .few) (c .before .before .before .before .before .before .before .before .before .before .before .before .before .before .before .before .before .before .function-at .result) (c .before .before .before .before .before .before .before .before .before .before .before .before .before .before .before .before .before .before .function-at .ensures) (c .before .before .before .before .before .before .before .before .before .before .before .before .before .before .before .open-list .ensures) (c .before .before .before .before .before .before .before .before .before .before .open-scope .ensures) (c .before .before .before .before .before .before .before .before .entering .ensures) (c .before .before .before .before .before .enter-names .ensures))
 
 pub enter-lambda-spec : {M : Type 1} → statement M
 enter-lambda-spec =
@@ -41,6 +45,7 @@ enter-lambda-spec =
     open-scope-requires
     entering-requires
     enter-names-requires
+    with-entered-requires
     same-length
     same-length-2
     same-length-3

@@ -16,6 +16,9 @@ open-let-requires c κs = search needs
 enter-names-requires : tie.Need-enter-names-requires
 enter-names-requires c κs = let-names (c .before .before .open-let .ensures) (c .before .before .before .before .before .heaps-around .ensures) (c .before .before .before .let-arguments .ensures) (c .before .before .before .before .before .before .before .before .before .before .before .before .pre)
 
+with-entered-requires : tie.Need-with-entered-requires
+with-entered-requires c κs = search needs
+
 same-length : tie.Need-same-length
 same-length c = search needs
 
@@ -23,7 +26,7 @@ same-length-2 : tie.Need-same-length-2
 same-length-2 c = search needs
 
 returns : tie.Need-returns
-returns c = let-entered (c .before .before .before .before .before .before .before .open-let .ensures) (c .before .before .before .before .before .before .before .before .before .before .heaps-around .ensures) (c .before .before .before .before .before .before .before .before .let-arguments .ensures) (c .before .before .before .before .enter-names .ensures)
+returns c = rw (c .with-entered .ensures) (let-entered (c .before .before .before .before .before .before .before .before .open-let .ensures) (c .before .before .before .before .before .before .before .before .before .before .before .heaps-around .ensures) (c .before .before .before .before .before .before .before .before .before .let-arguments .ensures) (c .before .before .before .before .before .enter-names .ensures))
 
 pub enter-let-spec : {M : Type 1} → statement M
 enter-let-spec =
@@ -33,6 +36,7 @@ enter-let-spec =
     let-arguments-requires
     open-let-requires
     enter-names-requires
+    with-entered-requires
     same-length
     same-length-2
     returns)
