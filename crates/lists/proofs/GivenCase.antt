@@ -72,6 +72,10 @@ decoded-is : (o : Option Ident) → decoded (lastCode o) ≡ recordIn o
 decoded-is none = refl
 decoded-is (some x) = refl
 
+-- an index that has no name
+pub indexes-none : (ps : List ℕ) (c : Scope) → Indexes [] ps c
+indexes-none ps c x h = absurd (omega arith)
+
 module _ {rs : List ℕ} {n : Names} {p : Pass} {w : List ℕ} {x : ℕ} where
   module _ {b : Bool} (h : HoldsName rs n x b) where
     searched : (q : Binder) → Tells p w (λ s. recordIn (cond (not b) (capturedNewest (s .scope) x) none)) (recordOf q) → Offers rs n p w [] x q
@@ -96,7 +100,7 @@ module _ {rs : List ℕ} {n : Names} {p : Pass} {w : List ℕ} {x : ℕ} where
     }
 
     pub offers-searched : Offers rs n p w [] x q → Offers rs n p w a x q
-    offers-searched o = record { is = λ xs s told works idx. o .is xs s told works (λ y h. absurd (omega arith)) }
+    offers-searched o = record { is = λ xs s told works idx. o .is xs s told works (indexes-none (map nameIn xs) (s .scope)) }
 
 -- What a live name gives, by its layer
 
@@ -148,18 +152,21 @@ pub with-length : (c : Scope) (o : Option Ident) (l : List Item) → length (wit
 with-length c none l = omega arith
 with-length c (some b) l = omega arith
 
--- there are at most as many entries as live names
-pub captured-few : (ps : List ℕ) (s : State) (l : List (Live Ident)) → length (capturedIn ps s l) ≤ length l
-unfolding capturedIn
-captured-few ps s [] = omega arith
-captured-few ps s (e ∷ l) =
+-- a live name gives at most one entry, so there are at most as many as live names
+
+pub captured-more : (ps : List ℕ) (s : State) (e : Live Ident) (l : List (Live Ident)) → length (capturedIn ps s (e ∷ l)) ≤ suc (length (capturedIn ps s l))
+captured-more ps s e l =
     let o = given ps (s .scope) e in
-    let m = capturedIn ps s l in
-    omega (arith, captured-few ps s l, ap length (captured-step ps s e l), with-length (s .scope) o m, one (isSome (recordIn o)))
+    omega (arith, ap length (captured-step ps s e l), with-length (s .scope) o (capturedIn ps s l), one (isSome (recordIn o)))
   where
     one : (q : Bool) → _≤_ (cond q 1 0) 1
     one true = omega arith
     one false = omega arith
+
+pub captured-few : (ps : List ℕ) (s : State) (l : List (Live Ident)) → length (capturedIn ps s l) ≤ length l
+unfolding capturedIn
+captured-few ps s [] = omega arith
+captured-few ps s (e ∷ l) = omega (arith, captured-few ps s l, captured-more ps s e l)
 
 pub next-given : (ps : List ℕ) (s : State) (i : ℕ) (v : NextLive (s .scope .names .live) i)
     → capturedIn ps s (before (i + 1) (s .scope .names .live))

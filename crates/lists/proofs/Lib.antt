@@ -7,6 +7,7 @@ pub mod EntryCase
 pub mod CountCase
 pub mod PlaceCase
 pub mod GivenCase
+pub mod BottomCase
 pub mod IndexCase
 pub mod NearCase
 pub mod TakeCase

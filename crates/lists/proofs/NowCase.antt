@@ -1,5 +1,5 @@
 -- How often a name stands in the list made anew, and the entry that it has there. No place of the code stands here.
-use Prim.Native.Nat.{ℕ, suc, _+_, _≤_, _<_}
+use Prim.Native.Nat.{ℕ, suc, _+_, _-_, _≤_, _<_}
 use mathlib.Core.List.{List, [], _∷_, map}
 use mathlib.Core.Bool.{Bool, true, false, cond, _&&_, _||_}
 use mathlib.Core.Option.{Option, none, some}
@@ -31,10 +31,11 @@ use Rattle.walk.specs.declared.uses.Names.{Names}
 use Rattle.lists.specs.declared.amend.Ending.{Ending}
 use Rattle.lists.specs.Contract.{Named, Told}
 use Rattle.lists.specs.Index.{offered}
-use Rattle.lists.specs.Given.{given, withGiven, captured-step, isSome, Gives}
+use Rattle.lists.specs.Given.{given, withGiven, captured-step, isSome, StartsAbove, Gives}
 use Rattle.lists.specs.Counts.{GivesName, CountsNow, nowOf, usedIn, MarksBody, TellsUsed, CountsUsed}
 use Rattle.lists.specs.Kept.{itemIn}
-use Rattle.lists.proofs.GivenCase.{next-live, before-none, before-all, live-is, given-offered, given-newest, next-given}
+use Rattle.lists.proofs.GivenCase.{next-live, before-all, live-is, indexes-none, given-offered, given-newest, next-given}
+use Rattle.lists.proofs.BottomCase.{none-before}
 
 -- The newest binder of a name has the name
 
@@ -79,42 +80,48 @@ module _ {rs : List ℕ} {n : Names} {p : Pass} {w : List ℕ} {i : ℕ} {r : Ro
   gives-yes h g q = record {
     is = λ xs s e k works up.
         let z : eqb (e .name) name ≡ true = eq-eqb (e .name) name (sym (live-is t works up .0) ∙ h) in
-        q ∙ ap isSome (g .is xs s e k works (λ x l. absurd (omega arith)) up) ∙ sym (ap (λ (b : Bool). b && isSome (recordIn (given (map nameIn xs) (s .scope) e))) z);
+        q ∙ ap isSome (g .is xs s e k works (indexes-none (map nameIn xs) (s .scope)) up) ∙ sym (ap (λ (b : Bool). b && isSome (recordIn (given (map nameIn xs) (s .scope) e))) z);
   }
 
--- The loop over the live names
+-- The loop over the live names: those from row i on have given n entries of the name
 
-pub record NowTo (rs : List ℕ) (names : Names) (p : Pass) (w : List ℕ) (name n i : ℕ) : Type 0 where
+pub record NowFrom (rs : List ℕ) (names : Names) (p : Pass) (w : List ℕ) (name n i : ℕ) : Type 0 where
   pub is : (xs : List Ident) (s : State) → Told rs names xs → Named s → Works p w s
-      → n ≡ countOf name (capturedIn (map nameIn xs) s (before i (s .scope .names .live)))
+      → countOf name (capturedVars (map nameIn xs) s) ≡ n + countOf name (capturedIn (map nameIn xs) s (before i (s .scope .names .live)))
 
 module _ {rs : List ℕ} {names : Names} {p : Pass} {w : List ℕ} {name : ℕ} where
-  pub now-start : NowTo rs names p w name 0 0
-  unfolding capturedIn countOf
+  pub now-start : NowFrom rs names p w name 0 (p .scope .length)
+  unfolding capturedVars
   now-start = record {
-    is = λ xs s k h works. sym (ap (λ (l : List (Live Ident)). countOf name (capturedIn (map nameIn xs) s l)) (before-none (s .scope .names .live)));
+    is = λ xs s k h works.
+        let l = s .scope .names .live in
+        let all = ap (λ (m : List (Live Ident)). countOf name (capturedIn (map nameIn xs) s m)) (before-all l (p .scope .length) (omega (arith, names-many works))) in
+        omega (arith, all);
   }
 
-  module _ {n i : ℕ} (u : NowTo rs names p w name n i) where
-    pub now-next : {b : Bool} → GivesName rs names p w i name b → i < p .scope .length → {m : ℕ} → m ≡ n + cond b 1 0 → NowTo rs names p w name m (i + 1)
-    now-next {b} g h {m} q = record {
+  module _ {n i : ℕ} (u : NowFrom rs names p w name n i) where
+    pub now-next : {b : Bool} → GivesName rs names p w (i - 1) name b → 0 < i → i ≤ p .scope .length → {m : ℕ} → m ≡ n + cond b 1 0
+        → NowFrom rs names p w name m (i - 1)
+    now-next {b} g h most {m} q = record {
       is = λ xs s k y works.
           let ps = map nameIn xs in
-          let v = next-live (s .scope .names .live) i (omega (arith, names-many works)) in
+          let v = next-live (s .scope .names .live) (i - 1) (omega (arith, names-many works)) in
           let o = given ps (s .scope) (v .live) in
-          let l = capturedIn ps s (before i (s .scope .names .live)) in
+          let l = capturedIn ps s (before (i - 1) (s .scope .names .live)) in
+          let z : i ≡ (i - 1) + 1 = omega arith in
+          let row = ap (λ (j : ℕ). countOf name (capturedIn ps s (before j (s .scope .names .live)))) z ∙ ap (countOf name) (next-given ps s (i - 1) v) in
           let same = count-with (s .scope) o l name (v .live .name) (λ b e. given-named ps s y (v .live) b e) in
           let told = ap {B = ℕ} (λ (c : Bool). cond c 1 0) (g .is xs s (v .live) k works (v .up)) in
-          omega (arith, q, u .is xs s k y works, same, told, ap (countOf name) (next-given ps s i v));
+          omega (arith, q, u .is xs s k y works, same, told, row);
     }
 
-    pub now-last : p .scope .length ≤ i → CountsNow rs names p w name n
-    unfolding capturedVars
-    now-last h = record {
+    pub now-last : {low : ℕ} → StartsAbove p w low → i ≡ low → CountsNow rs names p w name n
+    unfolding countOf
+    now-last a e = record {
       is = λ xs s k y works.
-          u .is xs s k y works
-          ∙ ap (λ (m : List (Live Ident)). countOf name (capturedIn (map nameIn xs) s m))
-          (before-all (s .scope .names .live) i (omega (arith, names-many works)));
+          let ps = map nameIn xs in
+          let none = ap (λ (j : ℕ). countOf name (capturedIn ps s (before j (s .scope .names .live)))) e ∙ ap (countOf name) (none-before a s ps works) in
+          omega (arith, u .is xs s k y works, none);
     }
 
 -- Those that the body uses

@@ -1,6 +1,7 @@
-// The list that a second run keeps at a lambda's end. For a long list three arrays by name are made: what a name gives (`index`), how
-// often it stands in the list made anew (`counts`), and whether an entry of it is kept already (`seen`). What they tell is looked for where
-// they do not have the name; for a short list they have none.
+// The list that a second run keeps at a lambda's end. For a long list, or with many live names, three arrays by name are made: what a name
+// gives (`index`), how often it stands in the list made anew (`counts`), and whether an entry of it is kept already (`seen`). What they tell
+// is looked for where they do not have the name; for any other list they have none.
+use crate::captured::above_bottom;
 use crate::counts::count_names;
 use crate::counts::count_used;
 use crate::index::FEW;
@@ -36,6 +37,9 @@ ghost use Rattle.walk.specs.Marks.{Unmarked};
 ghost use Rattle.lists.specs.Contract.{Inside, Ended, HeldNamed, AmendsList};
 ghost use Rattle.lists.specs.Index.{SomeHere};
 ghost use Rattle.lists.specs.Kept.{StandsBefore, SomeBinder, AmendsInfo, IndexHeld, KeepsItem, KeepHeld, KeepsRow, AllRight};
+
+// Up to so many rows above the bottom layer, each taken once for each entry, a search is quicker than counting all names.
+const SEARCHED: usize = 16384;
 
 // A lambda that ends: its parameters, the records of its body, and whether a lambda stands among them.
 pub struct Ending {
@@ -228,7 +232,29 @@ fn amend_rows(
     to - first
 }
 
-// A long list by an index and counts of the live names, a short one by search.
+// A long list, by an index and counts of the live names.
+fn amend_long(
+    all: &[u32],
+    d: Ending,
+    e: Entries,
+    p: Pass,
+    captured: &mut [u32],
+    work: &mut [u32],
+) -> usize
+    requires { ⌜ Inside e × Ended (now all) d × HeldNamed (now all) p (now captured) (now work) ⌝ }
+    ensures { λ r. ⌜ AmendsList (now (all .entry)) d e p (now (captured .entry)) (now (work .entry)) r (now (captured .exit)) (now (work .exit)) ⌝ }
+{
+    let names = d.names;
+    let mut index = [0; NAMES];
+    index_names(all, names, p, work, &mut index);
+    let mut counts = [0; NAMES];
+    count_names(&index, all, d, p, work, &mut counts);
+    let mut seen = [0; NAMES];
+    amend_rows(&index, &counts, &mut seen, all, d, e, p, captured, work)
+}
+
+// A short list with few live names is amended by search. The arrays of `amend_long` are not to lie in the frame of that usual case: it is
+// called in two places, so that it is compiled as a function of its own.
 pub fn amend_list(
     all: &[u32],
     d: Ending,
@@ -240,16 +266,17 @@ pub fn amend_list(
     requires { ⌜ Inside e × Ended (now all) d × HeldNamed (now all) p (now captured) (now work) ⌝ }
     ensures { λ r. ⌜ AmendsList (now (all .entry)) d e p (now (captured .entry)) (now (work .entry)) r (now (captured .exit)) (now (work .exit)) ⌝ }
 {
-    if wide(e.length) <= FEW {
-        let none = [0; 0];
-        let mut unseen = [0; 0];
-        return amend_rows(&none, &none, &mut unseen, all, d, e, p, captured, work);
+    let n = wide(e.length);
+    if FEW < n {
+        return amend_long(all, d, e, p, captured, work);
     }
-    let names = d.names;
-    let mut index = [0; NAMES];
-    index_names(all, names, p, work, &mut index);
-    let mut counts = [0; NAMES];
-    count_names(&index, all, d, p, work, &mut counts);
-    let mut seen = [0; NAMES];
-    amend_rows(&index, &counts, &mut seen, all, d, e, p, captured, work)
+    let scope = p.scope;
+    let low = above_bottom(p, work);
+    let many = scope.length - low;
+    if SEARCHED < n * many {
+        return amend_long(all, d, e, p, captured, work);
+    }
+    let none = [0; 0];
+    let mut unseen = [0; 0];
+    amend_rows(&none, &none, &mut unseen, all, d, e, p, captured, work)
 }

@@ -1,5 +1,5 @@
-// How often a name stands in the list made anew, where a second run leaves a lambda: by search, or, where the list kept is long,
-// counted once for all names.
+// How often a name stands in the list made anew, where a second run leaves a lambda: by search, or, where the list kept is long
+// or many names are live, counted once for all names.
 use crate::amend::Ending;
 use crate::captured::captured_at;
 use crate::captured::is_at;
@@ -32,20 +32,25 @@ fn gives(all: &[u32], names: Names, p: Pass, work: &[u32], i: usize, name: u32) 
     is_at(captured_at(&none, all, names, p, work, i))
 }
 
-// How often the name stands in the list made anew.
+// How often the name stands in the list made anew. The names of the bottom layer come first and give nothing; the count starts at the newest
+// row.
 fn count_now(all: &[u32], names: Names, p: Pass, work: &[u32], name: u32) -> usize
     requires { ⌜ SomeNames (now all) names × KnownHere (now all) p (now work) ⌝ }
     ensures { λ r. ⌜ CountsNow (now (all .entry)) names p (now (work .entry)) name r ⌝ }
 {
     let scope = p.scope;
-    let end = scope.length;
     let mut n = 0;
-    let mut i = 0;
-    while i < end {
-        if gives(all, names, p, work, i, name) {
+    let mut i = scope.length;
+    while 0 < i {
+        let last = i - 1;
+        let r = live_at(p, work, last);
+        if r.layer <= 1 {
+            return n;
+        }
+        if gives(all, names, p, work, last, name) {
             n += 1;
         }
-        i += 1;
+        i -= 1;
     }
     n
 }

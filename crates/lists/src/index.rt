@@ -43,7 +43,7 @@ fn captured_binder(p: Pass, work: &[u32], name: u32) -> Binder
 }
 
 // What a name above the bottom layer gives to the list of a lambda with these parameters, by search.
-fn search(all: &[u32], names: Names, p: Pass, work: &[u32], name: u32) -> Binder
+pub fn search(all: &[u32], names: Names, p: Pass, work: &[u32], name: u32) -> Binder
     requires { ⌜ SomeNames (now all) names × KnownHere (now all) p (now work) ⌝ }
     ensures { λ r. ⌜ Offers (now (all .entry)) names p (now (work .entry)) [] name r ⌝ }
 {

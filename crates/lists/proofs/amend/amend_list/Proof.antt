@@ -1,15 +1,47 @@
 -- `amend_list`.
-use borrow.Author.Needs.{needs}
-use Rattle.lists.specs.Index.{namesMost}
-use Rattle.lists.proofs.FillCase.{told-names, held-here}
-use Rattle.lists.proofs.IndexCase.{zeros}
-use Rattle.lists.proofs.TallyCase.{unmarked}
-use Rattle.lists.proofs.AmendCase.{all-right}
+use native.Mathlib.Omega.{arith}
+use borrow.Author.Needs.{needs, scaled-fits}
+use Rattle.work.specs.WorksLaws.{spacious}
 use Rattle.lists.proofs.amend.amend_list.Statement.{statement}
 use Rattle.lists.proofs.amend.amend_list.Tie as tie
 
 wide-requires : tie.Need-wide-requires
 wide-requires c κs = search needs
+
+amend-long-requires : tie.Need-amend-long-requires
+amend-long-requires c κs = search needs
+
+same-length : tie.Need-same-length
+same-length c = search needs
+
+same-length-2 : tie.Need-same-length-2
+same-length-2 c = search needs
+
+returns : tie.Need-returns
+returns c = search needs
+
+above-bottom-requires : tie.Need-above-bottom-requires
+above-bottom-requires c κs = search needs
+
+sub-many : tie.Need-sub-many
+sub-many c = search needs
+
+mul-if2 : tie.Need-mul-if2
+mul-if2 c =
+    let start = c .before .before .before .before .before .before .before .before .before in
+    scaled-fits _ 129 _ (omega (arith, c .before .before .before .before .if1 .left)) (omega (arith, spacious (start .pre .2 .held .tied .works) .names))
+
+amend-long-requires-2 : tie.Need-amend-long-requires-2
+amend-long-requires-2 c κs = search needs
+
+same-length-3 : tie.Need-same-length-3
+same-length-3 c = search needs
+
+same-length-4 : tie.Need-same-length-4
+same-length-4 c = search needs
+
+returns-2 : tie.Need-returns-2
+returns-2 c = search needs
 
 slice-aggregate-amend-rows : tie.Need-slice-aggregate-amend-rows
 slice-aggregate-amend-rows c = search needs
@@ -23,80 +55,35 @@ slice-aggregate-amend-rows-3 c = search needs
 amend-rows-requires : tie.Need-amend-rows-requires
 amend-rows-requires c κs = search needs
 
-same-length : tie.Need-same-length
-same-length c = search needs
+same-length-5 : tie.Need-same-length-5
+same-length-5 c = search needs
 
-same-length-2 : tie.Need-same-length-2
-same-length-2 c = search needs
+same-length-6 : tie.Need-same-length-6
+same-length-6 c = search needs
 
-returns : tie.Need-returns
-returns c = search needs
-
-slice-aggregate-index-names : tie.Need-slice-aggregate-index-names
-slice-aggregate-index-names c = search needs
-
-index-names-requires : tie.Need-index-names-requires
-index-names-requires c κs =
-    let start = c .before .before .before .before .before .before .before .before in
-    (told-names (start .pre .1 .names), held-here (start .pre .2 .held), zeros namesMost)
-
-slice-aggregate-count-names : tie.Need-slice-aggregate-count-names
-slice-aggregate-count-names c = search needs
-
-slice-aggregate-count-names-2 : tie.Need-slice-aggregate-count-names-2
-slice-aggregate-count-names-2 c = search needs
-
-count-names-requires : tie.Need-count-names-requires
-count-names-requires c κs =
-    let start = c .before .before .before .before .before .before .before .before .before .before .before .before .before in
-    (start .pre .1, held-here (start .pre .2 .held), zeros namesMost)
-
-slice-aggregate-amend-rows-4 : tie.Need-slice-aggregate-amend-rows-4
-slice-aggregate-amend-rows-4 c = search needs
-
-slice-aggregate-amend-rows-5 : tie.Need-slice-aggregate-amend-rows-5
-slice-aggregate-amend-rows-5 c = search needs
-
-slice-aggregate-amend-rows-6 : tie.Need-slice-aggregate-amend-rows-6
-slice-aggregate-amend-rows-6 c = search needs
-
-amend-rows-requires-2 : tie.Need-amend-rows-requires-2
-amend-rows-requires-2 c κs =
-    let at-count-names = c .before .before .before .before .before .before in
-    let at-index-names = at-count-names .before .before .before .before .before in
-    let start = at-index-names .before .before .before .before .before .before .before .before .before in
-    (start .pre .0, start .pre .1, start .pre .2, all-right (at-index-names .index-names .ensures) (at-count-names .count-names .ensures), unmarked namesMost)
-
-same-length-3 : tie.Need-same-length-3
-same-length-3 c = search needs
-
-same-length-4 : tie.Need-same-length-4
-same-length-4 c = search needs
-
-returns-2 : tie.Need-returns-2
-returns-2 c = search needs
+returns-3 : tie.Need-returns-3
+returns-3 c = search needs
 
 pub amend-list-spec : {M : Type 1} → statement M
 amend-list-spec =
     tie.close
     (tie.spec
     wide-requires
+    amend-long-requires
+    same-length
+    same-length-2
+    returns
+    above-bottom-requires
+    sub-many
+    mul-if2
+    amend-long-requires-2
+    same-length-3
+    same-length-4
+    returns-2
     slice-aggregate-amend-rows
     slice-aggregate-amend-rows-2
     slice-aggregate-amend-rows-3
     amend-rows-requires
-    same-length
-    same-length-2
-    returns
-    slice-aggregate-index-names
-    index-names-requires
-    slice-aggregate-count-names
-    slice-aggregate-count-names-2
-    count-names-requires
-    slice-aggregate-amend-rows-4
-    slice-aggregate-amend-rows-5
-    slice-aggregate-amend-rows-6
-    amend-rows-requires-2
-    same-length-3
-    same-length-4
-    returns-2)
+    same-length-5
+    same-length-6
+    returns-3)
