@@ -345,3 +345,22 @@ module _ {rs : List ℕ} {d : Ending} {p : Pass} {index counts : List ℕ} {firs
           ∙ ap (λ (j : ℕ). sets l j (L ++ replicate (e .length - length L) noItem)) a in
           subst (λ (v : List Item). Tied (raw p F C″ A w″) (withCaptured v s)) step after;
     }
+
+-- a list of no entries
+amended-none : (xs : List Ident) (b : Tree) (e : Entries) (s : State) → e .length ≡ 0 → amendedList xs b e s ≡ []
+unfolding amendList keep
+amended-none xs b e s z = rw z (go (holdsLambda b))
+  where
+    now : List Item
+    now = nowUsed b (capturedVars (map nameIn xs) s)
+
+    go : (c : Bool) → amendList now (s .captures) [] (cond c [] []) ≡ []
+    go true = refl
+    go false = refl
+
+pub none-amended : {rs : List ℕ} {d : Ending} (e : Entries) {p : Pass} {C w : List ℕ} → e .length ≡ 0 → AmendsList rs d e p C w 0 C w
+unfolding rewriteCaptured
+none-amended e {p} {C} {w} z = record {
+  many = λ F A s xs b u v g n t. sym (ap length (amended-none xs b e s z));
+  is = λ F A s xs b u v g n t. rw (amended-none xs b e s z, z) t;
+}

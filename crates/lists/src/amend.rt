@@ -267,6 +267,9 @@ pub fn amend_list(
     ensures { λ r. ⌜ AmendsList (now (all .entry)) d e p (now (captured .entry)) (now (work .entry)) r (now (captured .exit)) (now (work .exit)) ⌝ }
 {
     let n = wide(e.length);
+    if n == 0 {
+        return 0;
+    }
     if FEW < n {
         return amend_long(all, d, e, p, captured, work);
     }

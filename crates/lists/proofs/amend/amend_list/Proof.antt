@@ -1,12 +1,17 @@
 -- `amend_list`.
+use mathlib.Core.Path.{sym, _∙_}
 use native.Mathlib.Omega.{arith}
 use borrow.Author.Needs.{needs, scaled-fits}
 use Rattle.work.specs.WorksLaws.{spacious}
+use Rattle.lists.proofs.AmendCase.{none-amended}
 use Rattle.lists.proofs.amend.amend_list.Statement.{statement}
 use Rattle.lists.proofs.amend.amend_list.Tie as tie
 
 wide-requires : tie.Need-wide-requires
 wide-requires c κs = search needs
+
+returns : tie.Need-returns
+returns c = none-amended (c .before .before .before .before .before .args .e) (sym (c .before .wide .ensures) ∙ c .if1 .taken)
 
 amend-long-requires : tie.Need-amend-long-requires
 amend-long-requires c κs = search needs
@@ -17,8 +22,8 @@ same-length c = search needs
 same-length-2 : tie.Need-same-length-2
 same-length-2 c = search needs
 
-returns : tie.Need-returns
-returns c = search needs
+returns-2 : tie.Need-returns-2
+returns-2 c = search needs
 
 above-bottom-requires : tie.Need-above-bottom-requires
 above-bottom-requires c κs = search needs
@@ -26,10 +31,10 @@ above-bottom-requires c κs = search needs
 sub-many : tie.Need-sub-many
 sub-many c = search needs
 
-mul-if2 : tie.Need-mul-if2
-mul-if2 c =
-    let start = c .before .before .before .before .before .before .before .before .before in
-    scaled-fits _ 129 _ (omega (arith, c .before .before .before .before .if1 .left)) (omega (arith, spacious (start .pre .2 .held .tied .works) .names))
+mul-if3 : tie.Need-mul-if3
+mul-if3 c =
+    let start = c .before .before .before .before .before .before .before .before .before .before in
+    scaled-fits _ 129 _ (omega (arith, c .before .before .before .before .if2 .left)) (omega (arith, spacious (start .pre .2 .held .tied .works) .names))
 
 amend-long-requires-2 : tie.Need-amend-long-requires-2
 amend-long-requires-2 c κs = search needs
@@ -40,8 +45,8 @@ same-length-3 c = search needs
 same-length-4 : tie.Need-same-length-4
 same-length-4 c = search needs
 
-returns-2 : tie.Need-returns-2
-returns-2 c = search needs
+returns-3 : tie.Need-returns-3
+returns-3 c = search needs
 
 slice-aggregate-amend-rows : tie.Need-slice-aggregate-amend-rows
 slice-aggregate-amend-rows c = search needs
@@ -61,29 +66,30 @@ same-length-5 c = search needs
 same-length-6 : tie.Need-same-length-6
 same-length-6 c = search needs
 
-returns-3 : tie.Need-returns-3
-returns-3 c = search needs
+returns-4 : tie.Need-returns-4
+returns-4 c = search needs
 
 pub amend-list-spec : {M : Type 1} → statement M
 amend-list-spec =
     tie.close
     (tie.spec
     wide-requires
+    returns
     amend-long-requires
     same-length
     same-length-2
-    returns
+    returns-2
     above-bottom-requires
     sub-many
-    mul-if2
+    mul-if3
     amend-long-requires-2
     same-length-3
     same-length-4
-    returns-2
+    returns-3
     slice-aggregate-amend-rows
     slice-aggregate-amend-rows-2
     slice-aggregate-amend-rows-3
     amend-rows-requires
     same-length-5
     same-length-6
-    returns-3)
+    returns-4)
