@@ -13,12 +13,14 @@ use forms::calls::clear_context;
 use forms::calls::end_call;
 use forms::defines::after_define;
 use forms::defines::before_define;
+use forms::defines::enter_child;
 use forms::defines::enter_children;
 use forms::lambda::enter_lambda;
 use forms::lambda::leave_lambda;
 use forms::lets::enter_let;
 use forms::lets::leave_let;
 use lists::amend::Ending;
+use names::define::enter_top_level_value;
 use names::read::mutate;
 use names::read::read;
 use semantic::IdentifierStatus;
@@ -27,12 +29,12 @@ use walk::uses::Names;
 ghost use mathlib.Core.Path.{_≡_};
 ghost use Prim.Native.Nat.{_<_};
 ghost use lib.ListN.{length};
-ghost use Rattle.semantic.specs.declared.IdentifierStatus.the-variants.{LocallyDefinedFunction};
+ghost use Rattle.semantic.specs.declared.IdentifierStatus.the-variants.{LocallyDefinedFunction, Global};
 ghost use Rattle.pass.specs.Read.{read};
 ghost use Rattle.pass.specs.Run.{rowsMost, factsLength};
 ghost use Rattle.work.specs.Passes.{inContext};
-ghost use Rattle.names.specs.Contract.{Readable, Does, Settable, Mutates};
-ghost use Rattle.forms.specs.Contract.{LetFits, EntersLet, LetEnds, LeavesLet, DefineFits, BeforeDefine, AfterDefine, LambdaFits, EntersLambda, LambdaEnds, LeavesLambda, ChildrenFit, EntersChildren, CallFits, EndsCall, ClearsContext};
+ghost use Rattle.names.specs.Contract.{Room, Defined, EntersValue, Readable, Does, Settable, Mutates};
+ghost use Rattle.forms.specs.Contract.{LetFits, EntersLet, LetEnds, LeavesLet, DefineFits, BeforeDefine, AfterDefine, LambdaFits, EntersLambda, LambdaEnds, LeavesLambda, ChildFits, EntersChild, ChildrenFit, EntersChildren, CallFits, EndsCall, ClearsContext};
 ghost use Rattle.registers.specs.Registers.{passIn};
 
 pub fn visit_atom(
@@ -48,7 +50,7 @@ pub fn visit_atom(
     ensures { λ _. ⌜ Does (now (all .entry)) at (passIn (now (r .entry))) (now (facts .entry)) (now (captured .entry)) (now (work .entry)) (read (now (classes .entry))) (passIn (now (r .exit))) (now (facts .exit)) (now (work .exit)) ⌝ }
 {
     let p = load(r);
-    let s = read(classes, all, at, p, facts, captured, work);
+    let s = read(&*classes, &*all, at, p, facts, &*captured, work);
     put_second(r, s);
 }
 
@@ -252,4 +254,62 @@ pub fn close_set(name: u32, r: &[usize; REGISTERS], facts: &mut [u32], work: &mu
 {
     let p = load(r);
     mutate(name, p, facts, work);
+}
+
+pub fn enter_globals(
+    classes: &[u8],
+    all: &[u32],
+    first: usize,
+    k: usize,
+    r: &mut [usize; REGISTERS],
+    facts: &mut [u32],
+    work: &mut [u32],
+)
+    requires { ⌜ ChildrenFit (length (now classes)) (now all) first k (passIn (now r)) (now facts) (now work) ⌝ }
+    ensures { λ _. ⌜ EntersChildren (now (classes .entry)) (now (all .entry)) first k Global (passIn (now (r .entry))) (now (facts .entry)) (now (work .entry)) (passIn (now (r .exit))) (now (facts .exit)) (now (work .exit)) ⌝ }
+{
+    let p = load(r);
+    let q = enter_children(
+        classes,
+        all,
+        first,
+        k,
+        IdentifierStatus::Global,
+        p,
+        facts,
+        work,
+    );
+    store(r, q);
+}
+
+pub fn enter_global(
+    classes: &[u8],
+    all: &[u32],
+    at: usize,
+    r: &mut [usize; REGISTERS],
+    facts: &mut [u32],
+    work: &mut [u32],
+)
+    requires { ⌜ ChildFits (length (now classes)) (now all) at (passIn (now r)) (now facts) (now work) ⌝ }
+    ensures { λ _. ⌜ EntersChild (now (classes .entry)) (now (all .entry)) at Global (passIn (now (r .entry))) (now (facts .entry)) (now (work .entry)) (passIn (now (r .exit))) (now (facts .exit)) (now (work .exit)) ⌝ }
+{
+    let p = load(r);
+    let q = enter_child(classes, all, at, IdentifierStatus::Global, p, facts, work);
+    store(r, q);
+}
+
+pub fn enter_value(
+    all: &[u32],
+    at: usize,
+    b: Body,
+    r: &mut [usize; REGISTERS],
+    facts: &mut [u32],
+    work: &mut [u32],
+)
+    requires { ⌜ Room (passIn (now r)) × Defined (now all) at (passIn (now r)) (now facts) (now work) ⌝ }
+    ensures { λ _. ⌜ EntersValue b (now (all .entry)) at (passIn (now (r .entry))) (now (facts .entry)) (now (work .entry)) (passIn (now (r .exit))) (now (facts .exit)) (now (work .exit)) ⌝ }
+{
+    let p = load(r);
+    let q = enter_top_level_value(all, at, b, p, facts, work);
+    store(r, q);
 }

@@ -11,7 +11,6 @@ mod LambdaCase
 mod DefineCase
 mod LetCase
 mod LetCalls
-mod ExpressionCase
 mod TopsEnterCase
 mod TopDefineCase
 mod TopsCase

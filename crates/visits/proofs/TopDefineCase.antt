@@ -81,9 +81,6 @@ module _ {classes rs part : List ℕ} {at : ℕ} {z : Raw} (x : TopFits classes 
   pub inside : at < length (records rs)
   inside = root (x .stands) .inside
 
-  pub few : at < 4096
-  few = root (x .stands) .few
-
 module _ {classes rs part : List ℕ} {at : ℕ} {p : Pass} {F C A w : List ℕ} where
   pub record DefineView (x : TopFits classes rs part at (raw p F C A w)) : Type 0 where
     pub n : Node

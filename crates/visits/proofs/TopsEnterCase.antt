@@ -105,6 +105,27 @@ module _ {classes rs : List ℕ} {at : ℕ} {p p′ : Pass} {F w F′ w′ : Lis
         (subst (Tied (raw p′ F′ C A w′)) (tops-entered classes (cons t nil) s) (o .is C A s t u f));
   }
 
+-- no define is in it
+
+no-name : (classes : List ℕ) (t : Tree) (s : State) → (own t .form ≡ 5 → ⊥) → enterTops classes (cons t nil) s ≡ s
+unfolding own enterTops
+no-name classes (ident x) s h = refl
+no-name classes (const n q) s h = refl
+no-name classes (if n a b c) s h = refl
+no-name classes (letin n xs es b) s h = refl
+no-name classes (define n x b) s h = absurd (h refl)
+no-name classes (lambda n xs b) s h = refl
+no-name classes (begin n es) s h = refl
+no-name classes (call n f es) s h = refl
+no-name classes (set! n x e) s h = refl
+
+pub none-enters : {classes rs : List ℕ} {at : ℕ} {p : Pass} {F w : List ℕ} → (nth rs at .form ≡ 7 → ⊥) → (nth rs at .form ≡ 5 → ⊥)
+    → EntersTop classes rs at p F w p F w
+none-enters {classes} {p = p} {F} {w} h d = record {
+  is = λ C A s t u f.
+      subst (Tied (raw p F C A w)) (sym (ap (λ (us : Trees). enterTops classes us s) (lone-top u h) ∙ no-name classes t s (λ e. d (root-form u ∙ e)))) (f .tied);
+}
+
 -- Of all trees
 
 module _ {classes rs : List ℕ} {p : Pass} {F w : List ℕ} where

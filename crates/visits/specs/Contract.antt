@@ -3,6 +3,7 @@ use Prim.Native.Nat.{ℕ, _+_, _*_}
 use mathlib.Core.List.{List}
 use mathlib.Core.Path.{_≡_}
 use lib.ListN.{length, drop}
+use denote.Ref.{RefT, name}
 use Rattle.tree.specs.Record.{width}
 use Rattle.tree.specs.Tree.{Tree, Trees, many, size, sizes}
 use Rattle.tree.specs.Stands.{Stands, StandAll}
@@ -44,3 +45,7 @@ pub record FitAll (classes rs part : List ℕ) (k at : ℕ) (g : Coded) (z : Raw
 pub record DoneAll (classes rs part : List ℕ) (k at : ℕ) (g : Coded) (z : Raw) (n : ℕ) (z′ : Raw) : Type 0 where
   pub used : (x : FitAll classes rs part k at g z) → n ≡ sizes (x .ts)
   pub state : (x : FitAll classes rs part k at g z) → Tied z′ (visitArguments classes (x .ts) (x .f) (x .s))
+
+-- which tables are lent. A visit keeps the references that it is lent, so whoever lends a table has that table back
+abbrev pub tables : (facts captured arguments work : RefT (List ℕ)) → ℕ × ℕ × ℕ × ℕ
+tables f c a w = (name f, name c, name a, name w)

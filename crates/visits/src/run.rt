@@ -1,13 +1,13 @@
 // `run_with_scope`: a run over the top level.
 use crate::visit::visit;
 use flags::Flags;
-use forms::defines::enter_child;
-use forms::defines::enter_children;
-use names::define::enter_top_level_value;
 use registers::REGISTERS;
 use registers::load;
+use registers::steps::enter_global;
+use registers::steps::enter_globals;
+use registers::steps::enter_value;
+use registers::steps::set_context;
 use registers::store;
-use semantic::IdentifierStatus;
 use semantic::NONE;
 use table::wide;
 use walk::body::Body;
@@ -20,92 +20,50 @@ ghost use lib.ListN.{length};
 ghost use Rattle.tree.specs.RecordLaws.{nth};
 ghost use Rattle.work.specs.Tied.{raw};
 ghost use Rattle.forms.specs.Contract.{DefineFits};
-ghost use Rattle.visits.specs.Contract.{Fit, Done};
+ghost use Rattle.registers.specs.Registers.{passIn, held};
+ghost use Rattle.visits.specs.Contract.{tables};
 ghost use Rattle.visits.specs.Runs.{Ready, Runs};
 ghost use Rattle.visits.specs.Tops.{TopEnters, EntersTop, TopsEnter, EntersTops, BeforeTop, leavesTop, TopFits, VisitsTop, TopsFit, VisitsTops};
-
-// How many records a visit used, and what it threads on.
-pub struct Out {
-    pub used: usize,
-    pub pass: Pass,
-}
-
-// An expression at top level. The pass's numbers stand in a table while it is visited.
-fn visit_expression(
-    classes: &[u8],
-    all: &[u32],
-    rs: &[u32],
-    at: usize,
-    f: Flags,
-    p: Pass,
-    facts: &mut [u32],
-    captured: &mut [u32],
-    arguments: &mut [u32],
-    work: &mut [u32],
-) -> Out
-    requires { ⌜ Fit (now classes) (now all) (now rs) at f (raw p (now facts) (now captured) (now arguments) (now work)) ⌝ }
-    ensures { λ r. ⌜ Done (now (classes .entry)) (now (all .entry)) (now (rs .entry)) at f (raw p (now (facts .entry)) (now (captured .entry)) (now (arguments .entry)) (now (work .entry))) (r .used) (raw (r .pass) (now (facts .exit)) (now (captured .exit)) (now (arguments .exit)) (now (work .exit))) ⌝ }
-{
-    let mut r = [0; REGISTERS];
-    store(&mut r, p);
-    let used = visit(
-        classes,
-        all,
-        rs,
-        at,
-        f,
-        &mut r,
-        facts,
-        captured,
-        arguments,
-        work,
-    );
-    Out {
-        used,
-        pass: load(&r),
-    }
-}
 
 // The lambda defines at top level enter first, also those directly in a top-level begin.
 fn enter_top(
     classes: &[u8],
     all: &[u32],
     at: usize,
-    p: Pass,
+    r: &mut [usize; REGISTERS],
     facts: &mut [u32],
     work: &mut [u32],
-) -> Pass
-    requires { ⌜ TopEnters (length (now classes)) (now all) at p (now facts) (now work) ⌝ }
-    ensures { λ r. ⌜ EntersTop (now (classes .entry)) (now (all .entry)) at p (now (facts .entry)) (now (work .entry)) r (now (facts .exit)) (now (work .exit)) ⌝ }
+)
+    requires { ⌜ TopEnters (length (now classes)) (now all) at (passIn (now r)) (now facts) (now work) ⌝ }
+    ensures { λ _. ⌜ EntersTop (now (classes .entry)) (now (all .entry)) at (passIn (now (r .entry))) (now (facts .entry)) (now (work .entry)) (passIn (now (r .exit))) (now (facts .exit)) (now (work .exit)) ⌝ }
 {
-    if tree::record::form(all, at) == 7 {
+    let form = tree::record::form(all, at);
+    if form == 7 {
         let count = wide(tree::record::count(all, at));
-        return enter_children(
-            classes,
-            all,
-            at + 1,
-            count,
-            IdentifierStatus::Global,
-            p,
-            facts,
-            work,
-        );
+        enter_globals(classes, all, at + 1, count, r, facts, work);
+        return;
     }
-    enter_child(classes, all, at, IdentifierStatus::Global, p, facts, work)
+    if form == 5 {
+        enter_global(classes, all, at, r, facts, work);
+    }
 }
 
-fn enter_tops(classes: &[u8], all: &[u32], p: Pass, facts: &mut [u32], work: &mut [u32]) -> Pass
-    requires { ⌜ TopsEnter (now classes) (now all) p (now facts) (now work) ⌝ }
-    ensures { λ r. ⌜ EntersTops (now (classes .entry)) (now (all .entry)) p (now (facts .entry)) (now (work .entry)) r (now (facts .exit)) (now (work .exit)) ⌝ }
+fn enter_tops(
+    classes: &[u8],
+    all: &[u32],
+    r: &mut [usize; REGISTERS],
+    facts: &mut [u32],
+    work: &mut [u32],
+)
+    requires { ⌜ TopsEnter (now classes) (now all) (passIn (now r)) (now facts) (now work) ⌝ }
+    ensures { λ _. ⌜ EntersTops (now (classes .entry)) (now (all .entry)) (passIn (now (r .entry))) (now (facts .entry)) (now (work .entry)) (passIn (now (r .exit))) (now (facts .exit)) (now (work .exit)) ⌝ }
 {
     let n = tree::record::len(all);
-    let mut q = p;
     let mut at = 0;
     while at < n {
-        q = enter_top(classes, all, at, q, facts, work);
+        enter_top(classes, all, at, r, facts, work);
         at += extent_at(all, at);
     }
-    q
 }
 
 // A value define enters before its body; a lambda define is the context of its body.
@@ -113,87 +71,86 @@ fn before_top_define(
     all: &[u32],
     at: usize,
     b: Body,
-    p: Pass,
+    r: &mut [usize; REGISTERS],
     facts: &mut [u32],
     work: &mut [u32],
-) -> Pass
-    requires { ⌜ DefineFits (now all) at p (now facts) (now work) ⌝ }
-    ensures { λ r. ⌜ BeforeTop (now (all .entry)) at b p (now (facts .entry)) (now (work .entry)) r (now (facts .exit)) (now (work .exit)) ⌝ }
+)
+    requires { ⌜ DefineFits (now all) at (passIn (now r)) (now facts) (now work) ⌝ }
+    ensures { λ _. ⌜ BeforeTop (now (all .entry)) at b (passIn (now (r .entry))) (now (facts .entry)) (now (work .entry)) (passIn (now (r .exit))) (now (facts .exit)) (now (work .exit)) ⌝ }
 {
     if b.lambda {
-        return p.with_context(tree::record::id(all, at + 1));
+        set_context(r, tree::record::id(all, at + 1));
+        return;
     }
-    enter_top_level_value(all, at + 1, b, p, facts, work)
+    enter_value(all, at + 1, b, r, facts, work);
 }
 
-fn after_top_define(lambda: bool, p: Pass) -> Pass
-    ensures { λ r. ⌜ r ≡ leavesTop lambda p ⌝ }
+fn after_top_define(lambda: bool, r: &mut [usize; REGISTERS])
+    ensures { λ _. ⌜ passIn (now (r .exit)) ≡ leavesTop lambda (passIn (now (r .entry))) ⌝ }
 {
     if lambda {
-        return p.with_context(NONE);
+        set_context(r, NONE);
     }
-    p
 }
 
 fn visit_top_define(
-    classes: &[u8],
-    all: &[u32],
+    classes: &&[u8],
+    all: &&[u32],
     rs: &[u32],
     at: usize,
-    p: Pass,
-    facts: &mut [u32],
-    captured: &mut [u32],
-    arguments: &mut [u32],
-    work: &mut [u32],
-) -> Out
-    requires { ⌜ TopFits (now classes) (now all) (now rs) at (raw p (now facts) (now captured) (now arguments) (now work)) × (nth (now all) at .form ≡ 5) ⌝ }
-    ensures { λ r. ⌜ VisitsTop (now (classes .entry)) (now (all .entry)) (now (rs .entry)) at (raw p (now (facts .entry)) (now (captured .entry)) (now (arguments .entry)) (now (work .entry))) (r .used) (raw (r .pass) (now (facts .exit)) (now (captured .exit)) (now (arguments .exit)) (now (work .exit))) ⌝ }
+    r: &mut [usize; REGISTERS],
+    facts: &mut &mut [u32],
+    captured: &mut &mut [u32],
+    arguments: &mut &mut [u32],
+    work: &mut &mut [u32],
+) -> usize
+    requires { ⌜ TopFits (now (now classes)) (now (now all)) (now rs) at (held (now r) (now (now facts)) (now (now captured)) (now (now arguments)) (now (now work))) × (nth (now (now all)) at .form ≡ 5) ⌝ }
+    ensures { λ n. ⌜ VisitsTop (now (now (classes .entry))) (now (now (all .entry))) (now (rs .entry)) at (held (now (r .entry)) (now (now (facts .entry))) (now (now (captured .entry))) (now (now (arguments .entry))) (now (now (work .entry)))) n (held (now (r .exit)) (now (now (facts .exit))) (now (now (captured .exit))) (now (now (arguments .exit))) (now (now (work .exit)))) ⌝ }
+    ensures { λ _. ⌜ tables (now (facts .exit)) (now (captured .exit)) (now (arguments .exit)) (now (work .exit)) ≡ tables (now (facts .entry)) (now (captured .entry)) (now (arguments .entry)) (now (work .entry)) ⌝ }
 {
-    let b = body_at(classes, all, at + 2);
-    let q = before_top_define(all, at, b, p, facts, work);
-    let o = visit_expression(
+    let b = body_at(*classes, *all, at + 2);
+    before_top_define(*all, at, b, r, *facts, *work);
+    let o = visit(
         classes,
         all,
         &rs[12..],
         at + 2,
         Flags::top(),
-        q,
+        r,
         facts,
         captured,
         arguments,
         work,
     );
-    let r = after_top_define(b.lambda, o.pass);
-    Out {
-        used: 2 + o.used,
-        pass: r,
-    }
+    after_top_define(b.lambda, r);
+    2 + o
 }
 
 fn visit_top(
-    classes: &[u8],
-    all: &[u32],
+    classes: &&[u8],
+    all: &&[u32],
     rs: &[u32],
     at: usize,
-    p: Pass,
-    facts: &mut [u32],
-    captured: &mut [u32],
-    arguments: &mut [u32],
-    work: &mut [u32],
-) -> Out
-    requires { ⌜ TopFits (now classes) (now all) (now rs) at (raw p (now facts) (now captured) (now arguments) (now work)) ⌝ }
-    ensures { λ r. ⌜ VisitsTop (now (classes .entry)) (now (all .entry)) (now (rs .entry)) at (raw p (now (facts .entry)) (now (captured .entry)) (now (arguments .entry)) (now (work .entry))) (r .used) (raw (r .pass) (now (facts .exit)) (now (captured .exit)) (now (arguments .exit)) (now (work .exit))) ⌝ }
+    r: &mut [usize; REGISTERS],
+    facts: &mut &mut [u32],
+    captured: &mut &mut [u32],
+    arguments: &mut &mut [u32],
+    work: &mut &mut [u32],
+) -> usize
+    requires { ⌜ TopFits (now (now classes)) (now (now all)) (now rs) at (held (now r) (now (now facts)) (now (now captured)) (now (now arguments)) (now (now work))) ⌝ }
+    ensures { λ n. ⌜ VisitsTop (now (now (classes .entry))) (now (now (all .entry))) (now (rs .entry)) at (held (now (r .entry)) (now (now (facts .entry))) (now (now (captured .entry))) (now (now (arguments .entry))) (now (now (work .entry)))) n (held (now (r .exit)) (now (now (facts .exit))) (now (now (captured .exit))) (now (now (arguments .exit))) (now (now (work .exit)))) ⌝ }
+    ensures { λ _. ⌜ tables (now (facts .exit)) (now (captured .exit)) (now (arguments .exit)) (now (work .exit)) ≡ tables (now (facts .entry)) (now (captured .entry)) (now (arguments .entry)) (now (work .entry)) ⌝ }
 {
-    if tree::record::form(all, at) == 5 {
-        return visit_top_define(classes, all, rs, at, p, facts, captured, arguments, work);
+    if tree::record::form(*all, at) == 5 {
+        return visit_top_define(classes, all, rs, at, r, facts, captured, arguments, work);
     }
-    visit_expression(
+    visit(
         classes,
         all,
         rs,
         at,
         Flags::top(),
-        p,
+        r,
         facts,
         captured,
         arguments,
@@ -212,44 +169,139 @@ fn one_less(k: usize) -> usize
 
 // A top-level begin is passed by: its children stand at top level. `inside` are those still to come.
 fn visit_tops(
-    classes: &[u8],
-    all: &[u32],
-    p: Pass,
-    facts: &mut [u32],
-    captured: &mut [u32],
-    arguments: &mut [u32],
-    work: &mut [u32],
-) -> Pass
-    requires { ⌜ TopsFit (now classes) (now all) (raw p (now facts) (now captured) (now arguments) (now work)) ⌝ }
-    ensures { λ r. ⌜ VisitsTops (now (classes .entry)) (now (all .entry)) (raw p (now (facts .entry)) (now (captured .entry)) (now (arguments .entry)) (now (work .entry))) (raw r (now (facts .exit)) (now (captured .exit)) (now (arguments .exit)) (now (work .exit))) ⌝ }
+    classes: &&[u8],
+    all: &&[u32],
+    r: &mut [usize; REGISTERS],
+    facts: &mut &mut [u32],
+    captured: &mut &mut [u32],
+    arguments: &mut &mut [u32],
+    work: &mut &mut [u32],
+)
+    requires { ⌜ TopsFit (now (now classes)) (now (now all)) (held (now r) (now (now facts)) (now (now captured)) (now (now arguments)) (now (now work))) ⌝ }
+    ensures { λ _. ⌜ VisitsTops (now (now (classes .entry))) (now (now (all .entry))) (held (now (r .entry)) (now (now (facts .entry))) (now (now (captured .entry))) (now (now (arguments .entry))) (now (now (work .entry)))) (held (now (r .exit)) (now (now (facts .exit))) (now (now (captured .exit))) (now (now (arguments .exit))) (now (now (work .exit)))) ⌝ }
+    ensures { λ _. ⌜ tables (now (facts .exit)) (now (captured .exit)) (now (arguments .exit)) (now (work .exit)) ≡ tables (now (facts .entry)) (now (captured .entry)) (now (arguments .entry)) (now (work .entry)) ⌝ }
 {
-    let n = tree::record::len(all);
-    let mut q = p;
+    let rs = *all;
+    let n = tree::record::len(rs);
     let mut at = 0;
     let mut inside = 0;
     while at < n {
-        if inside == 0 && tree::record::form(all, at) == 7 {
-            inside = wide(tree::record::count(all, at));
+        if inside == 0 && tree::record::form(rs, at) == 7 {
+            inside = wide(tree::record::count(rs, at));
             at += 1;
             continue;
         }
         let start = 6 * at;
-        let o = visit_top(
+        at += visit_top(
             classes,
             all,
-            &all[start..],
+            &rs[start..],
             at,
-            q,
+            r,
             facts,
             captured,
             arguments,
             work,
         );
-        q = o.pass;
-        at += o.used;
         inside = one_less(inside);
     }
-    q
+}
+
+// The names at top level enter, then its trees are visited.
+fn run_lent(
+    classes: &&[u8],
+    all: &&[u32],
+    r: &mut [usize; REGISTERS],
+    facts: &mut &mut [u32],
+    captured: &mut &mut [u32],
+    arguments: &mut &mut [u32],
+    work: &mut &mut [u32],
+)
+    requires { ⌜ Ready (now (now classes)) (now (now all)) (held (now r) (now (now facts)) (now (now captured)) (now (now arguments)) (now (now work))) ⌝ }
+    ensures { λ _. ⌜ Runs (now (now (classes .entry))) (now (now (all .entry))) (held (now (r .entry)) (now (now (facts .entry))) (now (now (captured .entry))) (now (now (arguments .entry))) (now (now (work .entry)))) (held (now (r .exit)) (now (now (facts .exit))) (now (now (captured .exit))) (now (now (arguments .exit))) (now (now (work .exit)))) ⌝ }
+    ensures { λ _. ⌜ tables (now (facts .exit)) (now (captured .exit)) (now (arguments .exit)) (now (work .exit)) ≡ tables (now (facts .entry)) (now (captured .entry)) (now (arguments .entry)) (now (work .entry)) ⌝ }
+{
+    enter_tops(*classes, *all, r, *facts, *work);
+    visit_tops(classes, all, r, facts, captured, arguments, work);
+}
+
+// Each of these lends a table by a reference to its reference, as the visits want it, and hands the table back. The local is moved first: a loan of it would be another
+// reference than the one that was lent.
+
+fn lend_work<'a>(
+    classes: &&[u8],
+    all: &&[u32],
+    r: &mut [usize; REGISTERS],
+    facts: &mut &mut [u32],
+    captured: &mut &mut [u32],
+    arguments: &mut &mut [u32],
+    work: &'a mut [u32],
+) -> &'a mut [u32]
+    requires { ⌜ Ready (now (now classes)) (now (now all)) (held (now r) (now (now facts)) (now (now captured)) (now (now arguments)) (now work)) ⌝ }
+    ensures { λ back. ⌜ Runs (now (now (classes .entry))) (now (now (all .entry))) (held (now (r .entry)) (now (now (facts .entry))) (now (now (captured .entry))) (now (now (arguments .entry))) (now (work .entry))) (held (now (r .exit)) (now (now (facts .exit))) (now (now (captured .exit))) (now (now (arguments .exit))) (now back)) ⌝ }
+    ensures { λ back. ⌜ tables (now (facts .exit)) (now (captured .exit)) (now (arguments .exit)) back ≡ tables (now (facts .entry)) (now (captured .entry)) (now (arguments .entry)) (work .entry) ⌝ }
+{
+    let mut lent = work;
+    run_lent(classes, all, r, facts, captured, arguments, &mut lent);
+    let back = lent;
+    back
+}
+
+fn lend_arguments<'a>(
+    classes: &&[u8],
+    all: &&[u32],
+    r: &mut [usize; REGISTERS],
+    facts: &mut &mut [u32],
+    captured: &mut &mut [u32],
+    arguments: &'a mut [u32],
+    work: &mut [u32],
+) -> &'a mut [u32]
+    requires { ⌜ Ready (now (now classes)) (now (now all)) (held (now r) (now (now facts)) (now (now captured)) (now arguments) (now work)) ⌝ }
+    ensures { λ back. ⌜ Runs (now (now (classes .entry))) (now (now (all .entry))) (held (now (r .entry)) (now (now (facts .entry))) (now (now (captured .entry))) (now (arguments .entry)) (now (work .entry))) (held (now (r .exit)) (now (now (facts .exit))) (now (now (captured .exit))) (now back) (now (work .exit))) ⌝ }
+    ensures { λ back. ⌜ tables (now (facts .exit)) (now (captured .exit)) back (work .exit) ≡ tables (now (facts .entry)) (now (captured .entry)) (arguments .entry) (work .entry) ⌝ }
+{
+    let mut lent = arguments;
+    lend_work(classes, all, r, facts, captured, &mut lent, work);
+    let back = lent;
+    back
+}
+
+fn lend_captured<'a>(
+    classes: &&[u8],
+    all: &&[u32],
+    r: &mut [usize; REGISTERS],
+    facts: &mut &mut [u32],
+    captured: &'a mut [u32],
+    arguments: &mut [u32],
+    work: &mut [u32],
+) -> &'a mut [u32]
+    requires { ⌜ Ready (now (now classes)) (now (now all)) (held (now r) (now (now facts)) (now captured) (now arguments) (now work)) ⌝ }
+    ensures { λ back. ⌜ Runs (now (now (classes .entry))) (now (now (all .entry))) (held (now (r .entry)) (now (now (facts .entry))) (now (captured .entry)) (now (arguments .entry)) (now (work .entry))) (held (now (r .exit)) (now (now (facts .exit))) (now back) (now (arguments .exit)) (now (work .exit))) ⌝ }
+    ensures { λ back. ⌜ tables (now (facts .exit)) back (arguments .exit) (work .exit) ≡ tables (now (facts .entry)) (captured .entry) (arguments .entry) (work .entry) ⌝ }
+{
+    let mut lent = captured;
+    lend_arguments(classes, all, r, facts, &mut lent, arguments, work);
+    let back = lent;
+    back
+}
+
+fn lend_facts<'a>(
+    classes: &&[u8],
+    all: &&[u32],
+    r: &mut [usize; REGISTERS],
+    facts: &'a mut [u32],
+    captured: &mut [u32],
+    arguments: &mut [u32],
+    work: &mut [u32],
+) -> &'a mut [u32]
+    requires { ⌜ Ready (now (now classes)) (now (now all)) (held (now r) (now facts) (now captured) (now arguments) (now work)) ⌝ }
+    ensures { λ back. ⌜ Runs (now (now (classes .entry))) (now (now (all .entry))) (held (now (r .entry)) (now (facts .entry)) (now (captured .entry)) (now (arguments .entry)) (now (work .entry))) (held (now (r .exit)) (now back) (now (captured .exit)) (now (arguments .exit)) (now (work .exit))) ⌝ }
+    ensures { λ back. ⌜ tables back (captured .exit) (arguments .exit) (work .exit) ≡ tables (facts .entry) (captured .entry) (arguments .entry) (work .entry) ⌝ }
+{
+    let mut lent = facts;
+    lend_captured(classes, all, r, &mut lent, captured, arguments, work);
+    let back = lent;
+    back
 }
 
 pub fn run_with_scope(
@@ -264,6 +316,10 @@ pub fn run_with_scope(
     requires { ⌜ Ready (now classes) (now all) (raw p (now facts) (now captured) (now arguments) (now work)) ⌝ }
     ensures { λ r. ⌜ Runs (now (classes .entry)) (now (all .entry)) (raw p (now (facts .entry)) (now (captured .entry)) (now (arguments .entry)) (now (work .entry))) (raw r (now (facts .exit)) (now (captured .exit)) (now (arguments .exit)) (now (work .exit))) ⌝ }
 {
-    let q = enter_tops(classes, all, p, facts, work);
-    visit_tops(classes, all, q, facts, captured, arguments, work)
+    let mut r = [0; REGISTERS];
+    store(&mut r, p);
+    let kinds = &*classes;
+    let rs = &*all;
+    lend_facts(&kinds, &rs, &mut r, facts, captured, arguments, work);
+    load(&r)
 }

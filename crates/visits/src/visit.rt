@@ -1,5 +1,6 @@
 // The visits. Each is given the part of the records that starts at its expression, and tells how many records it used. The pass's own numbers stand in the table r:
-// by value every visit would copy them.
+// by value every visit would copy them. The other tables are lent by a reference to their reference, one word that a visit hands on as it is; one that is only read is
+// first lent to a local.
 use flags::Flags;
 use flags::Part;
 use flags::by_value::part;
@@ -30,27 +31,29 @@ use work::narrow;
 ghost use mathlib.Core.Path.{_≡_};
 ghost use Rattle.tree.specs.RecordLaws.{nth};
 ghost use Rattle.registers.specs.Registers.{held};
-ghost use Rattle.visits.specs.Contract.{Fit, Done, FitAll, DoneAll};
+ghost use Rattle.visits.specs.Contract.{Fit, Done, FitAll, DoneAll, tables};
 
 pub fn visit(
-    classes: &[u8],
-    all: &[u32],
+    classes: &&[u8],
+    all: &&[u32],
     rs: &[u32],
     at: usize,
     f: Flags,
     r: &mut [usize; REGISTERS],
-    facts: &mut [u32],
-    captured: &mut [u32],
-    arguments: &mut [u32],
-    work: &mut [u32],
+    facts: &mut &mut [u32],
+    captured: &mut &mut [u32],
+    arguments: &mut &mut [u32],
+    work: &mut &mut [u32],
 ) -> usize
-    requires { ⌜ Fit (now classes) (now all) (now rs) at f (held (now r) (now facts) (now captured) (now arguments) (now work)) ⌝ }
-    ensures { λ n. ⌜ Done (now (classes .entry)) (now (all .entry)) (now (rs .entry)) at f (held (now (r .entry)) (now (facts .entry)) (now (captured .entry)) (now (arguments .entry)) (now (work .entry))) n (held (now (r .exit)) (now (facts .exit)) (now (captured .exit)) (now (arguments .exit)) (now (work .exit))) ⌝ }
+    requires { ⌜ Fit (now (now classes)) (now (now all)) (now rs) at f (held (now r) (now (now facts)) (now (now captured)) (now (now arguments)) (now (now work))) ⌝ }
+    ensures { λ n. ⌜ Done (now (now (classes .entry))) (now (now (all .entry))) (now (rs .entry)) at f (held (now (r .entry)) (now (now (facts .entry))) (now (now (captured .entry))) (now (now (arguments .entry))) (now (now (work .entry)))) n (held (now (r .exit)) (now (now (facts .exit))) (now (now (captured .exit))) (now (now (arguments .exit))) (now (now (work .exit)))) ⌝ }
+    ensures { λ _. ⌜ tables (now (facts .exit)) (now (captured .exit)) (now (arguments .exit)) (now (work .exit)) ≡ tables (now (facts .entry)) (now (captured .entry)) (now (arguments .entry)) (now (work .entry)) ⌝ }
 {
-    let form = tree::record::form(all, at);
+    let form = tree::record::form(*all, at);
     match form {
         1 => {
-            visit_atom(classes, all, at, r, facts, captured, work);
+            let lent = &mut **captured;
+            visit_atom(*classes, *all, at, r, *facts, lent, *work);
             1
         }
         3 => visit_if(classes, all, rs, at, f, r, facts, captured, arguments, work),
@@ -66,23 +69,25 @@ pub fn visit(
 
 // A part of an expression. Many parts are identifiers and constants: they need no call of `visit`.
 fn visit_part(
-    classes: &[u8],
-    all: &[u32],
+    classes: &&[u8],
+    all: &&[u32],
     rs: &[u32],
     at: usize,
     f: Flags,
     r: &mut [usize; REGISTERS],
-    facts: &mut [u32],
-    captured: &mut [u32],
-    arguments: &mut [u32],
-    work: &mut [u32],
+    facts: &mut &mut [u32],
+    captured: &mut &mut [u32],
+    arguments: &mut &mut [u32],
+    work: &mut &mut [u32],
 ) -> usize
-    requires { ⌜ Fit (now classes) (now all) (now rs) at f (held (now r) (now facts) (now captured) (now arguments) (now work)) ⌝ }
-    ensures { λ n. ⌜ Done (now (classes .entry)) (now (all .entry)) (now (rs .entry)) at f (held (now (r .entry)) (now (facts .entry)) (now (captured .entry)) (now (arguments .entry)) (now (work .entry))) n (held (now (r .exit)) (now (facts .exit)) (now (captured .exit)) (now (arguments .exit)) (now (work .exit))) ⌝ }
+    requires { ⌜ Fit (now (now classes)) (now (now all)) (now rs) at f (held (now r) (now (now facts)) (now (now captured)) (now (now arguments)) (now (now work))) ⌝ }
+    ensures { λ n. ⌜ Done (now (now (classes .entry))) (now (now (all .entry))) (now (rs .entry)) at f (held (now (r .entry)) (now (now (facts .entry))) (now (now (captured .entry))) (now (now (arguments .entry))) (now (now (work .entry)))) n (held (now (r .exit)) (now (now (facts .exit))) (now (now (captured .exit))) (now (now (arguments .exit))) (now (now (work .exit)))) ⌝ }
+    ensures { λ _. ⌜ tables (now (facts .exit)) (now (captured .exit)) (now (arguments .exit)) (now (work .exit)) ≡ tables (now (facts .entry)) (now (captured .entry)) (now (arguments .entry)) (now (work .entry)) ⌝ }
 {
-    let form = tree::record::form(all, at);
+    let form = tree::record::form(*all, at);
     if form == 1 {
-        visit_atom(classes, all, at, r, facts, captured, work);
+        let lent = &mut **captured;
+        visit_atom(*classes, *all, at, r, *facts, lent, *work);
         return 1;
     }
     if form == 2 {
@@ -92,19 +97,20 @@ fn visit_part(
 }
 
 fn visit_if(
-    classes: &[u8],
-    all: &[u32],
+    classes: &&[u8],
+    all: &&[u32],
     rs: &[u32],
     at: usize,
     f: Flags,
     r: &mut [usize; REGISTERS],
-    facts: &mut [u32],
-    captured: &mut [u32],
-    arguments: &mut [u32],
-    work: &mut [u32],
+    facts: &mut &mut [u32],
+    captured: &mut &mut [u32],
+    arguments: &mut &mut [u32],
+    work: &mut &mut [u32],
 ) -> usize
-    requires { ⌜ Fit (now classes) (now all) (now rs) at f (held (now r) (now facts) (now captured) (now arguments) (now work)) × (nth (now all) at .form ≡ 3) ⌝ }
-    ensures { λ n. ⌜ Done (now (classes .entry)) (now (all .entry)) (now (rs .entry)) at f (held (now (r .entry)) (now (facts .entry)) (now (captured .entry)) (now (arguments .entry)) (now (work .entry))) n (held (now (r .exit)) (now (facts .exit)) (now (captured .exit)) (now (arguments .exit)) (now (work .exit))) ⌝ }
+    requires { ⌜ Fit (now (now classes)) (now (now all)) (now rs) at f (held (now r) (now (now facts)) (now (now captured)) (now (now arguments)) (now (now work))) × (nth (now (now all)) at .form ≡ 3) ⌝ }
+    ensures { λ n. ⌜ Done (now (now (classes .entry))) (now (now (all .entry))) (now (rs .entry)) at f (held (now (r .entry)) (now (now (facts .entry))) (now (now (captured .entry))) (now (now (arguments .entry))) (now (now (work .entry)))) n (held (now (r .exit)) (now (now (facts .exit))) (now (now (captured .exit))) (now (now (arguments .exit))) (now (now (work .exit)))) ⌝ }
+    ensures { λ _. ⌜ tables (now (facts .exit)) (now (captured .exit)) (now (arguments .exit)) (now (work .exit)) ≡ tables (now (facts .entry)) (now (captured .entry)) (now (arguments .entry)) (now (work .entry)) ⌝ }
 {
     let g = f.same_tail();
     let a = visit_part(
@@ -152,20 +158,21 @@ fn visit_if(
 
 // k arguments or initial expressions: each pushes a value.
 fn visit_arguments(
-    classes: &[u8],
-    all: &[u32],
+    classes: &&[u8],
+    all: &&[u32],
     rs: &[u32],
     k: usize,
     at: usize,
     f: Flags,
     r: &mut [usize; REGISTERS],
-    facts: &mut [u32],
-    captured: &mut [u32],
-    arguments: &mut [u32],
-    work: &mut [u32],
+    facts: &mut &mut [u32],
+    captured: &mut &mut [u32],
+    arguments: &mut &mut [u32],
+    work: &mut &mut [u32],
 ) -> usize
-    requires { ⌜ FitAll (now classes) (now all) (now rs) k at f (held (now r) (now facts) (now captured) (now arguments) (now work)) ⌝ }
-    ensures { λ n. ⌜ DoneAll (now (classes .entry)) (now (all .entry)) (now (rs .entry)) k at f (held (now (r .entry)) (now (facts .entry)) (now (captured .entry)) (now (arguments .entry)) (now (work .entry))) n (held (now (r .exit)) (now (facts .exit)) (now (captured .exit)) (now (arguments .exit)) (now (work .exit))) ⌝ }
+    requires { ⌜ FitAll (now (now classes)) (now (now all)) (now rs) k at f (held (now r) (now (now facts)) (now (now captured)) (now (now arguments)) (now (now work))) ⌝ }
+    ensures { λ n. ⌜ DoneAll (now (now (classes .entry))) (now (now (all .entry))) (now (rs .entry)) k at f (held (now (r .entry)) (now (now (facts .entry))) (now (now (captured .entry))) (now (now (arguments .entry))) (now (now (work .entry)))) n (held (now (r .exit)) (now (now (facts .exit))) (now (now (captured .exit))) (now (now (arguments .exit))) (now (now (work .exit)))) ⌝ }
+    ensures { λ _. ⌜ tables (now (facts .exit)) (now (captured .exit)) (now (arguments .exit)) (now (work .exit)) ≡ tables (now (facts .entry)) (now (captured .entry)) (now (arguments .entry)) (now (work .entry)) ⌝ }
 {
     let mut g = f;
     let mut used = 0;
@@ -191,21 +198,22 @@ fn visit_arguments(
 }
 
 fn visit_let(
-    classes: &[u8],
-    all: &[u32],
+    classes: &&[u8],
+    all: &&[u32],
     rs: &[u32],
     at: usize,
     f: Flags,
     r: &mut [usize; REGISTERS],
-    facts: &mut [u32],
-    captured: &mut [u32],
-    arguments: &mut [u32],
-    work: &mut [u32],
+    facts: &mut &mut [u32],
+    captured: &mut &mut [u32],
+    arguments: &mut &mut [u32],
+    work: &mut &mut [u32],
 ) -> usize
-    requires { ⌜ Fit (now classes) (now all) (now rs) at f (held (now r) (now facts) (now captured) (now arguments) (now work)) × (nth (now all) at .form ≡ 4) ⌝ }
-    ensures { λ n. ⌜ Done (now (classes .entry)) (now (all .entry)) (now (rs .entry)) at f (held (now (r .entry)) (now (facts .entry)) (now (captured .entry)) (now (arguments .entry)) (now (work .entry))) n (held (now (r .exit)) (now (facts .exit)) (now (captured .exit)) (now (arguments .exit)) (now (work .exit))) ⌝ }
+    requires { ⌜ Fit (now (now classes)) (now (now all)) (now rs) at f (held (now r) (now (now facts)) (now (now captured)) (now (now arguments)) (now (now work))) × (nth (now (now all)) at .form ≡ 4) ⌝ }
+    ensures { λ n. ⌜ Done (now (now (classes .entry))) (now (now (all .entry))) (now (rs .entry)) at f (held (now (r .entry)) (now (now (facts .entry))) (now (now (captured .entry))) (now (now (arguments .entry))) (now (now (work .entry)))) n (held (now (r .exit)) (now (now (facts .exit))) (now (now (captured .exit))) (now (now (arguments .exit))) (now (now (work .exit)))) ⌝ }
+    ensures { λ _. ⌜ tables (now (facts .exit)) (now (captured .exit)) (now (arguments .exit)) (now (work .exit)) ≡ tables (now (facts .entry)) (now (captured .entry)) (now (arguments .entry)) (now (work .entry)) ⌝ }
 {
-    let many = tree::record::count(all, at);
+    let many = tree::record::count(*all, at);
     let count = wide(many);
     let names = Names {
         first: at + 1,
@@ -231,17 +239,19 @@ fn visit_let(
         work,
     );
     set_context(r, outer);
+    let lent = &mut **captured;
+    let passed = &mut **arguments;
     open_let(
-        all,
+        *all,
         at,
         names,
         f.height,
         around,
         r,
-        facts,
-        captured,
-        arguments,
-        work,
+        *facts,
+        lent,
+        passed,
+        *work,
     );
     let i = 1 + count + a;
     let next = 6 * i;
@@ -258,38 +268,39 @@ fn visit_let(
         work,
     );
     close_let(
-        all,
+        *all,
         opened,
         at,
         names,
         f.height,
         around,
         r,
-        facts,
-        arguments,
-        work,
+        *facts,
+        *arguments,
+        *work,
     );
     i + b
 }
 
 fn visit_define(
-    classes: &[u8],
-    all: &[u32],
+    classes: &&[u8],
+    all: &&[u32],
     rs: &[u32],
     at: usize,
     f: Flags,
     r: &mut [usize; REGISTERS],
-    facts: &mut [u32],
-    captured: &mut [u32],
-    arguments: &mut [u32],
-    work: &mut [u32],
+    facts: &mut &mut [u32],
+    captured: &mut &mut [u32],
+    arguments: &mut &mut [u32],
+    work: &mut &mut [u32],
 ) -> usize
-    requires { ⌜ Fit (now classes) (now all) (now rs) at f (held (now r) (now facts) (now captured) (now arguments) (now work)) × (nth (now all) at .form ≡ 5) ⌝ }
-    ensures { λ n. ⌜ Done (now (classes .entry)) (now (all .entry)) (now (rs .entry)) at f (held (now (r .entry)) (now (facts .entry)) (now (captured .entry)) (now (arguments .entry)) (now (work .entry))) n (held (now (r .exit)) (now (facts .exit)) (now (captured .exit)) (now (arguments .exit)) (now (work .exit))) ⌝ }
+    requires { ⌜ Fit (now (now classes)) (now (now all)) (now rs) at f (held (now r) (now (now facts)) (now (now captured)) (now (now arguments)) (now (now work))) × (nth (now (now all)) at .form ≡ 5) ⌝ }
+    ensures { λ n. ⌜ Done (now (now (classes .entry))) (now (now (all .entry))) (now (rs .entry)) at f (held (now (r .entry)) (now (now (facts .entry))) (now (now (captured .entry))) (now (now (arguments .entry))) (now (now (work .entry)))) n (held (now (r .exit)) (now (now (facts .exit))) (now (now (captured .exit))) (now (now (arguments .exit))) (now (now (work .exit)))) ⌝ }
+    ensures { λ _. ⌜ tables (now (facts .exit)) (now (captured .exit)) (now (arguments .exit)) (now (work .exit)) ≡ tables (now (facts .entry)) (now (captured .entry)) (now (arguments .entry)) (now (work .entry)) ⌝ }
 {
-    let b = body_at(classes, all, at + 2);
+    let b = body_at(*classes, *all, at + 2);
     let outer = context(r);
-    open_define(all, at, f.direct, b, r, facts, work);
+    open_define(*all, at, f.direct, b, r, *facts, *work);
     let o = visit_part(
         classes,
         all,
@@ -302,54 +313,57 @@ fn visit_define(
         arguments,
         work,
     );
-    close_define(all, at, f.direct, outer, b, r, facts, work);
+    close_define(*all, at, f.direct, outer, b, r, *facts, *work);
     2 + o
 }
 
 // A lambda's body. `visit_lambda_function` calls itself through this one: so the compiler keeps the arrays of a lambda's end out of the frames of the visits.
 fn visit_body(
-    classes: &[u8],
-    all: &[u32],
+    classes: &&[u8],
+    all: &&[u32],
     rs: &[u32],
     at: usize,
     f: Flags,
     r: &mut [usize; REGISTERS],
-    facts: &mut [u32],
-    captured: &mut [u32],
-    arguments: &mut [u32],
-    work: &mut [u32],
+    facts: &mut &mut [u32],
+    captured: &mut &mut [u32],
+    arguments: &mut &mut [u32],
+    work: &mut &mut [u32],
 ) -> usize
-    requires { ⌜ Fit (now classes) (now all) (now rs) at f (held (now r) (now facts) (now captured) (now arguments) (now work)) ⌝ }
-    ensures { λ n. ⌜ Done (now (classes .entry)) (now (all .entry)) (now (rs .entry)) at f (held (now (r .entry)) (now (facts .entry)) (now (captured .entry)) (now (arguments .entry)) (now (work .entry))) n (held (now (r .exit)) (now (facts .exit)) (now (captured .exit)) (now (arguments .exit)) (now (work .exit))) ⌝ }
+    requires { ⌜ Fit (now (now classes)) (now (now all)) (now rs) at f (held (now r) (now (now facts)) (now (now captured)) (now (now arguments)) (now (now work))) ⌝ }
+    ensures { λ n. ⌜ Done (now (now (classes .entry))) (now (now (all .entry))) (now (rs .entry)) at f (held (now (r .entry)) (now (now (facts .entry))) (now (now (captured .entry))) (now (now (arguments .entry))) (now (now (work .entry)))) n (held (now (r .exit)) (now (now (facts .exit))) (now (now (captured .exit))) (now (now (arguments .exit))) (now (now (work .exit)))) ⌝ }
+    ensures { λ _. ⌜ tables (now (facts .exit)) (now (captured .exit)) (now (arguments .exit)) (now (work .exit)) ≡ tables (now (facts .entry)) (now (captured .entry)) (now (arguments .entry)) (now (work .entry)) ⌝ }
 {
-    if tree::record::form(all, at) == 6 {
+    if tree::record::form(*all, at) == 6 {
         return visit_lambda_function(classes, all, rs, at, f, r, facts, captured, arguments, work);
     }
     visit_part(classes, all, rs, at, f, r, facts, captured, arguments, work)
 }
 
 fn visit_lambda_function(
-    classes: &[u8],
-    all: &[u32],
+    classes: &&[u8],
+    all: &&[u32],
     rs: &[u32],
     at: usize,
     f: Flags,
     r: &mut [usize; REGISTERS],
-    facts: &mut [u32],
-    captured: &mut [u32],
-    arguments: &mut [u32],
-    work: &mut [u32],
+    facts: &mut &mut [u32],
+    captured: &mut &mut [u32],
+    arguments: &mut &mut [u32],
+    work: &mut &mut [u32],
 ) -> usize
-    requires { ⌜ Fit (now classes) (now all) (now rs) at f (held (now r) (now facts) (now captured) (now arguments) (now work)) × (nth (now all) at .form ≡ 6) ⌝ }
-    ensures { λ n. ⌜ Done (now (classes .entry)) (now (all .entry)) (now (rs .entry)) at f (held (now (r .entry)) (now (facts .entry)) (now (captured .entry)) (now (arguments .entry)) (now (work .entry))) n (held (now (r .exit)) (now (facts .exit)) (now (captured .exit)) (now (arguments .exit)) (now (work .exit))) ⌝ }
+    requires { ⌜ Fit (now (now classes)) (now (now all)) (now rs) at f (held (now r) (now (now facts)) (now (now captured)) (now (now arguments)) (now (now work))) × (nth (now (now all)) at .form ≡ 6) ⌝ }
+    ensures { λ n. ⌜ Done (now (now (classes .entry))) (now (now (all .entry))) (now (rs .entry)) at f (held (now (r .entry)) (now (now (facts .entry))) (now (now (captured .entry))) (now (now (arguments .entry))) (now (now (work .entry)))) n (held (now (r .exit)) (now (now (facts .exit))) (now (now (captured .exit))) (now (now (arguments .exit))) (now (now (work .exit)))) ⌝ }
+    ensures { λ _. ⌜ tables (now (facts .exit)) (now (captured .exit)) (now (arguments .exit)) (now (work .exit)) ≡ tables (now (facts .entry)) (now (captured .entry)) (now (arguments .entry)) (now (work .entry)) ⌝ }
 {
-    let many = tree::record::count(all, at);
+    let many = tree::record::count(*all, at);
     let count = wide(many);
     let names = Names {
         first: at + 1,
         count,
     };
-    open_lambda(all, at, names, r, facts, captured, arguments, work);
+    let lent = &mut **arguments;
+    open_lambda(*all, at, names, r, *facts, *captured, lent, *work);
     let start = 6 + 6 * count;
     let first = at + 1 + count;
     let o = visit_body(
@@ -357,7 +371,7 @@ fn visit_lambda_function(
         all,
         &rs[start..],
         first,
-        part(f, Part::Body(at, tree::record::id(all, at), many)),
+        part(f, Part::Body(at, tree::record::id(*all, at), many)),
         r,
         facts,
         captured,
@@ -369,29 +383,40 @@ fn visit_lambda_function(
         names,
         first,
         end,
-        holds: holds_lambda(all, first, end),
+        holds: holds_lambda(*all, first, end),
     };
-    close_lambda(all, at, d, f.escape, r, facts, captured, arguments, work);
+    close_lambda(
+        *all,
+        at,
+        d,
+        f.escape,
+        r,
+        *facts,
+        *captured,
+        *arguments,
+        *work,
+    );
     1 + count + o
 }
 
 fn visit_begin(
-    classes: &[u8],
-    all: &[u32],
+    classes: &&[u8],
+    all: &&[u32],
     rs: &[u32],
     at: usize,
     f: Flags,
     r: &mut [usize; REGISTERS],
-    facts: &mut [u32],
-    captured: &mut [u32],
-    arguments: &mut [u32],
-    work: &mut [u32],
+    facts: &mut &mut [u32],
+    captured: &mut &mut [u32],
+    arguments: &mut &mut [u32],
+    work: &mut &mut [u32],
 ) -> usize
-    requires { ⌜ Fit (now classes) (now all) (now rs) at f (held (now r) (now facts) (now captured) (now arguments) (now work)) × (nth (now all) at .form ≡ 7) ⌝ }
-    ensures { λ n. ⌜ Done (now (classes .entry)) (now (all .entry)) (now (rs .entry)) at f (held (now (r .entry)) (now (facts .entry)) (now (captured .entry)) (now (arguments .entry)) (now (work .entry))) n (held (now (r .exit)) (now (facts .exit)) (now (captured .exit)) (now (arguments .exit)) (now (work .exit))) ⌝ }
+    requires { ⌜ Fit (now (now classes)) (now (now all)) (now rs) at f (held (now r) (now (now facts)) (now (now captured)) (now (now arguments)) (now (now work))) × (nth (now (now all)) at .form ≡ 7) ⌝ }
+    ensures { λ n. ⌜ Done (now (now (classes .entry))) (now (now (all .entry))) (now (rs .entry)) at f (held (now (r .entry)) (now (now (facts .entry))) (now (now (captured .entry))) (now (now (arguments .entry))) (now (now (work .entry)))) n (held (now (r .exit)) (now (now (facts .exit))) (now (now (captured .exit))) (now (now (arguments .exit))) (now (now (work .exit)))) ⌝ }
+    ensures { λ _. ⌜ tables (now (facts .exit)) (now (captured .exit)) (now (arguments .exit)) (now (work .exit)) ≡ tables (now (facts .entry)) (now (captured .entry)) (now (arguments .entry)) (now (work .entry)) ⌝ }
 {
-    let count = wide(tree::record::count(all, at));
-    open_begin(classes, all, at + 1, count, r, facts, work);
+    let count = wide(tree::record::count(*all, at));
+    open_begin(*classes, *all, at + 1, count, r, *facts, *work);
     let mut used = 1;
     let mut i = 0;
     while i < count {
@@ -415,24 +440,25 @@ fn visit_begin(
 }
 
 fn visit_list(
-    classes: &[u8],
-    all: &[u32],
+    classes: &&[u8],
+    all: &&[u32],
     rs: &[u32],
     at: usize,
     f: Flags,
     r: &mut [usize; REGISTERS],
-    facts: &mut [u32],
-    captured: &mut [u32],
-    arguments: &mut [u32],
-    work: &mut [u32],
+    facts: &mut &mut [u32],
+    captured: &mut &mut [u32],
+    arguments: &mut &mut [u32],
+    work: &mut &mut [u32],
 ) -> usize
-    requires { ⌜ Fit (now classes) (now all) (now rs) at f (held (now r) (now facts) (now captured) (now arguments) (now work)) × (nth (now all) at .form ≡ 8) ⌝ }
-    ensures { λ n. ⌜ Done (now (classes .entry)) (now (all .entry)) (now (rs .entry)) at f (held (now (r .entry)) (now (facts .entry)) (now (captured .entry)) (now (arguments .entry)) (now (work .entry))) n (held (now (r .exit)) (now (facts .exit)) (now (captured .exit)) (now (arguments .exit)) (now (work .exit))) ⌝ }
+    requires { ⌜ Fit (now (now classes)) (now (now all)) (now rs) at f (held (now r) (now (now facts)) (now (now captured)) (now (now arguments)) (now (now work))) × (nth (now (now all)) at .form ≡ 8) ⌝ }
+    ensures { λ n. ⌜ Done (now (now (classes .entry))) (now (now (all .entry))) (now (rs .entry)) at f (held (now (r .entry)) (now (now (facts .entry))) (now (now (captured .entry))) (now (now (arguments .entry))) (now (now (work .entry)))) n (held (now (r .exit)) (now (now (facts .exit))) (now (now (captured .exit))) (now (now (arguments .exit))) (now (now (work .exit)))) ⌝ }
+    ensures { λ _. ⌜ tables (now (facts .exit)) (now (captured .exit)) (now (arguments .exit)) (now (work .exit)) ≡ tables (now (facts .entry)) (now (captured .entry)) (now (arguments .entry)) (now (work .entry)) ⌝ }
 {
-    let k = wide(tree::record::count(all, at)) - 1;
-    let head = extent_at(all, at + 1);
+    let k = wide(tree::record::count(*all, at)) - 1;
+    let head = extent_at(*all, at + 1);
     let first = at + 1 + head;
-    let lambda = tree::record::form(all, at + 1) == 6;
+    let lambda = tree::record::form(*all, at + 1) == 6;
     let start = 6 + 6 * head;
     let a = visit_arguments(
         classes,
@@ -459,26 +485,29 @@ fn visit_list(
         arguments,
         work,
     );
-    close_call(all, at, first, k, f.tail, f.counter, r, facts, work);
+    let lent = &mut **work;
+    close_call(*all, at, first, k, f.tail, f.counter, r, *facts, lent);
     1 + head + a
 }
 
 fn visit_set(
-    classes: &[u8],
-    all: &[u32],
+    classes: &&[u8],
+    all: &&[u32],
     rs: &[u32],
     at: usize,
     f: Flags,
     r: &mut [usize; REGISTERS],
-    facts: &mut [u32],
-    captured: &mut [u32],
-    arguments: &mut [u32],
-    work: &mut [u32],
+    facts: &mut &mut [u32],
+    captured: &mut &mut [u32],
+    arguments: &mut &mut [u32],
+    work: &mut &mut [u32],
 ) -> usize
-    requires { ⌜ Fit (now classes) (now all) (now rs) at f (held (now r) (now facts) (now captured) (now arguments) (now work)) × (nth (now all) at .form ≡ 9) ⌝ }
-    ensures { λ n. ⌜ Done (now (classes .entry)) (now (all .entry)) (now (rs .entry)) at f (held (now (r .entry)) (now (facts .entry)) (now (captured .entry)) (now (arguments .entry)) (now (work .entry))) n (held (now (r .exit)) (now (facts .exit)) (now (captured .exit)) (now (arguments .exit)) (now (work .exit))) ⌝ }
+    requires { ⌜ Fit (now (now classes)) (now (now all)) (now rs) at f (held (now r) (now (now facts)) (now (now captured)) (now (now arguments)) (now (now work))) × (nth (now (now all)) at .form ≡ 9) ⌝ }
+    ensures { λ n. ⌜ Done (now (now (classes .entry))) (now (now (all .entry))) (now (rs .entry)) at f (held (now (r .entry)) (now (now (facts .entry))) (now (now (captured .entry))) (now (now (arguments .entry))) (now (now (work .entry)))) n (held (now (r .exit)) (now (now (facts .exit))) (now (now (captured .exit))) (now (now (arguments .exit))) (now (now (work .exit)))) ⌝ }
+    ensures { λ _. ⌜ tables (now (facts .exit)) (now (captured .exit)) (now (arguments .exit)) (now (work .exit)) ≡ tables (now (facts .entry)) (now (captured .entry)) (now (arguments .entry)) (now (work .entry)) ⌝ }
 {
-    open_set(at + 1, r, facts);
+    let noted = &mut **facts;
+    open_set(at + 1, r, noted);
     let o = visit_part(
         classes,
         all,
@@ -491,7 +520,8 @@ fn visit_set(
         arguments,
         work,
     );
-    close_set(tree::record::name(all, at + 1), r, facts, work);
-    visit_atom(classes, all, at + 1, r, facts, captured, work);
+    close_set(tree::record::name(*all, at + 1), r, *facts, *work);
+    let lent = &mut **captured;
+    visit_atom(*classes, *all, at + 1, r, *facts, lent, *work);
     2 + o
 }

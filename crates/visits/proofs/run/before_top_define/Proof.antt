@@ -8,19 +8,19 @@ add-id : tie.Need-add-id
 add-id c = search needs
 
 id-requires : tie.Need-id-requires
-id-requires c κs = name-inside (c .before .before .before .before .pre)
+id-requires c κs = name-inside (c .before .before .before .before .before .pre)
 
-with-context-requires : tie.Need-with-context-requires
-with-context-requires c κs = search needs
+set-context-requires : tie.Need-set-context-requires
+set-context-requires c κs = search needs
 
 returns : tie.Need-returns
-returns c = before-lambda (c .before .before .if1 .taken) (c .before .id .ensures) (c .with-context .ensures)
+returns c = before-lambda (c .before .before .before .if1 .taken) (c .before .id .ensures) (c .set-context .ensures)
 
-add-enter-top-level-value : tie.Need-add-enter-top-level-value
-add-enter-top-level-value c = search needs
+add-enter-value : tie.Need-add-enter-value
+add-enter-value c = search needs
 
-enter-top-level-value-requires : tie.Need-enter-top-level-value-requires
-enter-top-level-value-requires c κs = value-fits (c .before .before .before .before .before .before .pre)
+enter-value-requires : tie.Need-enter-value-requires
+enter-value-requires c κs = value-fits (c .before .before .before .before .before .before .before .pre)
 
 same-length : tie.Need-same-length
 same-length c = search needs
@@ -29,8 +29,7 @@ same-length-2 : tie.Need-same-length-2
 same-length-2 c = search needs
 
 returns-2 : tie.Need-returns-2
-returns-2 c =
-    before-value (c .before .before .before .before .before .before .before .if1 .left) (c .before .before .before .before .enter-top-level-value .ensures)
+returns-2 c = before-value (c .before .before .before .before .before .before .before .before .if1 .left) (c .before .before .before .before .enter-value .ensures)
 
 pub before-top-define-spec : {M : Type 1} → statement M
 before-top-define-spec =
@@ -38,10 +37,10 @@ before-top-define-spec =
     (tie.spec
     add-id
     id-requires
-    with-context-requires
+    set-context-requires
     returns
-    add-enter-top-level-value
-    enter-top-level-value-requires
+    add-enter-value
+    enter-value-requires
     same-length
     same-length-2
     returns-2)

@@ -1,7 +1,8 @@
--- `enter_top`: the children of a begin enter, or the tree itself.
-use mathlib.Core.Path.{sym, _∙_}
+-- `enter_top`: the children of a begin enter, or the define, or none.
+use mathlib.Core.Path.{_≡_, sym, _∙_}
 use borrow.Author.Needs.{needs}
-use Rattle.visits.proofs.TopsEnterCase.{inside, children-fit, child-fits, children-enter, child-enters}
+use Rattle.tree.specs.RecordLaws.{nth}
+use Rattle.visits.proofs.TopsEnterCase.{inside, children-fit, child-fits, children-enter, child-enters, none-enters}
 use Rattle.visits.proofs.run.enter_top.Statement.{statement}
 use Rattle.visits.proofs.run.enter_top.Tie as tie
 
@@ -14,15 +15,15 @@ count-requires c κs = inside (c .before .before .before .before .before .before
 wide-requires : tie.Need-wide-requires
 wide-requires c κs = search needs
 
-add-enter-children : tie.Need-add-enter-children
-add-enter-children c = search needs
+add-enter-globals : tie.Need-add-enter-globals
+add-enter-globals c = search needs
 
-enter-children-requires : tie.Need-enter-children-requires
-enter-children-requires c κs =
-    let test = c .before .before .before .before in
+enter-globals-requires : tie.Need-enter-globals-requires
+enter-globals-requires c κs =
+    let size = c .before .before .before in
+    let test = size .before .before in
     let start = test .before .before .before .before .before .before in
-    children-fit (start .pre) (sym (test .before .form .ensures) ∙ test .if1 .taken)
-    (c .before .before .wide .ensures ∙ c .before .before .before .count .ensures)
+    children-fit (start .pre) (sym (test .before .form .ensures) ∙ test .if1 .taken) (size .wide .ensures ∙ size .before .count .ensures)
 
 same-length : tie.Need-same-length
 same-length c = search needs
@@ -32,16 +33,16 @@ same-length-2 c = search needs
 
 returns : tie.Need-returns
 returns c =
-    let size = c .before .before .before .before .before .before .before in
+    let size = c .before .before .before .before .before .before .before .before in
     let test = size .before .before in
     children-enter (sym (test .before .form .ensures) ∙ test .if1 .taken) (size .wide .ensures ∙ size .before .count .ensures)
-    (c .before .before .before .before .enter-children .ensures)
+    (c .before .before .before .before .enter-globals .ensures)
 
-enter-child-requires : tie.Need-enter-child-requires
-enter-child-requires c κs =
-    let test = c .before .before in
-    let start = test .before .before .before .before .before .before in
-    child-fits (start .pre) (λ e. test .if1 .left (test .before .form .ensures ∙ e))
+no-begin : (c : tie.Else1) → let o = c .before .before .before .before .before .before .args in nth (o .all .now) (o .at) .form ≡ 7 → ⊥
+no-begin c e = c .if1 .left (c .before .form .ensures ∙ e)
+
+enter-global-requires : tie.Need-enter-global-requires
+enter-global-requires c κs = let test = c .before .before .before .before in child-fits (test .before .before .before .before .before .before .pre) (no-begin test)
 
 same-length-3 : tie.Need-same-length-3
 same-length-3 c = search needs
@@ -50,9 +51,10 @@ same-length-4 : tie.Need-same-length-4
 same-length-4 c = search needs
 
 returns-2 : tie.Need-returns-2
-returns-2 c =
-    let test = c .before .before .before .before .before .before .before in
-    child-enters (λ e. test .if1 .left (test .before .form .ensures ∙ e)) (c .before .before .before .before .enter-child .ensures)
+returns-2 c = child-enters (no-begin (c .before .before .before .before .before .before .before .before .before)) (c .before .before .before .before .enter-global .ensures)
+
+returns-3 : tie.Need-returns-3
+returns-3 c = none-enters (no-begin (c .before)) (λ e. c .if2 .left (c .before .before .form .ensures ∙ e))
 
 pub enter-top-spec : {M : Type 1} → statement M
 enter-top-spec =
@@ -61,12 +63,13 @@ enter-top-spec =
     form-requires
     count-requires
     wide-requires
-    add-enter-children
-    enter-children-requires
+    add-enter-globals
+    enter-globals-requires
     same-length
     same-length-2
     returns
-    enter-child-requires
+    enter-global-requires
     same-length-3
     same-length-4
-    returns-2)
+    returns-2
+    returns-3)

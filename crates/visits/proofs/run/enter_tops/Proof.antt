@@ -4,17 +4,19 @@ use mathlib.Core.Path.{_≡_, refl}
 use native.Mathlib.Omega.{arith}
 use lib.ListN.{length}
 use Rattle.tree.specs.Record.{records}
+use Rattle.registers.specs.Registers.{passIn}
 use Rattle.visits.specs.Tops.{TopsEnter}
 use Rattle.visits.proofs.TopsEnterCase.{Left, Next, all-left, few, next, tree-at, next-fits, ahead, one-less, all-entered}
 use Rattle.visits.proofs.run.enter_tops.Statement.{statement}
 use Rattle.visits.proofs.run.enter_tops.Tie as tie
 
 abbrev Inv-loop : tie.InvT-loop
-Inv-loop classes all facts₀ work₀ n q₀ at₀ facts work q at =
-    (length facts ≡ length facts₀) × (length work ≡ length work₀) × ((x : TopsEnter classes all q₀ facts₀ work₀) → Left x at q facts work)
+Inv-loop classes all r₀ facts₀ work₀ n at₀ r facts work at =
+    (length facts ≡ length facts₀) × (length work ≡ length work₀)
+    × ((x : TopsEnter classes all (passIn r₀) facts₀ work₀) → Left x at (passIn r) facts work)
 
 abbrev μ-loop : tie.MeasureT-loop
-μ-loop classes all facts₀ work₀ n q₀ at₀ facts work q at = length (records all) - at
+μ-loop classes all r₀ facts₀ work₀ n at₀ r facts work at = length (records all) - at
 
 len-requires : tie.Need-len-requires Inv-loop μ-loop
 len-requires c κs = tt
@@ -26,34 +28,31 @@ loop-holds c = (refl, refl, λ x. all-left x)
 turn : (c : tie.In-loop Inv-loop μ-loop) →
     let o = c .before .before .before .before .before .before .before .args in
     let l = c .before .loop in
-    (x : TopsEnter (o .classes .now) (o .all .now) (o .p) (o .facts .now) (o .work .now)) → Next x (l .at) (l .q) (l .facts) (l .work)
+    (x : TopsEnter (o .classes .now) (o .all .now) (passIn (o .r .now)) (o .facts .now) (o .work .now)) → Next x (l .at) (passIn (l .r)) (l .facts) (l .work)
 turn c x = next (c .before .loop .inv .2 x) (omega (arith, c .loop-test .taken, c .before .before .len .ensures))
 
 enter-top-requires : tie.Need-enter-top-requires Inv-loop μ-loop
-enter-top-requires c κs = next-fits (turn (c .before .before) (c .before .before .before .before .before .before .before .before .before .pre))
+enter-top-requires c κs = let test = c .before .before .before in next-fits (turn test (test .before .before .before .before .before .before .before .pre))
 
 extent-at-requires : tie.Need-extent-at-requires Inv-loop μ-loop
-extent-at-requires c κs =
-    let test = c .before .before .before .before .before .before .before in
-    tree-at (turn test (test .before .before .before .before .before .before .before .pre))
+extent-at-requires c κs = let test = c .before .before .before .before .before .before .before .before in tree-at (turn test (test .before .before .before .before .before .before .before .pre))
 
 add-at : tie.Need-add-at Inv-loop μ-loop
 add-at c =
-    let test = c .before .before .before .before .before .before .before .before in
+    let test = c .before .before .before .before .before .before .before .before .before in
     let a = ahead (turn test (test .before .before .before .before .before .before .before .pre)) (c .extent-at .ensures) in
     record { fits = omega (arith, a .1, few (test .before .before .before .before .before .before .before .pre)) }
 
 loop-less : tie.Need-loop-less Inv-loop μ-loop
 loop-less c =
-    let test = c .before .before .before .before .before .before .before .before in
+    let test = c .before .before .before .before .before .before .before .before .before in
     let a = ahead (turn test (test .before .before .before .before .before .before .before .pre)) (c .extent-at .ensures) in
     omega (arith, a .0, a .1)
 
 loop-again : tie.Need-loop-again Inv-loop μ-loop
 loop-again c =
     let called = c .before .before .before .before .before in
-    let test = called .before .before .before in
-    (omega arith, omega arith, λ x. one-less (turn test x) (c .extent-at .ensures) (called .enter-top .ensures))
+    (omega arith, omega arith, λ x. one-less (turn (called .before .before .before .before) x) (c .extent-at .ensures) (called .enter-top .ensures))
 
 same-length : tie.Need-same-length Inv-loop μ-loop
 same-length c = c .before .loop .inv .0

@@ -1,16 +1,18 @@
--- `run_with_scope`: the names at top level enter, then its trees are visited.
+-- `run_with_scope`: the pass is stored, the tables are lent, and the pass is read after.
+use Prim.Native.Nat.{ℕ}
+use mathlib.Core.Path.{sym, ap}
 use borrow.Author.Needs.{needs}
-use Rattle.visits.proofs.RunCase.{tops-enter, tops-fit, run-done}
 use Rattle.visits.proofs.run.run_with_scope.Statement.{statement}
 use Rattle.visits.proofs.run.run_with_scope.Tie as tie
 
-enter-tops-requires : tie.Need-enter-tops-requires
-enter-tops-requires c κs = tops-enter (c .before .before .before .before .before .before .before .before .pre)
+store-requires : tie.Need-store-requires
+store-requires c κs = search needs
 
-visit-tops-requires : tie.Need-visit-tops-requires
-visit-tops-requires c κs =
-    let entered = c .before .before .before .before .before .before .before .before in
-    tops-fit (entered .enter-tops .ensures) (entered .before .before .before .before .before .before .before .before .before .pre)
+lend-facts-requires : tie.Need-lend-facts-requires
+lend-facts-requires c κs = rw (c .before .before .before .before .before .before .before .store .ensures) (c .before .before .before .before .before .before .before .before .before .before .before .before .before .before .before .pre)
+
+load-requires : tie.Need-load-requires
+load-requires c κs = search needs
 
 same-length : tie.Need-same-length
 same-length c = search needs
@@ -26,15 +28,17 @@ same-length-4 c = search needs
 
 returns : tie.Need-returns
 returns c =
-    let visited = c .before .before .before .before .before .before .before .before in
-    run-done (visited .before .before .before .before .before .before .before .before .before .enter-tops .ensures) (visited .visit-tops .ensures)
+    let l = c .before .before .before .before .before .before .before .before .before .before .lend-facts .ensures in
+    let back = c .before .before .before .before .before .before .before .before .before .facts .given .1 .0 (sym (ap (λ (t : ℕ × ℕ × ℕ × ℕ). t .0) (l .1))) in
+    rw (c .load .ensures, ← c .before .before .before .before .before .before .before .before .before .before .before .before .before .before .before .before .before .before .store .ensures, back) (l .0)
 
 pub run-with-scope-spec : {M : Type 1} → statement M
 run-with-scope-spec =
     tie.close
     (tie.spec
-    enter-tops-requires
-    visit-tops-requires
+    store-requires
+    lend-facts-requires
+    load-requires
     same-length
     same-length-2
     same-length-3

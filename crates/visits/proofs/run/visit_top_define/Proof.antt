@@ -2,95 +2,89 @@
 use native.Mathlib.Omega.{arith}
 use borrow.Author.Needs.{needs}
 use Rattle.table.specs.Part.{part}
-use Rattle.visits.proofs.TopDefineCase.{few, long, body-tree, define-fits, body-fits, used-few, define-done}
+use Rattle.visits.proofs.TopDefineCase.{long, body-tree, define-fits, body-fits, used-few, define-done}
 use Rattle.visits.proofs.run.visit_top_define.Statement.{statement}
 use Rattle.visits.proofs.run.visit_top_define.Tie as tie
+
+-- the places that are looked back to, each from the one after it
+
+abbrev to-start : tie.After-body-at → tie.Start
+to-start c = c .before .before .before .before
+
+abbrev to-told : tie.After-before-top-define → tie.After-body-at
+to-told c = c .before .before .before .before .before
+
+abbrev to-entered : tie.After-top → tie.After-before-top-define
+to-entered c = c .before .before
+
+abbrev to-handed : tie.After-visit → tie.After-top
+to-handed c = c .before .before .before .before .before .before
 
 add-body-at : tie.Need-add-body-at
 add-body-at c = search needs
 
 body-at-requires : tie.Need-body-at-requires
-body-at-requires c κs =
-    let start = c .before .before .before .before .before .before .before in
-    body-tree (start .pre .1) (start .pre .0)
+body-at-requires c κs = let start = c .before .before .before in body-tree (start .pre .1) (start .pre .0)
+
+slice-aggregate-before-top-define : tie.Need-slice-aggregate-before-top-define
+slice-aggregate-before-top-define c = search needs
+
+slice-aggregate-before-top-define-2 : tie.Need-slice-aggregate-before-top-define-2
+slice-aggregate-before-top-define-2 c = search needs
 
 before-top-define-requires : tie.Need-before-top-define-requires
-before-top-define-requires c κs =
-    let start = c .before .before .before .before .before .before .before .before .before .before in
-    define-fits (start .pre .1) (start .pre .0)
+before-top-define-requires c κs = let start = to-start (c .before .before .before .before) in define-fits (start .pre .1) (start .pre .0)
 
-sub-visit-expression : tie.Need-sub-visit-expression
-sub-visit-expression c =
-    let start = c .before .before .before .before .before .before .before .before .before .before .before .before .before .before .before in
-    omega (arith, long (start .pre .1) (start .pre .0))
+sub-visit : tie.Need-sub-visit
+sub-visit c = let start = to-start (to-told c) in omega (arith, long (start .pre .1) (start .pre .0))
 
-part-visit-expression-start : tie.Need-part-visit-expression-start
-part-visit-expression-start c =
-    let start = c .before .before .before .before .before .before .before .before .before .before .before .before .before .before .before in
-    omega (arith, long (start .pre .1) (start .pre .0))
+part-visit-start : tie.Need-part-visit-start
+part-visit-start c = let start = to-start (to-told c) in omega (arith, long (start .pre .1) (start .pre .0))
 
-part-visit-expression-end : tie.Need-part-visit-expression-end
-part-visit-expression-end c = search needs
+part-visit-end : tie.Need-part-visit-end
+part-visit-end c = search needs
 
-add-visit-expression : tie.Need-add-visit-expression
-add-visit-expression c =
-    let start = c .before .before .before .before .before .before .before .before .before .before .before .before .before .before .before .before in
-    omega (arith, few (start .pre .0))
+add-visit : tie.Need-add-visit
+add-visit c = search needs
 
 top-requires : tie.Need-top-requires
 top-requires c κs = search needs
 
-visit-expression-requires : tie.Need-visit-expression-requires
-visit-expression-requires c κs =
-    let handed = c .before .before .before .before in
-    let entered = handed .before .before .before .before .before .before in
-    let told = entered .before .before .before in
-    let start = told .before .before .before .before .before .before .before .before in
+visit-requires : tie.Need-visit-requires
+visit-requires c κs =
+    let handed = c .before .before .before .before .before in
+    let entered = to-entered handed in
+    let told = to-told entered in
+    let start = to-start told in
     body-fits (start .pre .1) (told .body-at .ensures) (entered .before-top-define .ensures) (handed .top .ensures)
     (part (start .args .rs .now) 12) (start .pre .0)
 
 after-top-define-requires : tie.Need-after-top-define-requires
 after-top-define-requires c κs = search needs
 
-add-t14 : tie.Need-add-t14
-add-t14 c =
-    let visited = c .before .before .before .before .before .before .before .before .before .before in
-    let handed = visited .before .before .before .before .before in
-    let entered = handed .before .before .before .before .before .before in
-    let told = entered .before .before .before in
-    let start = told .before .before .before .before .before .before .before .before in
+add-result : tie.Need-add-result
+add-result c =
+    let visited = c .before .before in
+    let handed = to-handed visited in
+    let entered = to-entered handed in
+    let told = to-told entered in
+    let start = to-start told in
     let u =
     used-few (start .pre .1) (told .body-at .ensures) (entered .before-top-define .ensures) (handed .top .ensures)
-    (part (start .args .rs .now) 12) (visited .visit-expression .ensures .used) (start .pre .0) in
+    (part (start .args .rs .now) 12) (visited .visit .ensures .0 .used) (start .pre .0) in
     omega (arith, u)
-
-same-length : tie.Need-same-length
-same-length c =
-    let visited = c .before .before .before .before .before .before .before .before .before .before in
-    let entered = visited .before .before .before .before .before .before .before .before .before .before .before in
-    omega (arith, visited .visit-expression .kept, entered .before-top-define .kept)
-
-same-length-2 : tie.Need-same-length-2
-same-length-2 c = search needs
-
-same-length-3 : tie.Need-same-length-3
-same-length-3 c = search needs
-
-same-length-4 : tie.Need-same-length-4
-same-length-4 c =
-    let visited = c .before .before .before .before .before .before .before .before .before .before in
-    let entered = visited .before .before .before .before .before .before .before .before .before .before .before in
-    omega (arith, visited .visit-expression .kept, entered .before-top-define .kept)
 
 returns : tie.Need-returns
 returns c =
-    let visited = c .before .before .before .before .before .before .before .before .before .before in
-    let handed = visited .before .before .before .before .before in
-    let entered = handed .before .before .before .before .before .before in
-    let told = entered .before .before .before in
-    let start = told .before .before .before .before .before .before .before .before in
+    let visited = c .before .before in
+    let handed = to-handed visited in
+    let entered = to-entered handed in
+    let told = to-told entered in
+    let start = to-start told in
+    let done =
     define-done (start .pre .1) (told .body-at .ensures) (entered .before-top-define .ensures) (handed .top .ensures)
-    (part (start .args .rs .now) 12) (visited .visit-expression .ensures) (c .before .after-top-define .ensures)
+    (part (start .args .rs .now) 12) (visited .visit .ensures .0) (c .after-top-define .ensures) in
+    (done, visited .visit .ensures .1)
 
 pub visit-top-define-spec : {M : Type 1} → statement M
 visit-top-define-spec =
@@ -98,17 +92,15 @@ visit-top-define-spec =
     (tie.spec
     add-body-at
     body-at-requires
+    slice-aggregate-before-top-define
+    slice-aggregate-before-top-define-2
     before-top-define-requires
-    sub-visit-expression
-    part-visit-expression-start
-    part-visit-expression-end
-    add-visit-expression
+    sub-visit
+    part-visit-start
+    part-visit-end
+    add-visit
     top-requires
-    visit-expression-requires
+    visit-requires
     after-top-define-requires
-    add-t14
-    same-length
-    same-length-2
-    same-length-3
-    same-length-4
+    add-result
     returns)

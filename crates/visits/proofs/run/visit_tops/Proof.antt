@@ -7,29 +7,31 @@ use borrow.Author.Tests.{eqb-true, eqb-false}
 use lib.ListN.{length, take, drop}
 use Rattle.table.specs.Part.{part}
 use Rattle.tree.specs.Record.{records}
-use Rattle.work.specs.Tied.{raw}
+use Rattle.registers.specs.Registers.{held}
+use Rattle.visits.specs.Contract.{tables}
 use Rattle.visits.specs.Tops.{TopsFit}
 use Rattle.visits.proofs.TopsCase.{room, Left, Next, all-left, few, begin-opened, next, next-fits, ahead, one-less, all-visited}
 use Rattle.visits.proofs.run.visit_tops.Statement.{statement}
 use Rattle.visits.proofs.run.visit_tops.Tie as tie
 
 abbrev Inv-loop : tie.InvT-loop
-Inv-loop classes all facts₀ captured₀ arguments₀ work₀ n q₀ at₀ inside₀ facts captured arguments work q at inside =
-    (length facts ≡ length facts₀) × (length captured ≡ length captured₀) × (length arguments ≡ length arguments₀) × (length work ≡ length work₀)
-    × ((x : TopsFit classes all (raw q₀ facts₀ captured₀ arguments₀ work₀)) → Left x at inside (raw q facts captured arguments work))
+Inv-loop classes all r₀ facts₀ captured₀ arguments₀ work₀ rs n at₀ inside₀ r facts captured arguments work at inside =
+    (tables facts captured arguments work ≡ tables facts₀ captured₀ arguments₀ work₀)
+    × ((x : TopsFit (classes .now) (all .now) (held r₀ (facts₀ .now) (captured₀ .now) (arguments₀ .now) (work₀ .now)))
+    → Left x at inside (held r (facts .now) (captured .now) (arguments .now) (work .now)))
 
 abbrev μ-loop : tie.MeasureT-loop
-μ-loop classes all facts₀ captured₀ arguments₀ work₀ n q₀ at₀ inside₀ facts captured arguments work q at inside = length (records all) - at
+μ-loop classes all r₀ facts₀ captured₀ arguments₀ work₀ rs n at₀ inside₀ r facts captured arguments work at inside = length (records (all .now)) - at
 
 len-requires : tie.Need-len-requires Inv-loop μ-loop
 len-requires c κs = tt
 
 loop-holds : tie.Need-loop-holds Inv-loop μ-loop
-loop-holds c = (refl, refl, refl, refl, λ x. all-left x)
+loop-holds c = (refl, λ x. all-left x)
 
 -- the record lies inside
 inside : (c : tie.In-loop Inv-loop μ-loop)
-    → c .before .loop .at < length (records (c .before .before .before .before .before .before .before .before .before .args .all .now))
+    → c .before .loop .at < length (records (c .before .before .before .before .args .all .now .now))
 inside c = omega (arith, c .loop-test .taken, c .before .before .len .ensures)
 
 form-requires : tie.Need-form-requires Inv-loop μ-loop
@@ -44,7 +46,7 @@ wide-requires c κs = tt
 add-at : tie.Need-add-at Inv-loop μ-loop
 add-at c =
     let test = c .before .before .before .before .before in
-    omega (arith, inside test, few (test .before .before .before .before .before .before .before .before .before .pre))
+    omega (arith, inside test, few (test .before .before .before .before .pre))
 
 loop-less : tie.Need-loop-less Inv-loop μ-loop
 loop-less c = omega (arith, inside (c .before .before .before .before .before))
@@ -52,39 +54,36 @@ loop-less c = omega (arith, inside (c .before .before .before .before .before))
 loop-again : tie.Need-loop-again Inv-loop μ-loop
 loop-again c =
     let test = c .before .before .before .before .before in
-    let kept = test .before in (
-      kept .loop .inv .0,
-      kept .loop .inv .1,
-      kept .loop .inv .2,
-      kept .loop .inv .3,
+    let kept = test .before .loop .inv in (
+      kept .0,
       λ x.
-          begin-opened (kept .loop .inv .4 x) (inside test) (c .before .before .before .before .if1 .taken)
+          begin-opened (kept .1 x) (inside test) (c .before .before .before .before .if1 .taken)
           (sym (c .before .before .before .form .ensures) ∙ eqb-true _ 7 (c .before .before .if2 .taken)) (c .wide .ensures ∙ c .before .count .ensures),
     )
 
 -- its part of the records
 rest : (c : tie.Joined1 Inv-loop μ-loop) →
-    let all = c .before .before .before .before .before .before .before .before .before .before .args .all .now in
+    let all = c .before .before .before .before .before .args .all .now .now in
     let start = 6 * c .before .before .loop .at in
     take (length all - start) (drop start all) ≡ drop start all
-rest c = part (c .before .before .before .before .before .before .before .before .before .before .args .all .now) (6 * c .before .before .loop .at)
+rest c = part (c .before .before .before .before .before .args .all .now .now) (6 * c .before .before .loop .at)
 
 start : (c : tie.Joined1 Inv-loop μ-loop) →
     let l = c .before .before .loop in
-    let all = c .before .before .before .before .before .before .before .before .before .before .args .all .now in
+    let all = c .before .before .before .before .before .args .all .now .now in
     (6 * l .at + 6 ≤ length all) × (6 * l .at + 6 ≤ 24576)
 start c =
-    let o = c .before .before .before .before .before .before .before .before .before .before in
-    (room (o .args .all .now) (c .before .before .loop .at) (inside (c .before)), omega (arith, inside (c .before), few (o .pre)))
+    let o = c .before .before .before .before .before in
+    (room (o .args .all .now .now) (c .before .before .loop .at) (inside (c .before)), omega (arith, inside (c .before), few (o .pre)))
 
 -- the tree there is the next one
 turn : (c : tie.Joined1 Inv-loop μ-loop) →
-    let o = c .before .before .before .before .before .before .before .before .before .before .args in
+    let o = c .before .before .before .before .before .args in
     let l = c .before .before .loop in
-    (x : TopsFit (o .classes .now) (o .all .now) (raw (o .p) (o .facts .now) (o .captured .now) (o .arguments .now) (o .work .now)))
-    → Next x (l .at) (l .inside) (raw (l .q) (l .facts) (l .captured) (l .arguments) (l .work))
+    (x : TopsFit (o .classes .now .now) (o .all .now .now) (held (o .r .now) (o .facts .now .now) (o .captured .now .now) (o .arguments .now .now) (o .work .now .now)))
+    → Next x (l .at) (l .inside) (held (l .r) (l .facts .now) (l .captured .now) (l .arguments .now) (l .work .now))
 turn c x =
-    next (c .before .before .loop .inv .4 x) (inside (c .before))
+    next (c .before .before .loop .inv .1 x) (inside (c .before))
     (⊎-elim (λ w i e. eqb-false _ 7 (w .2 .left) (w .1 .ensures ∙ e)) (λ w i e. w .left i) (c .if1 .came))
 
 mul-start : tie.Need-mul-start Inv-loop μ-loop
@@ -104,57 +103,39 @@ part-visit-top-end c = omega (arith, start c)
 
 visit-top-requires : tie.Need-visit-top-requires Inv-loop μ-loop
 visit-top-requires c κs =
-    let here = c .before .before .before .before .before in
-    next-fits (turn here (here .before .before .before .before .before .before .before .before .before .before .pre)) (rest here)
+    let here = c .before .before .before .before .before .before in
+    next-fits (turn here (here .before .before .before .before .before .pre)) (rest here)
 
 visited : (c : tie.After-visit-top Inv-loop μ-loop) →
-    let l = c .before .before .before .before .before .before .before .before .loop in
-    let o = c .before .before .before .before .before .before .before .before .before .before .before .before .before .before .before .before in
-    let n = length (records (o .args .all .now)) in
-    (0 < c .visit-top .result .used) × (l .at + c .visit-top .result .used ≤ n) × (n ≤ 4096)
+    let n = length (records (c .before .before .before .before .before .before .before .before .before .before .before .before .args .all .now .now)) in
+    (0 < c .visit-top .result) × (c .before .before .before .before .before .before .before .before .before .loop .at + c .visit-top .result ≤ n) × (n ≤ 4096)
 visited c =
-    let o = c .before .before .before .before .before .before .before .before .before .before .before .before .before .before .before .before in
-    let h = c .before .before .before .before .before .before in
-    let a = ahead (turn h (o .pre)) (rest h) (c .visit-top .ensures .used) in
+    let o = c .before .before .before .before .before .before .before .before .before .before .before .before in
+    let h = c .before .before .before .before .before .before .before in
+    let a = ahead (turn h (o .pre)) (rest h) (c .visit-top .ensures .0 .used) in
     (a .0, a .1, few (o .pre))
 
 add-at-2 : tie.Need-add-at-2 Inv-loop μ-loop
-add-at-2 c = omega (arith, visited (c .before .before .before .before .before .before .before .before .before .before))
+add-at-2 c = omega (arith, visited c)
 
 one-less-requires : tie.Need-one-less-requires Inv-loop μ-loop
 one-less-requires c κs = tt
 
 loop-less-2 : tie.Need-loop-less-2 Inv-loop μ-loop
-loop-less-2 c = omega (arith, visited (c .before .before .before .before .before .before .before .before .before .before .before))
+loop-less-2 c = omega (arith, visited (c .before))
 
 loop-again-2 : tie.Need-loop-again-2 Inv-loop μ-loop
 loop-again-2 c =
-    let called = c .before .before .before .before .before .before .before .before .before .before .before in
-    let here = called .before .before .before .before .before .before in
-    let k = called .visit-top .kept in
-    let l = here .before .before .loop .inv in (
-      omega (arith, k, l .0),
-      omega (arith, k, l .1),
-      omega (arith, k, l .2),
-      omega (arith, k, l .3),
+    let called = c .before in
+    let here = called .before .before .before .before .before .before .before in (
+      called .visit-top .ensures .1 ∙ here .before .before .loop .inv .0,
       λ x.
-          one-less (turn here x) (rest here) (called .visit-top .ensures) (c .one-less .ensures),
+          one-less (turn here x) (rest here) (called .visit-top .ensures .0) (c .one-less .ensures),
     )
 
-same-length : tie.Need-same-length Inv-loop μ-loop
-same-length c = c .before .loop .inv .0
-
-same-length-2 : tie.Need-same-length-2 Inv-loop μ-loop
-same-length-2 c = c .before .loop .inv .1
-
-same-length-3 : tie.Need-same-length-3 Inv-loop μ-loop
-same-length-3 c = c .before .loop .inv .2
-
-same-length-4 : tie.Need-same-length-4 Inv-loop μ-loop
-same-length-4 c = c .before .loop .inv .3
-
 returns : tie.Need-returns Inv-loop μ-loop
-returns c = all-visited (c .before .loop .inv .4) (omega (arith, c .loop-test .left, c .before .before .len .ensures))
+returns c =
+    (all-visited (c .before .loop .inv .1) (omega (arith, c .loop-test .left, c .before .before .len .ensures)), c .before .loop .inv .0)
 
 pub visit-tops-spec : {M : Type 1} → statement M
 visit-tops-spec =
@@ -180,8 +161,4 @@ visit-tops-spec =
     one-less-requires
     loop-less-2
     loop-again-2
-    same-length
-    same-length-2
-    same-length-3
-    same-length-4
     returns)

@@ -67,141 +67,141 @@ use Rattle.walk.proofs.extent.extent_at.Reads as extent-at-reads
 use Rattle.walk.proofs.uses.holds_lambda.Reads as holds-lambda-reads
 use Rattle.work.proofs.narrow.Reads as narrow-reads
 
-abbrev pub μ-visit : Measures 8 visit-kinds.ps ℕ
+abbrev pub μ-visit : Measures 14 visit-kinds.ps ℕ
 μ-visit κs a = 4 * length (a .1 .1 .0 .now) + 1
 
-abbrev pub μ-visit-arguments : Measures 8 visit-arguments-kinds.ps ℕ
+abbrev pub μ-visit-arguments : Measures 14 visit-arguments-kinds.ps ℕ
 μ-visit-arguments κs a = 4 * length (a .1 .1 .0 .now) + 3
 
-abbrev pub μ-visit-begin : Measures 8 visit-begin-kinds.ps ℕ
+abbrev pub μ-visit-begin : Measures 14 visit-begin-kinds.ps ℕ
 μ-visit-begin κs a = 4 * length (a .1 .1 .0 .now)
 
-abbrev pub μ-visit-body : Measures 8 visit-body-kinds.ps ℕ
+abbrev pub μ-visit-body : Measures 14 visit-body-kinds.ps ℕ
 μ-visit-body κs a = 4 * length (a .1 .1 .0 .now) + 3
 
-abbrev pub μ-visit-define : Measures 8 visit-define-kinds.ps ℕ
+abbrev pub μ-visit-define : Measures 14 visit-define-kinds.ps ℕ
 μ-visit-define κs a = 4 * length (a .1 .1 .0 .now)
 
-abbrev pub μ-visit-if : Measures 8 visit-if-kinds.ps ℕ
+abbrev pub μ-visit-if : Measures 14 visit-if-kinds.ps ℕ
 μ-visit-if κs a = 4 * length (a .1 .1 .0 .now)
 
-abbrev pub μ-visit-lambda-function : Measures 8 visit-lambda-function-kinds.ps ℕ
+abbrev pub μ-visit-lambda-function : Measures 14 visit-lambda-function-kinds.ps ℕ
 μ-visit-lambda-function κs a = 4 * length (a .1 .1 .0 .now)
 
-abbrev pub μ-visit-let : Measures 8 visit-let-kinds.ps ℕ
+abbrev pub μ-visit-let : Measures 14 visit-let-kinds.ps ℕ
 μ-visit-let κs a = 4 * length (a .1 .1 .0 .now)
 
-abbrev pub μ-visit-list : Measures 8 visit-list-kinds.ps ℕ
+abbrev pub μ-visit-list : Measures 14 visit-list-kinds.ps ℕ
 μ-visit-list κs a = 4 * length (a .1 .1 .0 .now)
 
-abbrev pub μ-visit-part : Measures 8 visit-part-kinds.ps ℕ
+abbrev pub μ-visit-part : Measures 14 visit-part-kinds.ps ℕ
 μ-visit-part κs a = 4 * length (a .1 .1 .0 .now) + 2
 
-abbrev pub μ-visit-set : Measures 8 visit-set-kinds.ps ℕ
+abbrev pub μ-visit-set : Measures 14 visit-set-kinds.ps ℕ
 μ-visit-set κs a = 4 * length (a .1 .1 .0 .now)
 
-abbrev pub visit-at : ℕ → In 8 visit-kinds.ps
-visit-at t = and 8 visit-kinds.ps (is 8 visit-kinds.ps μ-visit t) visit.Pre
+abbrev pub visit-at : ℕ → In 14 visit-kinds.ps
+visit-at t = and 14 visit-kinds.ps (is 14 visit-kinds.ps μ-visit t) visit.Pre
 
-abbrev pub visit-below : ℕ → In 8 visit-kinds.ps
-visit-below t = and 8 visit-kinds.ps (falls 8 visit-kinds.ps _<_ μ-visit t) visit.Pre
+abbrev pub visit-below : ℕ → In 14 visit-kinds.ps
+visit-below t = and 14 visit-kinds.ps (falls 14 visit-kinds.ps _<_ μ-visit t) visit.Pre
 
-abbrev pub visit-arguments-at : ℕ → In 8 visit-arguments-kinds.ps
+abbrev pub visit-arguments-at : ℕ → In 14 visit-arguments-kinds.ps
 visit-arguments-at t =
     and
-    8
+    14
     visit-arguments-kinds.ps
-    (is 8 visit-arguments-kinds.ps μ-visit-arguments t)
+    (is 14 visit-arguments-kinds.ps μ-visit-arguments t)
     visit-arguments.Pre
 
-abbrev pub visit-arguments-below : ℕ → In 8 visit-arguments-kinds.ps
+abbrev pub visit-arguments-below : ℕ → In 14 visit-arguments-kinds.ps
 visit-arguments-below t =
     and
-    8
+    14
     visit-arguments-kinds.ps
-    (falls 8 visit-arguments-kinds.ps _<_ μ-visit-arguments t)
+    (falls 14 visit-arguments-kinds.ps _<_ μ-visit-arguments t)
     visit-arguments.Pre
 
-abbrev pub visit-begin-at : ℕ → In 8 visit-begin-kinds.ps
+abbrev pub visit-begin-at : ℕ → In 14 visit-begin-kinds.ps
 visit-begin-at t =
-    and 8 visit-begin-kinds.ps (is 8 visit-begin-kinds.ps μ-visit-begin t) visit-begin.Pre
+    and 14 visit-begin-kinds.ps (is 14 visit-begin-kinds.ps μ-visit-begin t) visit-begin.Pre
 
-abbrev pub visit-begin-below : ℕ → In 8 visit-begin-kinds.ps
+abbrev pub visit-begin-below : ℕ → In 14 visit-begin-kinds.ps
 visit-begin-below t =
-    and 8 visit-begin-kinds.ps (falls 8 visit-begin-kinds.ps _<_ μ-visit-begin t) visit-begin.Pre
+    and 14 visit-begin-kinds.ps (falls 14 visit-begin-kinds.ps _<_ μ-visit-begin t) visit-begin.Pre
 
-abbrev pub visit-body-at : ℕ → In 8 visit-body-kinds.ps
+abbrev pub visit-body-at : ℕ → In 14 visit-body-kinds.ps
 visit-body-at t =
-    and 8 visit-body-kinds.ps (is 8 visit-body-kinds.ps μ-visit-body t) visit-body.Pre
+    and 14 visit-body-kinds.ps (is 14 visit-body-kinds.ps μ-visit-body t) visit-body.Pre
 
-abbrev pub visit-body-below : ℕ → In 8 visit-body-kinds.ps
+abbrev pub visit-body-below : ℕ → In 14 visit-body-kinds.ps
 visit-body-below t =
-    and 8 visit-body-kinds.ps (falls 8 visit-body-kinds.ps _<_ μ-visit-body t) visit-body.Pre
+    and 14 visit-body-kinds.ps (falls 14 visit-body-kinds.ps _<_ μ-visit-body t) visit-body.Pre
 
-abbrev pub visit-define-at : ℕ → In 8 visit-define-kinds.ps
+abbrev pub visit-define-at : ℕ → In 14 visit-define-kinds.ps
 visit-define-at t =
-    and 8 visit-define-kinds.ps (is 8 visit-define-kinds.ps μ-visit-define t) visit-define.Pre
+    and 14 visit-define-kinds.ps (is 14 visit-define-kinds.ps μ-visit-define t) visit-define.Pre
 
-abbrev pub visit-define-below : ℕ → In 8 visit-define-kinds.ps
+abbrev pub visit-define-below : ℕ → In 14 visit-define-kinds.ps
 visit-define-below t =
     and
-    8
+    14
     visit-define-kinds.ps
-    (falls 8 visit-define-kinds.ps _<_ μ-visit-define t)
+    (falls 14 visit-define-kinds.ps _<_ μ-visit-define t)
     visit-define.Pre
 
-abbrev pub visit-if-at : ℕ → In 8 visit-if-kinds.ps
-visit-if-at t = and 8 visit-if-kinds.ps (is 8 visit-if-kinds.ps μ-visit-if t) visit-if.Pre
+abbrev pub visit-if-at : ℕ → In 14 visit-if-kinds.ps
+visit-if-at t = and 14 visit-if-kinds.ps (is 14 visit-if-kinds.ps μ-visit-if t) visit-if.Pre
 
-abbrev pub visit-if-below : ℕ → In 8 visit-if-kinds.ps
+abbrev pub visit-if-below : ℕ → In 14 visit-if-kinds.ps
 visit-if-below t =
-    and 8 visit-if-kinds.ps (falls 8 visit-if-kinds.ps _<_ μ-visit-if t) visit-if.Pre
+    and 14 visit-if-kinds.ps (falls 14 visit-if-kinds.ps _<_ μ-visit-if t) visit-if.Pre
 
-abbrev pub visit-lambda-function-at : ℕ → In 8 visit-lambda-function-kinds.ps
+abbrev pub visit-lambda-function-at : ℕ → In 14 visit-lambda-function-kinds.ps
 visit-lambda-function-at t =
     and
-    8
+    14
     visit-lambda-function-kinds.ps
-    (is 8 visit-lambda-function-kinds.ps μ-visit-lambda-function t)
+    (is 14 visit-lambda-function-kinds.ps μ-visit-lambda-function t)
     visit-lambda-function.Pre
 
-abbrev pub visit-lambda-function-below : ℕ → In 8 visit-lambda-function-kinds.ps
+abbrev pub visit-lambda-function-below : ℕ → In 14 visit-lambda-function-kinds.ps
 visit-lambda-function-below t =
     and
-    8
+    14
     visit-lambda-function-kinds.ps
-    (falls 8 visit-lambda-function-kinds.ps _<_ μ-visit-lambda-function t)
+    (falls 14 visit-lambda-function-kinds.ps _<_ μ-visit-lambda-function t)
     visit-lambda-function.Pre
 
-abbrev pub visit-let-at : ℕ → In 8 visit-let-kinds.ps
-visit-let-at t = and 8 visit-let-kinds.ps (is 8 visit-let-kinds.ps μ-visit-let t) visit-let.Pre
+abbrev pub visit-let-at : ℕ → In 14 visit-let-kinds.ps
+visit-let-at t = and 14 visit-let-kinds.ps (is 14 visit-let-kinds.ps μ-visit-let t) visit-let.Pre
 
-abbrev pub visit-let-below : ℕ → In 8 visit-let-kinds.ps
+abbrev pub visit-let-below : ℕ → In 14 visit-let-kinds.ps
 visit-let-below t =
-    and 8 visit-let-kinds.ps (falls 8 visit-let-kinds.ps _<_ μ-visit-let t) visit-let.Pre
+    and 14 visit-let-kinds.ps (falls 14 visit-let-kinds.ps _<_ μ-visit-let t) visit-let.Pre
 
-abbrev pub visit-list-at : ℕ → In 8 visit-list-kinds.ps
+abbrev pub visit-list-at : ℕ → In 14 visit-list-kinds.ps
 visit-list-at t =
-    and 8 visit-list-kinds.ps (is 8 visit-list-kinds.ps μ-visit-list t) visit-list.Pre
+    and 14 visit-list-kinds.ps (is 14 visit-list-kinds.ps μ-visit-list t) visit-list.Pre
 
-abbrev pub visit-list-below : ℕ → In 8 visit-list-kinds.ps
+abbrev pub visit-list-below : ℕ → In 14 visit-list-kinds.ps
 visit-list-below t =
-    and 8 visit-list-kinds.ps (falls 8 visit-list-kinds.ps _<_ μ-visit-list t) visit-list.Pre
+    and 14 visit-list-kinds.ps (falls 14 visit-list-kinds.ps _<_ μ-visit-list t) visit-list.Pre
 
-abbrev pub visit-part-at : ℕ → In 8 visit-part-kinds.ps
+abbrev pub visit-part-at : ℕ → In 14 visit-part-kinds.ps
 visit-part-at t =
-    and 8 visit-part-kinds.ps (is 8 visit-part-kinds.ps μ-visit-part t) visit-part.Pre
+    and 14 visit-part-kinds.ps (is 14 visit-part-kinds.ps μ-visit-part t) visit-part.Pre
 
-abbrev pub visit-part-below : ℕ → In 8 visit-part-kinds.ps
+abbrev pub visit-part-below : ℕ → In 14 visit-part-kinds.ps
 visit-part-below t =
-    and 8 visit-part-kinds.ps (falls 8 visit-part-kinds.ps _<_ μ-visit-part t) visit-part.Pre
+    and 14 visit-part-kinds.ps (falls 14 visit-part-kinds.ps _<_ μ-visit-part t) visit-part.Pre
 
-abbrev pub visit-set-at : ℕ → In 8 visit-set-kinds.ps
-visit-set-at t = and 8 visit-set-kinds.ps (is 8 visit-set-kinds.ps μ-visit-set t) visit-set.Pre
+abbrev pub visit-set-at : ℕ → In 14 visit-set-kinds.ps
+visit-set-at t = and 14 visit-set-kinds.ps (is 14 visit-set-kinds.ps μ-visit-set t) visit-set.Pre
 
-abbrev pub visit-set-below : ℕ → In 8 visit-set-kinds.ps
+abbrev pub visit-set-below : ℕ → In 14 visit-set-kinds.ps
 visit-set-below t =
-    and 8 visit-set-kinds.ps (falls 8 visit-set-kinds.ps _<_ μ-visit-set t) visit-set.Pre
+    and 14 visit-set-kinds.ps (falls 14 visit-set-kinds.ps _<_ μ-visit-set t) visit-set.Pre
 
 abbrev pub visit-calls : ℕ → visit-lts.Claims
 visit-calls t = (form-reads.Asked, form-reads.Learnt, visit-atom-reads.Asked, visit-atom-reads.Learnt, visit-if-below t, visit-if.Post, visit-let-below t, visit-let.Post, visit-define-below t, visit-define.Post, visit-lambda-function-below t, visit-lambda-function.Post, visit-begin-below t, visit-begin.Post, visit-list-below t, visit-list.Post, visit-set-below t, visit-set.Post)

@@ -1,6 +1,6 @@
 -- The needs of `visit`.
 use Prim.Native.Nat.{ℕ}
-use mathlib.Core.Path.{sym, _∙_}
+use mathlib.Core.Path.{refl, sym, _∙_}
 use Rattle.visits.proofs.Bounds as bounds
 use Rattle.visits.proofs.LeafCase.{ident-reads, ident-done, is-const, const-done}
 use borrow.Author.Needs.{needs}
@@ -11,16 +11,25 @@ use Rattle.visits.proofs.visit.+visit+visit_arguments+visit_begin+visit
 
 module _ (t : ℕ) where
   abbrev begun : lts.After-form (visit-calls t) (visit-at t) reads.Post → lts.Start (visit-calls t) (visit-at t) reads.Post
-  begun c = c .before .before .before .before .before .before .before .before
+  begun c = c .before .before .before
 
   pub form-requires : lts.Need-form-requires (visit-calls t) (visit-at t) reads.Post
-  form-requires c κs = let x = c .before .before .before .before .before .before .before .pre .1 in omega (arith, bounds.whole x, bounds.some x)
+  form-requires c κs = let x = c .before .before .pre .1 in omega (arith, bounds.whole x, bounds.some x)
+
+  pub slice-aggregate-lent : lts.Need-slice-aggregate-lent (visit-calls t) (visit-at t) reads.Post
+  slice-aggregate-lent c = search needs
+
+  pub slice-aggregate-visit-atom : lts.Need-slice-aggregate-visit-atom (visit-calls t) (visit-at t) reads.Post
+  slice-aggregate-visit-atom c = search needs
+
+  pub slice-aggregate-visit-atom-2 : lts.Need-slice-aggregate-visit-atom-2 (visit-calls t) (visit-at t) reads.Post
+  slice-aggregate-visit-atom-2 c = search needs
 
   pub visit-atom-requires : lts.Need-visit-atom-requires (visit-calls t) (visit-at t) reads.Post
   visit-atom-requires c κs =
-      let f = c .before .before .before .before .before in
+      let f = c .before .before .before .before .before .before .before .before in
       let o = begun f in
-      ident-reads {g = o .args .f} (sym (f .form .ensures) ∙ c .before .before .before .before .match .keys1) (o .pre .1)
+      ident-reads {g = o .args .f} (sym (f .form .ensures) ∙ c .before .before .before .before .before .before .before .match .keys1) (o .pre .1)
 
   pub visit-if-requires : lts.Need-visit-if-requires (visit-calls t) (visit-at t) reads.Post
   visit-if-requires c κs =
@@ -64,119 +73,26 @@ module _ (t : ℕ) where
       let o = begun f in
       (omega (arith, o .pre .0), (o .pre .1, sym (f .form .ensures) ∙ c .before .before .before .before .before .match .keys8))
 
-  pub same-length : lts.Need-same-length (visit-calls t) (visit-at t) reads.Post
-  same-length c = search needs
-
-  pub same-length-2 : lts.Need-same-length-2 (visit-calls t) (visit-at t) reads.Post
-  same-length-2 c = search needs
-
-  pub same-length-3 : lts.Need-same-length-3 (visit-calls t) (visit-at t) reads.Post
-  same-length-3 c = search needs
-
   pub returns : lts.Need-returns (visit-calls t) (visit-at t) reads.Post
-  returns c = ident-done (sym (c .before .before .before .before .before .before .before .before .before .before .form .ensures) ∙ c .before .before .before .before .before .before .before .before .before .match .keys1) (c .before .before .before .before .visit-atom .ensures)
-
-  pub same-length-4 : lts.Need-same-length-4 (visit-calls t) (visit-at t) reads.Post
-  same-length-4 c = search needs
-
-  pub same-length-5 : lts.Need-same-length-5 (visit-calls t) (visit-at t) reads.Post
-  same-length-5 c = search needs
-
-  pub same-length-6 : lts.Need-same-length-6 (visit-calls t) (visit-at t) reads.Post
-  same-length-6 c = search needs
-
-  pub same-length-7 : lts.Need-same-length-7 (visit-calls t) (visit-at t) reads.Post
-  same-length-7 c = search needs
+  returns c = (ident-done (sym (c .before .before .before .before .before .before .before .before .before .form .ensures) ∙ c .before .before .before .before .before .before .before .before .match .keys1) (c .visit-atom .ensures), refl)
 
   pub returns-2 : lts.Need-returns-2 (visit-calls t) (visit-at t) reads.Post
   returns-2 c = search needs
 
-  pub same-length-8 : lts.Need-same-length-8 (visit-calls t) (visit-at t) reads.Post
-  same-length-8 c = search needs
-
-  pub same-length-9 : lts.Need-same-length-9 (visit-calls t) (visit-at t) reads.Post
-  same-length-9 c = search needs
-
-  pub same-length-10 : lts.Need-same-length-10 (visit-calls t) (visit-at t) reads.Post
-  same-length-10 c = search needs
-
-  pub same-length-11 : lts.Need-same-length-11 (visit-calls t) (visit-at t) reads.Post
-  same-length-11 c = search needs
-
   pub returns-3 : lts.Need-returns-3 (visit-calls t) (visit-at t) reads.Post
   returns-3 c = search needs
-
-  pub same-length-12 : lts.Need-same-length-12 (visit-calls t) (visit-at t) reads.Post
-  same-length-12 c = search needs
-
-  pub same-length-13 : lts.Need-same-length-13 (visit-calls t) (visit-at t) reads.Post
-  same-length-13 c = search needs
-
-  pub same-length-14 : lts.Need-same-length-14 (visit-calls t) (visit-at t) reads.Post
-  same-length-14 c = search needs
-
-  pub same-length-15 : lts.Need-same-length-15 (visit-calls t) (visit-at t) reads.Post
-  same-length-15 c = search needs
 
   pub returns-4 : lts.Need-returns-4 (visit-calls t) (visit-at t) reads.Post
   returns-4 c = search needs
 
-  pub same-length-16 : lts.Need-same-length-16 (visit-calls t) (visit-at t) reads.Post
-  same-length-16 c = search needs
-
-  pub same-length-17 : lts.Need-same-length-17 (visit-calls t) (visit-at t) reads.Post
-  same-length-17 c = search needs
-
-  pub same-length-18 : lts.Need-same-length-18 (visit-calls t) (visit-at t) reads.Post
-  same-length-18 c = search needs
-
-  pub same-length-19 : lts.Need-same-length-19 (visit-calls t) (visit-at t) reads.Post
-  same-length-19 c = search needs
-
   pub returns-5 : lts.Need-returns-5 (visit-calls t) (visit-at t) reads.Post
   returns-5 c = search needs
-
-  pub same-length-20 : lts.Need-same-length-20 (visit-calls t) (visit-at t) reads.Post
-  same-length-20 c = search needs
-
-  pub same-length-21 : lts.Need-same-length-21 (visit-calls t) (visit-at t) reads.Post
-  same-length-21 c = search needs
-
-  pub same-length-22 : lts.Need-same-length-22 (visit-calls t) (visit-at t) reads.Post
-  same-length-22 c = search needs
-
-  pub same-length-23 : lts.Need-same-length-23 (visit-calls t) (visit-at t) reads.Post
-  same-length-23 c = search needs
 
   pub returns-6 : lts.Need-returns-6 (visit-calls t) (visit-at t) reads.Post
   returns-6 c = search needs
 
-  pub same-length-24 : lts.Need-same-length-24 (visit-calls t) (visit-at t) reads.Post
-  same-length-24 c = search needs
-
-  pub same-length-25 : lts.Need-same-length-25 (visit-calls t) (visit-at t) reads.Post
-  same-length-25 c = search needs
-
-  pub same-length-26 : lts.Need-same-length-26 (visit-calls t) (visit-at t) reads.Post
-  same-length-26 c = search needs
-
-  pub same-length-27 : lts.Need-same-length-27 (visit-calls t) (visit-at t) reads.Post
-  same-length-27 c = search needs
-
   pub returns-7 : lts.Need-returns-7 (visit-calls t) (visit-at t) reads.Post
   returns-7 c = search needs
-
-  pub same-length-28 : lts.Need-same-length-28 (visit-calls t) (visit-at t) reads.Post
-  same-length-28 c = search needs
-
-  pub same-length-29 : lts.Need-same-length-29 (visit-calls t) (visit-at t) reads.Post
-  same-length-29 c = search needs
-
-  pub same-length-30 : lts.Need-same-length-30 (visit-calls t) (visit-at t) reads.Post
-  same-length-30 c = search needs
-
-  pub same-length-31 : lts.Need-same-length-31 (visit-calls t) (visit-at t) reads.Post
-  same-length-31 c = search needs
 
   pub returns-8 : lts.Need-returns-8 (visit-calls t) (visit-at t) reads.Post
   returns-8 c = search needs
@@ -185,4 +101,4 @@ module _ (t : ℕ) where
   returns-9 c =
       let r = c .match .rest in
       let s = r .0 .0 .0 .0 in
-      const-done (is-const (c .before .form .ensures) (s .0 .0 .0 .1) (s .0 .0 .1) (s .0 .1) (s .1) (r .0 .0 .0 .1) (r .0 .0 .1) (r .0 .1) (r .1))
+      (const-done (is-const (c .before .form .ensures) (s .0 .0 .0 .1) (s .0 .0 .1) (s .0 .1) (s .1) (r .0 .0 .0 .1) (r .0 .0 .1) (r .0 .1) (r .1)), refl)

@@ -1,11 +1,10 @@
 -- The needs of `visit_arguments`.
 use Prim.Native.Nat.{ℕ, _+_, _-_, _*_, _≤_}
 use mathlib.Core.Path.{_≡_, refl, _∙_}
-use lib.ListN.{length}
 use Rattle.table.specs.Part.{part, part-length}
 use Rattle.flags.specs.declared.Part.the-variants.{Next as After}
 use Rattle.registers.specs.Registers.{held}
-use Rattle.visits.specs.Contract.{FitAll}
+use Rattle.visits.specs.Contract.{FitAll, tables}
 use Rattle.visits.proofs.Bounds as bounds
 use Rattle.tree.specs.TreeLaws.{many-sizes}
 use Rattle.visits.proofs.Views.{handed}
@@ -19,26 +18,27 @@ use Rattle.visits.proofs.visit.+visit+visit_arguments+visit_begin+visit
 abbrev pub Inv-loop : lts.InvT-loop
 Inv-loop classes all rs k at r₀ facts₀ captured₀ arguments₀ work₀ g₀ used₀ i₀ r facts captured arguments work g used i =
     (i ≤ k)
-    × (length facts ≡ length facts₀) × (length captured ≡ length captured₀) × (length arguments ≡ length arguments₀) × (length work ≡ length work₀)
-    × ((x : FitAll classes all rs k at g₀ (held r₀ facts₀ captured₀ arguments₀ work₀)) → Left x used (k - i) g (held r facts captured arguments work))
+    × (tables facts captured arguments work ≡ tables facts₀ captured₀ arguments₀ work₀)
+    × ((x : FitAll (classes .now) (all .now) rs k at g₀ (held r₀ (facts₀ .now) (captured₀ .now) (arguments₀ .now) (work₀ .now)))
+    → Left x used (k - i) g (held r (facts .now) (captured .now) (arguments .now) (work .now)))
 
 abbrev pub μ-loop : lts.MeasureT-loop
 μ-loop classes all rs k at r₀ facts₀ captured₀ arguments₀ work₀ g₀ used₀ i₀ r facts captured arguments work g used i = k - i
 
 module _ (t : ℕ) where
   abbrev begun : lts.At-loop (visit-arguments-calls t) (visit-arguments-at t) reads.Post Inv-loop μ-loop → lts.Start (visit-arguments-calls t) (visit-arguments-at t) reads.Post Inv-loop μ-loop
-  begun c = c .before .before .before .before .before .before .before .before
+  begun c = c .before .before
 
   abbrev turning : lts.After-visit-part (visit-arguments-calls t) (visit-arguments-at t) reads.Post Inv-loop μ-loop → lts.In-loop (visit-arguments-calls t) (visit-arguments-at t) reads.Post Inv-loop μ-loop
   turning c = c .before .before .before .before .before .before .before
 
   here : (c : lts.In-loop (visit-arguments-calls t) (visit-arguments-at t) reads.Post Inv-loop μ-loop) → let b = c .before in
       let l = b .loop in
-      Next (begun b .pre .1) (l .used) (begun b .args .k - l .i) (l .g) (held (l .r) (l .facts) (l .captured) (l .arguments) (l .work))
-  here c = let b = c .before in next (b .loop .inv .5 (begun b .pre .1)) (omega (arith, c .loop-test .taken))
+      Next (begun b .pre .1) (l .used) (begun b .args .k - l .i) (l .g) (held (l .r) (l .facts .now) (l .captured .now) (l .arguments .now) (l .work .now))
+  here c = let b = c .before in next (b .loop .inv .2 (begun b .pre .1)) (omega (arith, c .loop-test .taken))
 
   pub loop-holds : lts.Need-loop-holds (visit-arguments-calls t) (visit-arguments-at t) reads.Post Inv-loop μ-loop
-  loop-holds c = (omega arith, refl, refl, refl, refl, all-left)
+  loop-holds c = (omega arith, refl, all-left)
 
   pub mul-start : lts.Need-mul-start (visit-arguments-calls t) (visit-arguments-at t) reads.Post Inv-loop μ-loop
   mul-start c = omega (arith, next-long (here c), bounds.all (begun (c .before) .pre .1))
@@ -71,17 +71,16 @@ module _ (t : ℕ) where
 
   pub add-used : lts.Need-add-used (visit-arguments-calls t) (visit-arguments-at t) reads.Post Inv-loop μ-loop
   add-used c =
-      let v = c .before .before .before .before .before .before .before .before in
-      let n = turning v in
+      let n = turning c in
       let b = n .before in
-      omega (arith, bounds.used (next-fits (here n) (part (begun b .args .rs .now) (6 * b .loop .used))) (v .visit-part .ensures))
+      omega (arith, bounds.used (next-fits (here n) (part (begun b .args .rs .now) (6 * b .loop .used))) (c .visit-part .ensures .0))
 
   pub next-requires : lts.Need-next-requires (visit-arguments-calls t) (visit-arguments-at t) reads.Post Inv-loop μ-loop
-  next-requires c κs = next-height (here (c .before .before .before .before .before .before .before .before .before .before .before .before .before .before .before))
+  next-requires c κs = next-height (here (c .before .before .before .before .before .before .before))
 
   pub add-i : lts.Need-add-i (visit-arguments-calls t) (visit-arguments-at t) reads.Post Inv-loop μ-loop
   add-i c =
-      let n = c .before .before .before .before .before .before .before .before .before .before .before .before .before .before .before .before in
+      let n = c .before .before .before .before .before .before .before .before in
       let x = begun (n .before) .pre .1 in
       omega (arith, n .loop-test .taken, bounds.all x, many-sizes (x .ts), x .count)
 
@@ -90,36 +89,20 @@ module _ (t : ℕ) where
 
   pub loop-again : lts.Need-loop-again (visit-arguments-calls t) (visit-arguments-at t) reads.Post Inv-loop μ-loop
   loop-again c =
-      let v = c .before .before .before .before .before .before .before .before .before in
+      let v = c .before in
       let n = turning v in
       let b = n .before in
       let l = b .loop in
-      let k = v .visit-part .kept .1 .1 .1 .1 .1 .1 in
       let m = begun b .args .k in
       let e : m - l .i - 1 ≡ m - (l .i + 1) = omega arith in (
         omega (arith, n .loop-test .taken),
-        k .0 ∙ l .inv .1,
-        k .1 .0 ∙ l .inv .2,
-        k .1 .1 .0 ∙ l .inv .3,
-        k .1 .1 .1 .0 ∙ l .inv .4,
-        λ x. left-at e (one-less (next (l .inv .5 x) (omega (arith, n .loop-test .taken))) (part (begun b .args .rs .now) (6 * l .used)) (v .visit-part .ensures)
+        v .visit-part .ensures .1 ∙ l .inv .1,
+        λ x. left-at e (one-less (next (l .inv .2 x) (omega (arith, n .loop-test .taken))) (part (begun b .args .rs .now) (6 * l .used)) (v .visit-part .ensures .0)
             (handed After (l .g) (c .next .ensures))),
       )
-
-  pub same-length : lts.Need-same-length (visit-arguments-calls t) (visit-arguments-at t) reads.Post Inv-loop μ-loop
-  same-length c = search needs
-
-  pub same-length-2 : lts.Need-same-length-2 (visit-arguments-calls t) (visit-arguments-at t) reads.Post Inv-loop μ-loop
-  same-length-2 c = search needs
-
-  pub same-length-3 : lts.Need-same-length-3 (visit-arguments-calls t) (visit-arguments-at t) reads.Post Inv-loop μ-loop
-  same-length-3 c = search needs
-
-  pub same-length-4 : lts.Need-same-length-4 (visit-arguments-calls t) (visit-arguments-at t) reads.Post Inv-loop μ-loop
-  same-length-4 c = search needs
 
   pub returns : lts.Need-returns (visit-arguments-calls t) (visit-arguments-at t) reads.Post Inv-loop μ-loop
   returns c =
       let b = c .before in
       let e : begun b .args .k - b .loop .i ≡ 0 = omega (arith, c .loop-test .left) in
-      all-done (λ x. left-at e (b .loop .inv .5 x))
+      (all-done (λ x. left-at e (b .loop .inv .2 x)), b .loop .inv .1)

@@ -2,12 +2,11 @@
 use Prim.Native.Nat.{ℕ, _+_, _-_, _*_, _≤_, _<_}
 use mathlib.Core.List.{List}
 use mathlib.Core.Path.{_≡_, refl, _∙_}
-use lib.ListN.{length}
 use Rattle.table.specs.Part.{part, part-length}
 use Rattle.registers.specs.Registers.{passIn, held}
 use Rattle.work.specs.Tied.{Raw, raw}
 use Rattle.work.specs.declared.Pass.{Pass}
-use Rattle.visits.specs.Contract.{Fit}
+use Rattle.visits.specs.Contract.{Fit, tables}
 use Rattle.visits.proofs.Bounds as bounds
 use Rattle.visits.proofs.BeginCase.{children-fit, Left, all-left, next, next-fits, one-less, begin-done}
 use Rattle.visits.proofs.BeginLoop.{last-of, left-at, reach, short, Room, under}
@@ -21,38 +20,38 @@ use Rattle.visits.proofs.visit.+visit+visit_arguments+visit_begin+visit
 abbrev pub Inv-loop : lts.InvT-loop
 Inv-loop classes all rs at f r₀ facts₀ captured₀ arguments₀ work₀ count used₀ i₀ r facts captured arguments work used i =
     (i ≤ count) × (1 ≤ used)
-    × (length facts ≡ length facts₀) × (length captured ≡ length captured₀) × (length arguments ≡ length arguments₀) × (length work ≡ length work₀)
-    × ((p : Pass) (F C A w : List ℕ) (x : Fit classes all rs at f (raw p F C A w)) → Left x used₀ (count - i₀) (held r₀ facts₀ captured₀ arguments₀ work₀)
-    → Left x used (count - i) (held r facts captured arguments work))
+    × (tables facts captured arguments work ≡ tables facts₀ captured₀ arguments₀ work₀)
+    × ((p : Pass) (F C A w : List ℕ) (x : Fit (classes .now) (all .now) rs at f (raw p F C A w)) → Left x used₀ (count - i₀) (held r₀ (facts₀ .now) (captured₀ .now) (arguments₀ .now) (work₀ .now))
+    → Left x used (count - i) (held r (facts .now) (captured .now) (arguments .now) (work .now)))
 
 abbrev pub μ-loop : lts.MeasureT-loop
 μ-loop classes all rs at f r₀ facts₀ captured₀ arguments₀ work₀ count used₀ i₀ r facts captured arguments work used i = count - i
 
 module _ (t : ℕ) where
   abbrev begun : lts.At-loop (visit-begin-calls t) (visit-begin-at t) reads.Post Inv-loop μ-loop → lts.Start (visit-begin-calls t) (visit-begin-at t) reads.Post Inv-loop μ-loop
-  begun c = c .before .before .before .before .before .before .before .before .before .before .before .before .before .before .before .before .before .before
+  begun c = c .before .before .before .before .before .before .before .before .before .before .before
 
   abbrev entered : lts.At-loop (visit-begin-calls t) (visit-begin-at t) reads.Post Inv-loop μ-loop → lts.After-open-begin (visit-begin-calls t) (visit-begin-at t) reads.Post Inv-loop μ-loop
-  entered c = c .before .before .before .before .before
+  entered c = c .before
 
   abbrev counted : lts.At-loop (visit-begin-calls t) (visit-begin-at t) reads.Post Inv-loop μ-loop → lts.After-wide (visit-begin-calls t) (visit-begin-at t) reads.Post Inv-loop μ-loop
-  counted c = c .before .before .before .before .before .before .before .before .before
+  counted c = c .before .before .before .before .before .before .before
 
   abbrev turning : lts.After-visit-part (visit-begin-calls t) (visit-begin-at t) reads.Post Inv-loop μ-loop → lts.At-loop (visit-begin-calls t) (visit-begin-at t) reads.Post Inv-loop μ-loop
   turning c = c .before .before .before .before .before .before .before .before .before
 
   abbrev Given : lts.Start (visit-begin-calls t) (visit-begin-at t) reads.Post Inv-loop μ-loop → Pass → List ℕ → List ℕ → List ℕ → List ℕ → Type 0
-  Given o p F C A w = Fit (o .args .classes .now) (o .args .all .now) (o .args .rs .now) (o .args .at) (o .args .f) (raw p F C A w)
+  Given o p F C A w = Fit (o .args .classes .now .now) (o .args .all .now .now) (o .args .rs .now) (o .args .at) (o .args .f) (raw p F C A w)
 
   abbrev state : lts.At-loop (visit-begin-calls t) (visit-begin-at t) reads.Post Inv-loop μ-loop → Raw
-  state c = held (c .loop .r) (c .loop .facts) (c .loop .captured) (c .loop .arguments) (c .loop .work)
+  state c = held (c .loop .r) (c .loop .facts .now) (c .loop .captured .now) (c .loop .arguments .now) (c .loop .work .now)
 
   now : (c : lts.At-loop (visit-begin-calls t) (visit-begin-at t) reads.Post Inv-loop μ-loop) → let a = begun c .args in
-      (x : Given (begun c) (passIn (a .r .now)) (a .facts .now) (a .captured .now) (a .arguments .now) (a .work .now))
+      (x : Given (begun c) (passIn (a .r .now)) (a .facts .now .now) (a .captured .now .now) (a .arguments .now .now) (a .work .now .now))
       → Left x (c .loop .used) (counted c .wide .result - c .loop .i) (state c)
   now c x =
       let n = counted c .wide .ensures ∙ counted c .before .count .ensures in
-      c .loop .inv .6 _ _ _ _ _ x (all-left (begun c .pre .1 .1) n (entered c .open-begin .ensures) x)
+      c .loop .inv .3 _ _ _ _ _ x (all-left (begun c .pre .1 .1) n (entered c .open-begin .ensures) x)
 
   more : (c : lts.In-loop (visit-begin-calls t) (visit-begin-at t) reads.Post Inv-loop μ-loop) → 0 < counted (c .before) .wide .result - c .before .loop .i
   more c = omega (arith, c .loop-test .taken)
@@ -63,18 +62,18 @@ module _ (t : ℕ) where
   turn : {p : Pass} {F C A w : List ℕ} (c : lts.After-visit-part (visit-begin-calls t) (visit-begin-at t) reads.Post Inv-loop μ-loop) → let b = turning c in
       (x : Given (begun b) p F C A w) → Left x (b .loop .used) (counted b .wide .result - b .loop .i) (state b)
       → Left x (b .loop .used + c .visit-part .result) (counted b .wide .result - b .loop .i - 1)
-      (held (c .visit-part .last .1 .1 .1 .1 .1 .0) (c .visit-part .last .1 .1 .1 .1 .1 .1 .0) (c .visit-part .last .1 .1 .1 .1 .1 .1 .1 .0) (c .visit-part .last .1 .1 .1 .1 .1 .1 .1 .1 .0) (c .visit-part .last .1 .1 .1 .1 .1 .1 .1 .1 .1 .0))
+      (held (c .visit-part .last .1 .1 .1 .1 .1 .0) (c .visit-part .last .1 .1 .1 .1 .1 .1 .0 .now) (c .visit-part .last .1 .1 .1 .1 .1 .1 .1 .0 .now) (c .visit-part .last .1 .1 .1 .1 .1 .1 .1 .1 .0 .now) (c .visit-part .last .1 .1 .1 .1 .1 .1 .1 .1 .1 .0 .now))
   turn c x l =
       let b = turning c in
       let e = last-of (b .loop .i) (counted b .wide .result) (testing c .loop-test .taken) in
       let d = part (begun b .args .rs .now) (6 * b .loop .used) in
-      one-less (next l (more (testing c))) d e (c .before .before .before .before .before .before .part .ensures) (c .visit-part .ensures)
+      one-less (next l (more (testing c))) d e (c .before .before .before .before .before .before .part .ensures) (c .visit-part .ensures .0)
 
   room : (c : lts.In-loop (visit-begin-calls t) (visit-begin-at t) reads.Post Inv-loop μ-loop) → let b = c .before in let a = begun b .args in Room (a .rs .now) (a .at) (b .loop .used)
   room c = let x = begun (c .before) .pre .1 .0 in under (bounds.whole x) (short (now (c .before) x) (more c))
 
   pub count-requires : lts.Need-count-requires (visit-begin-calls t) (visit-begin-at t) reads.Post Inv-loop μ-loop
-  count-requires c κs = let x = c .before .before .before .before .before .before .before .pre .1 .0 in omega (arith, bounds.whole x, bounds.some x)
+  count-requires c κs = let x = c .before .before .pre .1 .0 in omega (arith, bounds.whole x, bounds.some x)
 
   pub wide-requires : lts.Need-wide-requires (visit-begin-calls t) (visit-begin-at t) reads.Post Inv-loop μ-loop
   wide-requires c κs = search needs
@@ -82,14 +81,20 @@ module _ (t : ℕ) where
   pub add-open-begin : lts.Need-add-open-begin (visit-begin-calls t) (visit-begin-at t) reads.Post Inv-loop μ-loop
   add-open-begin c = search needs
 
+  pub slice-aggregate-open-begin : lts.Need-slice-aggregate-open-begin (visit-begin-calls t) (visit-begin-at t) reads.Post Inv-loop μ-loop
+  slice-aggregate-open-begin c = search needs
+
+  pub slice-aggregate-open-begin-2 : lts.Need-slice-aggregate-open-begin-2 (visit-begin-calls t) (visit-begin-at t) reads.Post Inv-loop μ-loop
+  slice-aggregate-open-begin-2 c = search needs
+
   pub open-begin-requires : lts.Need-open-begin-requires (visit-begin-calls t) (visit-begin-at t) reads.Post Inv-loop μ-loop
   open-begin-requires c κs =
-      let o = c .before .before .before .before .before .before .before .before .before .before .before .before in
-      let w = c .before .before .before in
+      let o = c .before .before .before .before .before .before .before .before .before in
+      let w = c .before .before .before .before .before in
       children-fit {g = o .args .f} (o .pre .1 .1) (w .wide .ensures ∙ w .before .count .ensures) (o .pre .1 .0)
 
   pub loop-holds : lts.Need-loop-holds (visit-begin-calls t) (visit-begin-at t) reads.Post Inv-loop μ-loop
-  loop-holds c = (omega arith, omega arith, refl, refl, refl, refl, λ p F C A w x l. l)
+  loop-holds c = (omega arith, omega arith, refl, λ p F C A w x l. l)
 
   pub mul-start : lts.Need-mul-start (visit-begin-calls t) (visit-begin-at t) reads.Post Inv-loop μ-loop
   mul-start c = omega (arith, room c)
@@ -129,51 +134,31 @@ module _ (t : ℕ) where
 
   pub add-used : lts.Need-add-used (visit-begin-calls t) (visit-begin-at t) reads.Post Inv-loop μ-loop
   add-used c =
-      let v = c .before .before .before .before .before .before .before .before in
-      let x = begun (turning v) .pre .1 .0 in
-      omega (arith, reach (turn v x (now (turning v) x)), bounds.whole x)
+      let x = begun (turning c) .pre .1 .0 in
+      omega (arith, reach (turn c x (now (turning c) x)), bounds.whole x)
 
   pub add-i : lts.Need-add-i (visit-begin-calls t) (visit-begin-at t) reads.Post Inv-loop μ-loop
   add-i c =
-      let v = c .before .before .before .before .before .before .before .before in
-      omega (arith, testing v .loop-test .taken, counted (turning v) .wide)
+      omega (arith, testing c .loop-test .taken, counted (turning c) .wide)
 
   pub loop-less : lts.Need-loop-less (visit-begin-calls t) (visit-begin-at t) reads.Post Inv-loop μ-loop
   loop-less c =
-      let v = c .before .before .before .before .before .before .before .before in
-      omega (arith, testing v .loop-test .taken)
+      omega (arith, testing c .loop-test .taken)
 
   pub loop-again : lts.Need-loop-again (visit-begin-calls t) (visit-begin-at t) reads.Post Inv-loop μ-loop
   loop-again c =
-      let v = c .before .before .before .before .before .before .before .before in
-      let b = turning v in
-      let h = testing v .loop-test .taken in
-      let k = v .visit-part .kept .1 .1 .1 .1 .1 .1 in
+      let b = turning c in
+      let h = testing c .loop-test .taken in
       let e : counted b .wide .result - b .loop .i - 1 ≡ counted b .wide .result - (b .loop .i + 1) = omega arith in
       let j = b .loop .inv in (
         omega (arith, h),
         omega (arith, j .1),
-        k .0 ∙ j .2,
-        k .1 .0 ∙ j .3,
-        k .1 .1 .0 ∙ j .4,
-        k .1 .1 .1 .0 ∙ j .5,
-        λ p F C A w x l. left-at e (turn v x (j .6 p F C A w x l)),
+        c .visit-part .ensures .1 ∙ j .2,
+        λ p F C A w x l. left-at e (turn c x (j .3 p F C A w x l)),
       )
-
-  pub same-length : lts.Need-same-length (visit-begin-calls t) (visit-begin-at t) reads.Post Inv-loop μ-loop
-  same-length c = let b = c .before in b .loop .inv .2 ∙ entered b .open-begin .kept .1 .1 .1 .1 .1 .0
-
-  pub same-length-2 : lts.Need-same-length-2 (visit-begin-calls t) (visit-begin-at t) reads.Post Inv-loop μ-loop
-  same-length-2 c = c .before .loop .inv .3
-
-  pub same-length-3 : lts.Need-same-length-3 (visit-begin-calls t) (visit-begin-at t) reads.Post Inv-loop μ-loop
-  same-length-3 c = c .before .loop .inv .4
-
-  pub same-length-4 : lts.Need-same-length-4 (visit-begin-calls t) (visit-begin-at t) reads.Post Inv-loop μ-loop
-  same-length-4 c = let b = c .before in b .loop .inv .5 ∙ entered b .open-begin .kept .1 .1 .1 .1 .1 .1 .0
 
   pub returns : lts.Need-returns (visit-begin-calls t) (visit-begin-at t) reads.Post Inv-loop μ-loop
   returns c =
       let b = c .before in
       let e : counted b .wide .result - b .loop .i ≡ 0 = omega (arith, c .loop-test .left) in
-      begin-done (λ x. left-at e (now b x))
+      (begin-done (λ x. left-at e (now b x)), b .loop .inv .2)

@@ -10,10 +10,10 @@ use Rattle.visits.proofs.visit.+visit+visit_arguments+visit_begin+visit
 
 module _ (t : ℕ) where
   abbrev begun : lts.After-form (visit-body-calls t) (visit-body-at t) reads.Post → lts.Start (visit-body-calls t) (visit-body-at t) reads.Post
-  begun c = c .before .before .before .before .before .before .before .before
+  begun c = c .before .before .before
 
   pub form-requires : lts.Need-form-requires (visit-body-calls t) (visit-body-at t) reads.Post
-  form-requires c κs = let x = c .before .before .before .before .before .before .before .pre .1 in omega (arith, bounds.whole x, bounds.some x)
+  form-requires c κs = let x = c .before .before .pre .1 in omega (arith, bounds.whole x, bounds.some x)
 
   pub visit-lambda-function-requires : lts.Need-visit-lambda-function-requires (visit-body-calls t) (visit-body-at t) reads.Post
   visit-lambda-function-requires c κs =
@@ -22,35 +22,11 @@ module _ (t : ℕ) where
       let o = begun f in
       (omega (arith, o .pre .0), (o .pre .1, sym (f .form .ensures) ∙ i .if1 .taken))
 
-  pub same-length : lts.Need-same-length (visit-body-calls t) (visit-body-at t) reads.Post
-  same-length c = search needs
-
-  pub same-length-2 : lts.Need-same-length-2 (visit-body-calls t) (visit-body-at t) reads.Post
-  same-length-2 c = search needs
-
-  pub same-length-3 : lts.Need-same-length-3 (visit-body-calls t) (visit-body-at t) reads.Post
-  same-length-3 c = search needs
-
-  pub same-length-4 : lts.Need-same-length-4 (visit-body-calls t) (visit-body-at t) reads.Post
-  same-length-4 c = search needs
-
   pub returns : lts.Need-returns (visit-body-calls t) (visit-body-at t) reads.Post
   returns c = search needs
 
   pub visit-part-requires : lts.Need-visit-part-requires (visit-body-calls t) (visit-body-at t) reads.Post
   visit-part-requires c κs = let o = begun (c .before .before .before .before .before .before) in (omega (arith, o .pre .0), o .pre .1)
-
-  pub same-length-5 : lts.Need-same-length-5 (visit-body-calls t) (visit-body-at t) reads.Post
-  same-length-5 c = search needs
-
-  pub same-length-6 : lts.Need-same-length-6 (visit-body-calls t) (visit-body-at t) reads.Post
-  same-length-6 c = search needs
-
-  pub same-length-7 : lts.Need-same-length-7 (visit-body-calls t) (visit-body-at t) reads.Post
-  same-length-7 c = search needs
-
-  pub same-length-8 : lts.Need-same-length-8 (visit-body-calls t) (visit-body-at t) reads.Post
-  same-length-8 c = search needs
 
   pub returns-2 : lts.Need-returns-2 (visit-body-calls t) (visit-body-at t) reads.Post
   returns-2 c = search needs

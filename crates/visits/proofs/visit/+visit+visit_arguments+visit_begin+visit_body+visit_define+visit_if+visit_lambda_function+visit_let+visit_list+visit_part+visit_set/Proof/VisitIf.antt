@@ -21,16 +21,16 @@ module _ (t : ℕ) where
   -- the places that are looked back to, each from the one after it
 
   abbrev entry : lts.After-same-tail (visit-if-calls t) (visit-if-at t) reads.Post → lts.Start (visit-if-calls t) (visit-if-at t) reads.Post
-  entry c = c .before .before .before .before .before .before .before .before
+  entry c = c .before .before
 
   abbrev flagged : lts.After-visit-part (visit-if-calls t) (visit-if-at t) reads.Post → lts.After-not-tail (visit-if-calls t) (visit-if-at t) reads.Post
   flagged c = c .before .before .before .before .before .before
 
   abbrev tested : lts.After-visit-part2 (visit-if-calls t) (visit-if-at t) reads.Post → lts.After-visit-part (visit-if-calls t) (visit-if-at t) reads.Post
-  tested c = c .before .before .before .before .before .before .before .before .before .before .before .before .before .before .before
+  tested c = c .before .before .before .before .before .before .before
 
   abbrev chosen : lts.After-visit-part3 (visit-if-calls t) (visit-if-at t) reads.Post → lts.After-visit-part2 (visit-if-calls t) (visit-if-at t) reads.Post
-  chosen c = c .before .before .before .before .before .before .before .before .before .before .before .before .before .before .before
+  chosen c = c .before .before .before .before .before .before .before
 
   abbrev start : lts.After-visit-part (visit-if-calls t) (visit-if-at t) reads.Post → lts.Start (visit-if-calls t) (visit-if-at t) reads.Post
   start c = entry (flagged c .before .before)
@@ -47,20 +47,20 @@ module _ (t : ℕ) where
   first c = if-long (c .pre .1 .1) (c .pre .1 .0)
 
   second : (c : lts.After-visit-part (visit-if-calls t) (visit-if-at t) reads.Post) → c .visit-part .result + 3 ≤ size (start c .pre .1 .0 .t)
-  second c = let o = start c in then-long (o .pre .1 .1) (test (flagged c)) (part (o .args .rs .now) 6) (c .visit-part .ensures) (o .pre .1 .0)
+  second c = let o = start c in then-long (o .pre .1 .1) (test (flagged c)) (part (o .args .rs .now) 6) (c .visit-part .ensures .0) (o .pre .1 .0)
 
   third : (c : lts.After-visit-part2 (visit-if-calls t) (visit-if-at t) reads.Post) → tested c .visit-part .result + c .visit-part2 .result + 2 ≤ size (start (tested c) .pre .1 .0 .t)
   third c = let a = tested c in
       let o = start a in
       let rs = o .args .rs .now in
-      else-long (o .pre .1 .1) (test (flagged a)) (branch (flagged a .before .before)) (part rs 6) (a .visit-part .ensures) (part rs (6 * (1 + a .visit-part .result)))
-      (c .visit-part2 .ensures) (o .pre .1 .0)
+      else-long (o .pre .1 .1) (test (flagged a)) (branch (flagged a .before .before)) (part rs 6) (a .visit-part .ensures .0) (part rs (6 * (1 + a .visit-part .result)))
+      (c .visit-part2 .ensures .0) (o .pre .1 .0)
 
   done : (c : lts.After-visit-part3 (visit-if-calls t) (visit-if-at t) reads.Post)
       → let o = start (tested (chosen c)) .args in
-      Done (o .classes .now) (o .all .now) (o .rs .now) (o .at) (o .f) (held (o .r .now) (o .facts .now) (o .captured .now) (o .arguments .now) (o .work .now))
+      Done (o .classes .now .now) (o .all .now .now) (o .rs .now) (o .at) (o .f) (held (o .r .now) (o .facts .now .now) (o .captured .now .now) (o .arguments .now .now) (o .work .now .now))
       (1 + tested (chosen c) .visit-part .result + chosen c .visit-part2 .result + c .visit-part3 .result)
-      (held (c .visit-part3 .last .1 .1 .1 .1 .1 .0) (c .visit-part3 .last .1 .1 .1 .1 .1 .1 .0) (c .visit-part3 .last .1 .1 .1 .1 .1 .1 .1 .0) (c .visit-part3 .last .1 .1 .1 .1 .1 .1 .1 .1 .0) (c .visit-part3 .last .1 .1 .1 .1 .1 .1 .1 .1 .1 .0))
+      (held (c .visit-part3 .last .1 .1 .1 .1 .1 .0) (c .visit-part3 .last .1 .1 .1 .1 .1 .1 .0 .now) (c .visit-part3 .last .1 .1 .1 .1 .1 .1 .1 .0 .now) (c .visit-part3 .last .1 .1 .1 .1 .1 .1 .1 .1 .0 .now) (c .visit-part3 .last .1 .1 .1 .1 .1 .1 .1 .1 .1 .0 .now))
   done c = let d = chosen c in
       let a = tested d in
       let o = start a in
@@ -68,7 +68,7 @@ module _ (t : ℕ) where
       let k = branch (flagged a .before .before) in
       let i = 1 + a .visit-part .result in
       let j = i + d .visit-part2 .result in
-      if-done (o .pre .1 .1) (test (flagged a)) k (part rs 6) (a .visit-part .ensures) (part rs (6 * i)) (d .visit-part2 .ensures) k (part rs (6 * j)) (c .visit-part3 .ensures)
+      if-done (o .pre .1 .1) (test (flagged a)) k (part rs 6) (a .visit-part .ensures .0) (part rs (6 * i)) (d .visit-part2 .ensures .0) k (part rs (6 * j)) (c .visit-part3 .ensures .0)
 
   pub same-tail-requires : lts.Need-same-tail-requires (visit-if-calls t) (visit-if-at t) reads.Post
   same-tail-requires c κs = search needs
@@ -98,59 +98,59 @@ module _ (t : ℕ) where
       )
 
   pub add-i : lts.Need-add-i (visit-if-calls t) (visit-if-at t) reads.Post
-  add-i c = let a = c .before .before .before .before .before .before .before .before in omega (arith, second a, bounds.whole (start a .pre .1 .0))
+  add-i c = omega (arith, second c, bounds.whole (start c .pre .1 .0))
 
   pub mul-start : lts.Need-mul-start (visit-if-calls t) (visit-if-at t) reads.Post
-  mul-start c = let a = c .before .before .before .before .before .before .before .before in omega (arith, second a, bounds.whole (start a .pre .1 .0))
+  mul-start c = omega (arith, second c, bounds.whole (start c .pre .1 .0))
 
   pub mul-visit-part : lts.Need-mul-visit-part (visit-if-calls t) (visit-if-at t) reads.Post
-  mul-visit-part c = let a = c .before .before .before .before .before .before .before .before in omega (arith, second a, bounds.whole (start a .pre .1 .0))
+  mul-visit-part c = omega (arith, second c, bounds.whole (start c .pre .1 .0))
 
   pub sub-visit-part-2 : lts.Need-sub-visit-part-2 (visit-if-calls t) (visit-if-at t) reads.Post
-  sub-visit-part-2 c = let a = c .before .before .before .before .before .before .before .before in omega (arith, second a, bounds.whole (start a .pre .1 .0))
+  sub-visit-part-2 c = omega (arith, second c, bounds.whole (start c .pre .1 .0))
 
   pub part-visit-part-start-2 : lts.Need-part-visit-part-start-2 (visit-if-calls t) (visit-if-at t) reads.Post
-  part-visit-part-start-2 c = let a = c .before .before .before .before .before .before .before .before in omega (arith, second a, bounds.whole (start a .pre .1 .0))
+  part-visit-part-start-2 c = omega (arith, second c, bounds.whole (start c .pre .1 .0))
 
   pub part-visit-part-end-2 : lts.Need-part-visit-part-end-2 (visit-if-calls t) (visit-if-at t) reads.Post
   part-visit-part-end-2 c = search needs
 
   pub add-visit-part-2 : lts.Need-add-visit-part-2 (visit-if-calls t) (visit-if-at t) reads.Post
-  add-visit-part-2 c = let a = c .before .before .before .before .before .before .before .before .before in omega (arith, second a, bounds.whole (start a .pre .1 .0))
+  add-visit-part-2 c = let a = c .before in omega (arith, second a, bounds.whole (start a .pre .1 .0))
 
   pub visit-part-requires-2 : lts.Need-visit-part-requires-2 (visit-if-calls t) (visit-if-at t) reads.Post
-  visit-part-requires-2 c κs = let a = c .before .before .before .before .before .before .before .before .before .before .before .before .before .before in
+  visit-part-requires-2 c κs = let a = c .before .before .before .before .before .before in
       let o = start a in
       let rs = o .args .rs .now in
       let x = o .pre .1 .0 in
       let i = 1 + a .visit-part .result in (
         omega (arith, o .pre .0, second a, bounds.whole x, part-length rs (6 * i)),
-        then-fits (o .pre .1 .1) (test (flagged a)) (branch (flagged a .before .before)) (part rs 6) (a .visit-part .ensures) (part rs (6 * i)) x,
+        then-fits (o .pre .1 .1) (test (flagged a)) (branch (flagged a .before .before)) (part rs 6) (a .visit-part .ensures .0) (part rs (6 * i)) x,
       )
 
   pub add-j : lts.Need-add-j (visit-if-calls t) (visit-if-at t) reads.Post
-  add-j c = let a = c .before .before .before .before .before .before .before .before in omega (arith, third a, bounds.whole (start (tested a) .pre .1 .0))
+  add-j c = omega (arith, third c, bounds.whole (start (tested c) .pre .1 .0))
 
   pub mul-next : lts.Need-mul-next (visit-if-calls t) (visit-if-at t) reads.Post
-  mul-next c = let a = c .before .before .before .before .before .before .before .before in omega (arith, third a, bounds.whole (start (tested a) .pre .1 .0))
+  mul-next c = omega (arith, third c, bounds.whole (start (tested c) .pre .1 .0))
 
   pub mul-visit-part-2 : lts.Need-mul-visit-part-2 (visit-if-calls t) (visit-if-at t) reads.Post
-  mul-visit-part-2 c = let a = c .before .before .before .before .before .before .before .before in omega (arith, third a, bounds.whole (start (tested a) .pre .1 .0))
+  mul-visit-part-2 c = omega (arith, third c, bounds.whole (start (tested c) .pre .1 .0))
 
   pub sub-visit-part-3 : lts.Need-sub-visit-part-3 (visit-if-calls t) (visit-if-at t) reads.Post
-  sub-visit-part-3 c = let a = c .before .before .before .before .before .before .before .before in omega (arith, third a, bounds.whole (start (tested a) .pre .1 .0))
+  sub-visit-part-3 c = omega (arith, third c, bounds.whole (start (tested c) .pre .1 .0))
 
   pub part-visit-part-start-3 : lts.Need-part-visit-part-start-3 (visit-if-calls t) (visit-if-at t) reads.Post
-  part-visit-part-start-3 c = let a = c .before .before .before .before .before .before .before .before in omega (arith, third a, bounds.whole (start (tested a) .pre .1 .0))
+  part-visit-part-start-3 c = omega (arith, third c, bounds.whole (start (tested c) .pre .1 .0))
 
   pub part-visit-part-end-3 : lts.Need-part-visit-part-end-3 (visit-if-calls t) (visit-if-at t) reads.Post
   part-visit-part-end-3 c = search needs
 
   pub add-visit-part-3 : lts.Need-add-visit-part-3 (visit-if-calls t) (visit-if-at t) reads.Post
-  add-visit-part-3 c = let a = c .before .before .before .before .before .before .before .before .before in omega (arith, third a, bounds.whole (start (tested a) .pre .1 .0))
+  add-visit-part-3 c = let a = c .before in omega (arith, third a, bounds.whole (start (tested a) .pre .1 .0))
 
   pub visit-part-requires-3 : lts.Need-visit-part-requires-3 (visit-if-calls t) (visit-if-at t) reads.Post
-  visit-part-requires-3 c κs = let d = c .before .before .before .before .before .before .before .before .before .before .before .before .before .before in
+  visit-part-requires-3 c κs = let d = c .before .before .before .before .before .before in
       let a = tested d in
       let o = start a in
       let rs = o .args .rs .now in
@@ -159,23 +159,13 @@ module _ (t : ℕ) where
       let i = 1 + a .visit-part .result in
       let j = i + d .visit-part2 .result in (
         omega (arith, o .pre .0, third d, bounds.whole x, part-length rs (6 * j)),
-        else-fits (o .pre .1 .1) (test (flagged a)) k (part rs 6) (a .visit-part .ensures) (part rs (6 * i)) (d .visit-part2 .ensures) k (part rs (6 * j)) x,
+        else-fits (o .pre .1 .1) (test (flagged a)) k (part rs 6) (a .visit-part .ensures .0) (part rs (6 * i)) (d .visit-part2 .ensures .0) k (part rs (6 * j)) x,
       )
 
   pub add-result : lts.Need-add-result (visit-if-calls t) (visit-if-at t) reads.Post
-  add-result c = let e = c .before .before .before .before .before .before .before .before in omega (arith, bounds.used (start (tested (chosen e)) .pre .1 .0) (done e))
-
-  pub same-length : lts.Need-same-length (visit-if-calls t) (visit-if-at t) reads.Post
-  same-length c = let e = c .before .before .before .before .before .before .before .before in let d = chosen e in e .visit-part3 .kept .1 .1 .1 .1 .1 .1 .0 ∙ d .visit-part2 .kept .1 .1 .1 .1 .1 .1 .0 ∙ tested d .visit-part .kept .1 .1 .1 .1 .1 .1 .0
-
-  pub same-length-2 : lts.Need-same-length-2 (visit-if-calls t) (visit-if-at t) reads.Post
-  same-length-2 c = let e = c .before .before .before .before .before .before .before .before in let d = chosen e in e .visit-part3 .kept .1 .1 .1 .1 .1 .1 .1 .0 ∙ d .visit-part2 .kept .1 .1 .1 .1 .1 .1 .1 .0 ∙ tested d .visit-part .kept .1 .1 .1 .1 .1 .1 .1 .0
-
-  pub same-length-3 : lts.Need-same-length-3 (visit-if-calls t) (visit-if-at t) reads.Post
-  same-length-3 c = let e = c .before .before .before .before .before .before .before .before in let d = chosen e in e .visit-part3 .kept .1 .1 .1 .1 .1 .1 .1 .1 .0 ∙ d .visit-part2 .kept .1 .1 .1 .1 .1 .1 .1 .1 .0 ∙ tested d .visit-part .kept .1 .1 .1 .1 .1 .1 .1 .1 .0
-
-  pub same-length-4 : lts.Need-same-length-4 (visit-if-calls t) (visit-if-at t) reads.Post
-  same-length-4 c = let e = c .before .before .before .before .before .before .before .before in let d = chosen e in e .visit-part3 .kept .1 .1 .1 .1 .1 .1 .1 .1 .1 .0 ∙ d .visit-part2 .kept .1 .1 .1 .1 .1 .1 .1 .1 .1 .0 ∙ tested d .visit-part .kept .1 .1 .1 .1 .1 .1 .1 .1 .1 .0
+  add-result c = omega (arith, bounds.used (start (tested (chosen c)) .pre .1 .0) (done c))
 
   pub returns : lts.Need-returns (visit-if-calls t) (visit-if-at t) reads.Post
-  returns c = done (c .before .before .before .before .before .before .before .before)
+  returns c =
+      let d = chosen c in
+      (done c, c .visit-part3 .ensures .1 ∙ d .visit-part2 .ensures .1 ∙ tested d .visit-part .ensures .1)

@@ -20,7 +20,7 @@ module _ (t : ℕ) where
   -- the places that are looked back to, each from the one after it
 
   abbrev entry : lts.After-wide (visit-let-calls t) (visit-let-at t) reads.Post → lts.Start (visit-let-calls t) (visit-let-at t) reads.Post
-  entry c = c .before .before .before .before .before .before .before .before .before
+  entry c = c .before .before .before .before
 
   abbrev counted : lts.After-depth (visit-let-calls t) (visit-let-at t) reads.Post → lts.After-wide (visit-let-calls t) (visit-let-at t) reads.Post
   counted c = c .before .before
@@ -38,16 +38,16 @@ module _ (t : ℕ) where
   cleared c = c .before .before .before .before .before .before .before
 
   abbrev visited : lts.After-set-context2 (visit-let-calls t) (visit-let-at t) reads.Post → lts.After-visit-arguments (visit-let-calls t) (visit-let-at t) reads.Post
-  visited c = c .before .before .before .before .before .before .before .before .before .before
+  visited c = c .before .before
 
   abbrev restored : lts.After-open-let (visit-let-calls t) (visit-let-at t) reads.Post → lts.After-set-context2 (visit-let-calls t) (visit-let-at t) reads.Post
-  restored c = c .before .before .before .before .before .before
+  restored c = c .before .before .before .before .before .before .before .before .before
 
   abbrev entered : lts.After-visit-part (visit-let-calls t) (visit-let-at t) reads.Post → lts.After-open-let (visit-let-calls t) (visit-let-at t) reads.Post
-  entered c = c .before .before .before .before .before .before .before .before .before .before .before
+  entered c = c .before .before .before .before .before .before .before
 
   abbrev inside : lts.After-close-let (visit-let-calls t) (visit-let-at t) reads.Post → lts.After-visit-part (visit-let-calls t) (visit-let-at t) reads.Post
-  inside c = c .before .before .before .before .before .before .before .before .before .before .before .before .before
+  inside c = c .before .before .before .before .before .before
 
   abbrev named : lts.After-set-context (visit-let-calls t) (visit-let-at t) reads.Post → lts.After-wide (visit-let-calls t) (visit-let-at t) reads.Post
   named c = counted (deep (noted (handed c)))
@@ -58,7 +58,7 @@ module _ (t : ℕ) where
   begins : (c : lts.After-set-context (visit-let-calls t) (visit-let-at t) reads.Post)
       → let o = start c .args in
       let k = named c .wide .result in
-      calls.Begins (o .all .now) (o .rs .now) (take (length (o .rs .now) - (6 + 6 * k)) (drop (6 + 6 * k) (o .rs .now))) (o .at)
+      calls.Begins (o .all .now .now) (o .rs .now) (take (length (o .rs .now) - (6 + 6 * k)) (drop (6 + 6 * k) (o .rs .now))) (o .at)
       (named c .before .count .result) k (o .f) (handed c .parts .result .first) (passIn (o .r .now)) (passIn (c .set-context .last .0))
   begins c = record {
     form = start c .pre .1 .1;
@@ -78,18 +78,18 @@ module _ (t : ℕ) where
       let b = cleared a in
       calls.put-back (passIn (start b .args .r .now)) (passIn (a .visit-arguments .last .1 .1 .1 .1 .1 .1 .0)) (noted (handed b) .context .ensures) (c .set-context2 .ensures)
 
-  names-span : (c : lts.After-wide (visit-let-calls t) (visit-let-at t) reads.Post) → let o = entry c .args in Span (o .all .now) (o .rs .now) (o .at) (c .wide .result + 2)
+  names-span : (c : lts.After-wide (visit-let-calls t) (visit-let-at t) reads.Post) → let o = entry c .args in Span (o .all .now .now) (o .rs .now) (o .at) (c .wide .result + 2)
   names-span c = calls.names-span (entry c .pre .1 .1) (c .wide .ensures ∙ c .before .count .ensures) (entry c .pre .1 .0)
 
   body-span : (c : lts.After-visit-arguments (visit-let-calls t) (visit-let-at t) reads.Post)
       → let o = start (cleared c) .args in
-      Span (o .all .now) (o .rs .now) (o .at) (named (cleared c) .wide .result + c .visit-arguments .result + 2)
-  body-span c = calls.body-span (begins (cleared c)) (c .visit-arguments .ensures) (start (cleared c) .pre .1 .0)
+      Span (o .all .now .now) (o .rs .now) (o .at) (named (cleared c) .wide .result + c .visit-arguments .result + 2)
+  body-span c = calls.body-span (begins (cleared c)) (c .visit-arguments .ensures .0) (start (cleared c) .pre .1 .0)
 
   -- the table of the pass's numbers keeps its length
 
   pub count-requires : lts.Need-count-requires (visit-let-calls t) (visit-let-at t) reads.Post
-  count-requires c κs = root (c .before .before .before .before .before .before .before .pre .1 .0 .stands) .inside
+  count-requires c κs = root (c .before .before .pre .1 .0 .stands) .inside
 
   pub wide-requires : lts.Need-wide-requires (visit-let-calls t) (visit-let-at t) reads.Post
   wide-requires c κs = search needs
@@ -147,112 +147,100 @@ module _ (t : ℕ) where
   pub set-context-requires-2 : lts.Need-set-context-requires-2 (visit-let-calls t) (visit-let-at t) reads.Post
   set-context-requires-2 c κs = search needs
 
+  pub slice-aggregate-lent : lts.Need-slice-aggregate-lent (visit-let-calls t) (visit-let-at t) reads.Post
+  slice-aggregate-lent c = search needs
+
+  pub slice-aggregate-passed : lts.Need-slice-aggregate-passed (visit-let-calls t) (visit-let-at t) reads.Post
+  slice-aggregate-passed c = search needs
+
+  pub slice-aggregate-open-let : lts.Need-slice-aggregate-open-let (visit-let-calls t) (visit-let-at t) reads.Post
+  slice-aggregate-open-let c = search needs
+
+  pub slice-aggregate-open-let-2 : lts.Need-slice-aggregate-open-let-2 (visit-let-calls t) (visit-let-at t) reads.Post
+  slice-aggregate-open-let-2 c = search needs
+
   pub open-let-requires : lts.Need-open-let-requires (visit-let-calls t) (visit-let-at t) reads.Post
-  open-let-requires c κs = let d = c .before .before .before .before .before in
+  open-let-requires c κs = let d = c .before .before .before .before .before .before .before .before in
       let a = visited d in
-      calls.names (begins (cleared a)) (a .visit-arguments .ensures) (context-back d) (start (cleared a) .pre .1 .0)
+      calls.names (begins (cleared a)) (a .visit-arguments .ensures .0) (context-back d) (start (cleared a) .pre .1 .0)
 
   pub add-i : lts.Need-add-i (visit-let-calls t) (visit-let-at t) reads.Post
-  add-i c = omega (arith, body-span (c .before .before .before .before .before .before .before .before .before .before .before .before .before .before .before .before .before .before .before .before))
+  add-i c = omega (arith, body-span (c .before .before .before .before .before .before .before .before .before .before .before))
 
   pub add-i-2 : lts.Need-add-i-2 (visit-let-calls t) (visit-let-at t) reads.Post
-  add-i-2 c = omega (arith, body-span (c .before .before .before .before .before .before .before .before .before .before .before .before .before .before .before .before .before .before .before .before))
+  add-i-2 c = omega (arith, body-span (c .before .before .before .before .before .before .before .before .before .before .before))
 
   pub mul-next : lts.Need-mul-next (visit-let-calls t) (visit-let-at t) reads.Post
-  mul-next c = omega (arith, body-span (c .before .before .before .before .before .before .before .before .before .before .before .before .before .before .before .before .before .before .before .before))
+  mul-next c = omega (arith, body-span (c .before .before .before .before .before .before .before .before .before .before .before))
 
   pub mul-visit-part : lts.Need-mul-visit-part (visit-let-calls t) (visit-let-at t) reads.Post
-  mul-visit-part c = omega (arith, body-span (c .before .before .before .before .before .before .before .before .before .before .before .before .before .before .before .before .before .before .before .before))
+  mul-visit-part c = omega (arith, body-span (c .before .before .before .before .before .before .before .before .before .before .before))
 
   pub sub-visit-part : lts.Need-sub-visit-part (visit-let-calls t) (visit-let-at t) reads.Post
-  sub-visit-part c = omega (arith, body-span (c .before .before .before .before .before .before .before .before .before .before .before .before .before .before .before .before .before .before .before .before))
+  sub-visit-part c = omega (arith, body-span (c .before .before .before .before .before .before .before .before .before .before .before))
 
   pub part-visit-part-start : lts.Need-part-visit-part-start (visit-let-calls t) (visit-let-at t) reads.Post
-  part-visit-part-start c = omega (arith, body-span (c .before .before .before .before .before .before .before .before .before .before .before .before .before .before .before .before .before .before .before .before))
+  part-visit-part-start c = omega (arith, body-span (c .before .before .before .before .before .before .before .before .before .before .before))
 
   pub part-visit-part-end : lts.Need-part-visit-part-end (visit-let-calls t) (visit-let-at t) reads.Post
   part-visit-part-end c = search needs
 
   pub add-visit-part : lts.Need-add-visit-part (visit-let-calls t) (visit-let-at t) reads.Post
-  add-visit-part c = omega (arith, body-span (c .before .before .before .before .before .before .before .before .before .before .before .before .before .before .before .before .before .before .before .before .before))
+  add-visit-part c = omega (arith, body-span (c .before .before .before .before .before .before .before .before .before .before .before .before))
 
   pub visit-part-requires : lts.Need-visit-part-requires (visit-let-calls t) (visit-let-at t) reads.Post
-  visit-part-requires c κs = let n = c .before .before .before .before .before .before .before .before .before .before in
+  visit-part-requires c κs = let n = c .before .before .before .before .before .before in
       let d = restored n in
       let a = visited d in
       let b = cleared a in
       let rs = start b .args .rs .now in
       let i = 1 + named b .wide .result + a .visit-arguments .result in (
         omega (arith, start b .pre .0, body-span a, part-length rs (6 * i)),
-        calls.body (begins b) (a .visit-arguments .ensures) (context-back d) (n .open-let .ensures) (handed b .parts .ensures .1) (part rs (6 * i))
+        calls.body (begins b) (a .visit-arguments .ensures .0) (context-back d) (n .open-let .ensures) (handed b .parts .ensures .1) (part rs (6 * i))
             (start b .pre .1 .0),
       )
 
+  pub slice-aggregate-close-let : lts.Need-slice-aggregate-close-let (visit-let-calls t) (visit-let-at t) reads.Post
+  slice-aggregate-close-let c = search needs
+
+  pub slice-aggregate-close-let-2 : lts.Need-slice-aggregate-close-let-2 (visit-let-calls t) (visit-let-at t) reads.Post
+  slice-aggregate-close-let-2 c = search needs
+
+  pub slice-aggregate-close-let-3 : lts.Need-slice-aggregate-close-let-3 (visit-let-calls t) (visit-let-at t) reads.Post
+  slice-aggregate-close-let-3 c = search needs
+
   pub close-let-requires : lts.Need-close-let-requires (visit-let-calls t) (visit-let-at t) reads.Post
-  close-let-requires c κs = let v = c .before .before .before .before .before .before .before .before .before .before .before .before in
+  close-let-requires c κs = let v = c .before .before .before .before .before in
       let n = entered v in
       let d = restored n in
       let a = visited d in
       let b = cleared a in
       let rs = start b .args .rs .now in
       let i = 1 + named b .wide .result + a .visit-arguments .result in
-      calls.ends (begins b) (a .visit-arguments .ensures) (context-back d) (n .open-let .ensures) (handed b .parts .ensures .1) (part rs (6 * i))
-      (v .visit-part .ensures) (start b .pre .1 .0)
+      calls.ends (begins b) (a .visit-arguments .ensures .0) (context-back d) (n .open-let .ensures) (handed b .parts .ensures .1) (part rs (6 * i))
+      (v .visit-part .ensures .0) (start b .pre .1 .0)
 
   pub add-result : lts.Need-add-result (visit-let-calls t) (visit-let-at t) reads.Post
-  add-result c = let v = c .before .before .before .before .before .before .before .before .before .before .before .before .before .before .before .before .before .before .before in
+  add-result c = let v = c .before .before .before .before .before .before in
       let n = entered v in
       let d = restored n in
       let a = visited d in
       let b = cleared a in
       let rs = start b .args .rs .now in
       let i = 1 + named b .wide .result + a .visit-arguments .result in
-      let x = calls.body (begins b) (a .visit-arguments .ensures) (context-back d) (n .open-let .ensures) (handed b .parts .ensures .1) (part rs (6 * i))
+      let x = calls.body (begins b) (a .visit-arguments .ensures .0) (context-back d) (n .open-let .ensures) (handed b .parts .ensures .1) (part rs (6 * i))
       (start b .pre .1 .0) in
-      omega (arith, used x (v .visit-part .ensures))
-
-  pub same-length : lts.Need-same-length (visit-let-calls t) (visit-let-at t) reads.Post
-  same-length c = let l = c .before .before .before .before .before .before in
-      let v = inside l in
-      let n = entered v in
-      let a = visited (restored n) in
-      l .close-let .kept .1 .1 .1 .1 .1 .1 .1 .0
-      ∙ v .visit-part .kept .1 .1 .1 .1 .1 .1 .0
-      ∙ n .open-let .kept .1 .1 .1 .1 .1 .1 .0
-      ∙ a .visit-arguments .kept .1 .1 .1 .1 .1 .1 .1 .0
-
-  pub same-length-2 : lts.Need-same-length-2 (visit-let-calls t) (visit-let-at t) reads.Post
-  same-length-2 c = let v = c .before .before .before .before .before .before .before .before .before .before .before .before .before .before .before .before .before .before .before in
-      let a = visited (restored (entered v)) in
-      v .visit-part .kept .1 .1 .1 .1 .1 .1 .1 .0
-      ∙ a .visit-arguments .kept .1 .1 .1 .1 .1 .1 .1 .1 .0
-
-  pub same-length-3 : lts.Need-same-length-3 (visit-let-calls t) (visit-let-at t) reads.Post
-  same-length-3 c = let l = c .before .before .before .before .before .before in
-      let v = inside l in
-      let a = visited (restored (entered v)) in
-      l .close-let .kept .1 .1 .1 .1 .1 .1 .1 .1 .0
-      ∙ v .visit-part .kept .1 .1 .1 .1 .1 .1 .1 .1 .0
-      ∙ a .visit-arguments .kept .1 .1 .1 .1 .1 .1 .1 .1 .1 .0
-
-  pub same-length-4 : lts.Need-same-length-4 (visit-let-calls t) (visit-let-at t) reads.Post
-  same-length-4 c = let l = c .before .before .before .before .before .before in
-      let v = inside l in
-      let n = entered v in
-      let a = visited (restored n) in
-      l .close-let .kept .1 .1 .1 .1 .1 .1 .1 .1 .1 .0
-      ∙ v .visit-part .kept .1 .1 .1 .1 .1 .1 .1 .1 .1 .0
-      ∙ n .open-let .kept .1 .1 .1 .1 .1 .1 .1 .1 .1 .0
-      ∙ a .visit-arguments .kept .1 .1 .1 .1 .1 .1 .1 .1 .1 .1 .0
+      omega (arith, used x (v .visit-part .ensures .0))
 
   pub returns : lts.Need-returns (visit-let-calls t) (visit-let-at t) reads.Post
-  returns c = let l = c .before .before .before .before .before .before in
-      let v = inside l in
+  returns c = let v = inside c in
       let n = entered v in
       let d = restored n in
       let a = visited d in
       let b = cleared a in
       let rs = start b .args .rs .now in
       let i = 1 + named b .wide .result + a .visit-arguments .result in
-      calls.done (begins b) (a .visit-arguments .ensures) (context-back d) (n .open-let .ensures) (handed b .parts .ensures .1) (part rs (6 * i))
-      (v .visit-part .ensures) (deep (noted (handed b)) .depth .ensures) (l .close-let .ensures)
+      let done =
+      calls.done (begins b) (a .visit-arguments .ensures .0) (context-back d) (n .open-let .ensures) (handed b .parts .ensures .1) (part rs (6 * i))
+      (v .visit-part .ensures .0) (deep (noted (handed b)) .depth .ensures) (c .close-let .ensures) in
+      (done, v .visit-part .ensures .1 ∙ a .visit-arguments .ensures .1)

@@ -21,13 +21,13 @@ module _ (t : ℕ) where
   -- the places that are looked back to, each from the one after it
 
   abbrev entry : lts.After-wide (visit-list-calls t) (visit-list-at t) reads.Post → lts.Start (visit-list-calls t) (visit-list-at t) reads.Post
-  entry c = c .before .before .before .before .before .before .before .before .before
+  entry c = c .before .before .before .before
 
   abbrev counted : lts.After-extent-at (visit-list-calls t) (visit-list-at t) reads.Post → lts.After-wide (visit-list-calls t) (visit-list-at t) reads.Post
-  counted c = c .before
+  counted c = c .before .before
 
   abbrev measured : lts.After-form (visit-list-calls t) (visit-list-at t) reads.Post → lts.After-extent-at (visit-list-calls t) (visit-list-at t) reads.Post
-  measured c = c .before
+  measured c = c .before .before
 
   abbrev formed : lts.After-argument (visit-list-calls t) (visit-list-at t) reads.Post → lts.After-form (visit-list-calls t) (visit-list-at t) reads.Post
   formed c = c .before .before
@@ -36,18 +36,18 @@ module _ (t : ℕ) where
   flagged c = c .before .before .before .before .before .before
 
   abbrev visited : lts.After-head (visit-list-calls t) (visit-list-at t) reads.Post → lts.After-visit-arguments (visit-list-calls t) (visit-list-at t) reads.Post
-  visited c = c .before .before .before .before .before .before .before .before .before .before .before
+  visited c = c .before .before .before
 
   abbrev headed : lts.After-visit-part (visit-list-calls t) (visit-list-at t) reads.Post → lts.After-head (visit-list-calls t) (visit-list-at t) reads.Post
   headed c = c .before .before .before .before .before .before
 
   abbrev inside : lts.After-close-call (visit-list-calls t) (visit-list-at t) reads.Post → lts.After-visit-part (visit-list-calls t) (visit-list-at t) reads.Post
-  inside c = c .before .before .before .before .before .before .before .before .before .before .before .before
+  inside c = c .before .before .before .before .before .before
 
   abbrev start : lts.After-argument (visit-list-calls t) (visit-list-at t) reads.Post → lts.Start (visit-list-calls t) (visit-list-at t) reads.Post
   start c = entry (counted (measured (formed c)))
 
-  many : (c : lts.After-wide (visit-list-calls t) (visit-list-at t) reads.Post) → suc (c .wide .result - 1) ≡ nth (entry c .args .all .now) (entry c .args .at) .count
+  many : (c : lts.After-wide (visit-list-calls t) (visit-list-at t) reads.Post) → suc (c .wide .result - 1) ≡ nth (entry c .args .all .now .now) (entry c .args .at) .count
   many c = let o = entry c in omega (arith, c .wide .ensures, c .before .count .ensures, call-long (o .pre .1 .1) (o .pre .1 .0) .2)
 
   reach : (c : lts.After-extent-at (visit-list-calls t) (visit-list-at t) reads.Post) → 1 + c .extent-at .result ≤ size (entry (counted c) .pre .1 .0 .t)
@@ -67,7 +67,7 @@ module _ (t : ℕ) where
       subst (λ (j : ℕ). HandsHead (start a .args .f) b j (c .head .result)) (c .before .narrow .ensures) (handed (Head b (c .before .narrow .result)) (start a .args .f) (c .head .ensures))
 
   pub count-requires : lts.Need-count-requires (visit-list-calls t) (visit-list-at t) reads.Post
-  count-requires c κs = let x = c .before .before .before .before .before .before .before .pre .1 .0 in omega (arith, bounds.whole x, bounds.some x)
+  count-requires c κs = let x = c .before .before .pre .1 .0 in omega (arith, bounds.whole x, bounds.some x)
 
   pub wide-requires : lts.Need-wide-requires (visit-list-calls t) (visit-list-at t) reads.Post
   wide-requires c κs = search needs
@@ -79,7 +79,7 @@ module _ (t : ℕ) where
   add-extent-at c = search needs
 
   pub extent-at-requires : lts.Need-extent-at-requires (visit-list-calls t) (visit-list-at t) reads.Post
-  extent-at-requires c κs = let o = entry c in operator-stands (o .pre .1 .1) (o .pre .1 .0)
+  extent-at-requires c κs = let o = entry (c .before) in operator-stands (o .pre .1 .1) (o .pre .1 .0)
 
   pub add-first : lts.Need-add-first (visit-list-calls t) (visit-list-at t) reads.Post
   add-first c = search needs
@@ -88,10 +88,10 @@ module _ (t : ℕ) where
   add-first-2 c = omega (arith, reach c, bounds.whole (entry (counted c) .pre .1 .0))
 
   pub add-form : lts.Need-add-form (visit-list-calls t) (visit-list-at t) reads.Post
-  add-form c = let o = entry (counted c) in let x = o .pre .1 .0 in omega (arith, call-long (o .pre .1 .1) x .0, bounds.whole x)
+  add-form c = let o = entry (counted (c .before)) in let x = o .pre .1 .0 in omega (arith, call-long (o .pre .1 .1) x .0, bounds.whole x)
 
   pub form-requires : lts.Need-form-requires (visit-list-calls t) (visit-list-at t) reads.Post
-  form-requires c κs = let o = entry (counted c) in let x = o .pre .1 .0 in omega (arith, call-long (o .pre .1 .1) x .0, bounds.whole x)
+  form-requires c κs = let o = entry (counted (c .before)) in let x = o .pre .1 .0 in omega (arith, call-long (o .pre .1 .1) x .0, bounds.whole x)
 
   pub mul-start : lts.Need-mul-start (visit-list-calls t) (visit-list-at t) reads.Post
   mul-start c = let m = measured c in omega (arith, reach m, bounds.whole (entry (counted m) .pre .1 .0))
@@ -126,25 +126,25 @@ module _ (t : ℕ) where
       )
 
   pub sub-visit-part : lts.Need-sub-visit-part (visit-list-calls t) (visit-list-at t) reads.Post
-  sub-visit-part c = let o = start (flagged (c .before .before .before .before .before .before .before .before)) in let x = o .pre .1 .0 in omega (arith, call-long (o .pre .1 .1) x .0, bounds.whole x)
+  sub-visit-part c = let o = start (flagged c) in let x = o .pre .1 .0 in omega (arith, call-long (o .pre .1 .1) x .0, bounds.whole x)
 
   pub part-visit-part-start : lts.Need-part-visit-part-start (visit-list-calls t) (visit-list-at t) reads.Post
-  part-visit-part-start c = let o = start (flagged (c .before .before .before .before .before .before .before .before)) in let x = o .pre .1 .0 in omega (arith, call-long (o .pre .1 .1) x .0, bounds.whole x)
+  part-visit-part-start c = let o = start (flagged c) in let x = o .pre .1 .0 in omega (arith, call-long (o .pre .1 .1) x .0, bounds.whole x)
 
   pub part-visit-part-end : lts.Need-part-visit-part-end (visit-list-calls t) (visit-list-at t) reads.Post
   part-visit-part-end c = search needs
 
   pub add-visit-part : lts.Need-add-visit-part (visit-list-calls t) (visit-list-at t) reads.Post
-  add-visit-part c = let o = start (flagged (c .before .before .before .before .before .before .before .before .before)) in let x = o .pre .1 .0 in omega (arith, call-long (o .pre .1 .1) x .0, bounds.whole x)
+  add-visit-part c = let o = start (flagged (c .before)) in let x = o .pre .1 .0 in omega (arith, call-long (o .pre .1 .1) x .0, bounds.whole x)
 
   pub narrow-requires : lts.Need-narrow-requires (visit-list-calls t) (visit-list-at t) reads.Post
-  narrow-requires c κs = let w = counted (measured (formed (flagged (c .before .before .before .before .before .before .before .before .before)))) in
+  narrow-requires c κs = let w = counted (measured (formed (flagged (c .before)))) in
       let o = entry w in
       let x = o .pre .1 .0 in
       omega (arith, w .wide .ensures, w .before .count .ensures, call-long (o .pre .1 .1) x .1, x .fits .ample .height)
 
   pub head-requires : lts.Need-head-requires (visit-list-calls t) (visit-list-at t) reads.Post
-  head-requires c κs = let w = counted (measured (formed (flagged (c .before .before .before .before .before .before .before .before .before .before)))) in
+  head-requires c κs = let w = counted (measured (formed (flagged (c .before .before)))) in
       let o = entry w in
       let x = o .pre .1 .0 in
       omega (arith, c .narrow .ensures, w .wide .ensures, w .before .count .ensures, call-long (o .pre .1 .1) x .1, x .flags .height, x .fits .ample .height)
@@ -159,11 +159,17 @@ module _ (t : ℕ) where
       let x = o .pre .1 .0 in (
         omega (arith, o .pre .0, call-long (o .pre .1 .1) x .0, bounds.whole x, part-length rs 6),
         operator-fits (o .pre .1 .1) (many (counted m)) (m .extent-at .ensures) (operand h) (part-after rs (m .extent-at .result))
-            (a .visit-arguments .ensures) (form-lambda (formed h .form .ensures)) (operator d) (part rs 6) x,
+            (a .visit-arguments .ensures .0) (form-lambda (formed h .form .ensures)) (operator d) (part rs 6) x,
       )
 
+  pub slice-aggregate-lent : lts.Need-slice-aggregate-lent (visit-list-calls t) (visit-list-at t) reads.Post
+  slice-aggregate-lent c = search needs
+
+  pub slice-aggregate-close-call : lts.Need-slice-aggregate-close-call (visit-list-calls t) (visit-list-at t) reads.Post
+  slice-aggregate-close-call c = search needs
+
   pub close-call-requires : lts.Need-close-call-requires (visit-list-calls t) (visit-list-at t) reads.Post
-  close-call-requires c κs = let v = c .before .before .before .before .before .before .before .before .before .before .before in
+  close-call-requires c κs = let v = c .before .before .before .before .before in
       let d = headed v in
       let a = visited d in
       let h = flagged a in
@@ -171,50 +177,37 @@ module _ (t : ℕ) where
       let o = start h in
       let rs = o .args .rs .now in
       call-fits (o .pre .1 .1) (many (counted m)) (m .extent-at .ensures) (operand h) (part-after rs (m .extent-at .result))
-      (a .visit-arguments .ensures) (form-lambda (formed h .form .ensures)) (operator d) (part rs 6) (v .visit-part .ensures) (o .pre .1 .0)
+      (a .visit-arguments .ensures .0) (form-lambda (formed h .form .ensures)) (operator d) (part rs 6) (v .visit-part .ensures .0) (o .pre .1 .0)
 
   pub add-result : lts.Need-add-result (visit-list-calls t) (visit-list-at t) reads.Post
-  add-result c = let a = visited (headed (c .before .before .before .before .before .before .before .before .before .before .before .before .before .before)) in
+  add-result c = let a = visited (headed (c .before .before .before .before .before .before)) in
       let h = flagged a in
       let m = measured (formed h) in
       let o = start h in
       let rs = o .args .rs .now in
       let x = o .pre .1 .0 in
       let all = operands-fit (o .pre .1 .1) (many (counted m)) (m .extent-at .ensures) (operand h) (part-after rs (m .extent-at .result)) x in
-      omega (arith, reach m, bounds.whole x, bounds.used-all all (a .visit-arguments .ensures))
+      omega (arith, reach m, bounds.whole x, bounds.used-all all (a .visit-arguments .ensures .0))
 
   pub add-result-2 : lts.Need-add-result-2 (visit-list-calls t) (visit-list-at t) reads.Post
-  add-result-2 c = let a = visited (headed (c .before .before .before .before .before .before .before .before .before .before .before .before .before .before)) in
+  add-result-2 c = let a = visited (headed (c .before .before .before .before .before .before)) in
       let h = flagged a in
       let m = measured (formed h) in
       let o = start h in
       let rs = o .args .rs .now in
       let x = o .pre .1 .0 in
       let all = operands-fit (o .pre .1 .1) (many (counted m)) (m .extent-at .ensures) (operand h) (part-after rs (m .extent-at .result)) x in
-      omega (arith, reach m, bounds.whole x, bounds.used-all all (a .visit-arguments .ensures))
-
-  pub same-length : lts.Need-same-length (visit-list-calls t) (visit-list-at t) reads.Post
-  same-length c = let e = c .before .before in
-      let v = inside e in
-      e .close-call .kept .1 .1 .1 .1 .1 .1 .1 .0 ∙ v .visit-part .kept .1 .1 .1 .1 .1 .1 .0 ∙ visited (headed v) .visit-arguments .kept .1 .1 .1 .1 .1 .1 .1 .0
-
-  pub same-length-2 : lts.Need-same-length-2 (visit-list-calls t) (visit-list-at t) reads.Post
-  same-length-2 c = let v = c .before .before .before .before .before .before .before .before .before .before .before .before .before .before in v .visit-part .kept .1 .1 .1 .1 .1 .1 .1 .0 ∙ visited (headed v) .visit-arguments .kept .1 .1 .1 .1 .1 .1 .1 .1 .0
-
-  pub same-length-3 : lts.Need-same-length-3 (visit-list-calls t) (visit-list-at t) reads.Post
-  same-length-3 c = let v = c .before .before .before .before .before .before .before .before .before .before .before .before .before .before in v .visit-part .kept .1 .1 .1 .1 .1 .1 .1 .1 .0 ∙ visited (headed v) .visit-arguments .kept .1 .1 .1 .1 .1 .1 .1 .1 .1 .0
-
-  pub same-length-4 : lts.Need-same-length-4 (visit-list-calls t) (visit-list-at t) reads.Post
-  same-length-4 c = let v = c .before .before .before .before .before .before .before .before .before .before .before .before .before .before in v .visit-part .kept .1 .1 .1 .1 .1 .1 .1 .1 .1 .0 ∙ visited (headed v) .visit-arguments .kept .1 .1 .1 .1 .1 .1 .1 .1 .1 .1 .0
+      omega (arith, reach m, bounds.whole x, bounds.used-all all (a .visit-arguments .ensures .0))
 
   pub returns : lts.Need-returns (visit-list-calls t) (visit-list-at t) reads.Post
-  returns c = let e = c .before .before in
-      let v = inside e in
+  returns c = let v = inside c in
       let d = headed v in
       let a = visited d in
       let h = flagged a in
       let m = measured (formed h) in
       let o = start h in
       let rs = o .args .rs .now in
+      let done =
       call-done (o .pre .1 .1) (many (counted m)) (m .extent-at .ensures) (operand h) (part-after rs (m .extent-at .result))
-      (a .visit-arguments .ensures) (form-lambda (formed h .form .ensures)) (operator d) (part rs 6) (v .visit-part .ensures) (e .close-call .ensures)
+      (a .visit-arguments .ensures .0) (form-lambda (formed h .form .ensures)) (operator d) (part rs 6) (v .visit-part .ensures .0) (c .close-call .ensures) in
+      (done, v .visit-part .ensures .1 ∙ a .visit-arguments .ensures .1)

@@ -1,6 +1,6 @@
 -- The needs of `visit_part`.
 use Prim.Native.Nat.{ℕ}
-use mathlib.Core.Path.{sym, _∙_}
+use mathlib.Core.Path.{refl, sym, _∙_}
 use Rattle.visits.proofs.Bounds as bounds
 use Rattle.visits.proofs.LeafCase.{ident-reads, ident-done, const-done}
 use borrow.Author.Needs.{needs}
@@ -11,49 +11,37 @@ use Rattle.visits.proofs.visit.+visit+visit_arguments+visit_begin+visit
 
 module _ (t : ℕ) where
   abbrev begun : lts.After-form (visit-part-calls t) (visit-part-at t) reads.Post → lts.Start (visit-part-calls t) (visit-part-at t) reads.Post
-  begun c = c .before .before .before .before .before .before .before .before
+  begun c = c .before .before .before
 
   pub form-requires : lts.Need-form-requires (visit-part-calls t) (visit-part-at t) reads.Post
-  form-requires c κs = let x = c .before .before .before .before .before .before .before .pre .1 in omega (arith, bounds.whole x, bounds.some x)
+  form-requires c κs = let x = c .before .before .pre .1 in omega (arith, bounds.whole x, bounds.some x)
+
+  pub slice-aggregate-lent : lts.Need-slice-aggregate-lent (visit-part-calls t) (visit-part-at t) reads.Post
+  slice-aggregate-lent c = search needs
+
+  pub slice-aggregate-visit-atom : lts.Need-slice-aggregate-visit-atom (visit-part-calls t) (visit-part-at t) reads.Post
+  slice-aggregate-visit-atom c = search needs
+
+  pub slice-aggregate-visit-atom-2 : lts.Need-slice-aggregate-visit-atom-2 (visit-part-calls t) (visit-part-at t) reads.Post
+  slice-aggregate-visit-atom-2 c = search needs
 
   pub visit-atom-requires : lts.Need-visit-atom-requires (visit-part-calls t) (visit-part-at t) reads.Post
   visit-atom-requires c κs =
-      let i = c .before .before .before .before in
+      let i = c .before .before .before .before .before .before .before in
       let f = i .before in
       let o = begun f in
       ident-reads {g = o .args .f} (sym (f .form .ensures) ∙ i .if1 .taken) (o .pre .1)
 
-  pub same-length : lts.Need-same-length (visit-part-calls t) (visit-part-at t) reads.Post
-  same-length c = search needs
-
-  pub same-length-2 : lts.Need-same-length-2 (visit-part-calls t) (visit-part-at t) reads.Post
-  same-length-2 c = search needs
-
-  pub same-length-3 : lts.Need-same-length-3 (visit-part-calls t) (visit-part-at t) reads.Post
-  same-length-3 c = search needs
-
   pub returns : lts.Need-returns (visit-part-calls t) (visit-part-at t) reads.Post
   returns c =
-      let i = c .before .before .before .before .before .before .before .before .before in
-      ident-done (sym (i .before .form .ensures) ∙ i .if1 .taken) (c .before .before .before .before .visit-atom .ensures)
+      let i = c .before .before .before .before .before .before .before .before in
+      (ident-done (sym (i .before .form .ensures) ∙ i .if1 .taken) (c .visit-atom .ensures), refl)
 
   pub returns-2 : lts.Need-returns-2 (visit-part-calls t) (visit-part-at t) reads.Post
-  returns-2 c = const-done (λ x. sym (c .before .before .form .ensures) ∙ c .if2 .taken)
+  returns-2 c = (const-done (λ x. sym (c .before .before .form .ensures) ∙ c .if2 .taken), refl)
 
   pub visit-requires : lts.Need-visit-requires (visit-part-calls t) (visit-part-at t) reads.Post
   visit-requires c κs = let o = begun (c .before .before .before .before .before .before .before) in (omega (arith, o .pre .0), o .pre .1)
-
-  pub same-length-4 : lts.Need-same-length-4 (visit-part-calls t) (visit-part-at t) reads.Post
-  same-length-4 c = search needs
-
-  pub same-length-5 : lts.Need-same-length-5 (visit-part-calls t) (visit-part-at t) reads.Post
-  same-length-5 c = search needs
-
-  pub same-length-6 : lts.Need-same-length-6 (visit-part-calls t) (visit-part-at t) reads.Post
-  same-length-6 c = search needs
-
-  pub same-length-7 : lts.Need-same-length-7 (visit-part-calls t) (visit-part-at t) reads.Post
-  same-length-7 c = search needs
 
   pub returns-3 : lts.Need-returns-3 (visit-part-calls t) (visit-part-at t) reads.Post
   returns-3 c = search needs

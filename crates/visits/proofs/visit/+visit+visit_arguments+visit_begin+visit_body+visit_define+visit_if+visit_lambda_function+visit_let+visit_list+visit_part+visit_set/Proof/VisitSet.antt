@@ -1,6 +1,5 @@
 -- The needs of `visit_set`.
 use Prim.Native.Nat.{ℕ, _≤_}
-use mathlib.Core.Path.{_∙_}
 use Rattle.table.specs.Part.{part, part-length}
 use Rattle.tree.specs.Tree.{size}
 use Rattle.forms.specs.FitsLaws.{facts-length}
@@ -16,7 +15,7 @@ module _ (t : ℕ) where
   -- the places that are looked back to, each from the one after it
 
   abbrev to-start : lts.After-open-set (visit-set-calls t) (visit-set-at t) reads.Post → lts.Start (visit-set-calls t) (visit-set-at t) reads.Post
-  to-start c = c .before .before .before .before .before .before .before .before .before .before
+  to-start c = c .before .before .before .before .before
 
   abbrev to-open-set : lts.After-part (visit-set-calls t) (visit-set-at t) reads.Post → lts.After-open-set (visit-set-calls t) (visit-set-at t) reads.Post
   to-open-set c = c .before .before
@@ -25,13 +24,13 @@ module _ (t : ℕ) where
   to-part c = c .before .before .before .before .before .before
 
   abbrev to-visit : lts.After-name (visit-set-calls t) (visit-set-at t) reads.Post → lts.After-visit-part (visit-set-calls t) (visit-set-at t) reads.Post
-  to-visit c = c .before .before .before .before .before .before .before .before .before
+  to-visit c = c .before .before
 
   abbrev to-name : lts.After-close-set (visit-set-calls t) (visit-set-at t) reads.Post → lts.After-name (visit-set-calls t) (visit-set-at t) reads.Post
   to-name c = c .before .before .before .before
 
   abbrev to-close-set : lts.After-visit-atom (visit-set-calls t) (visit-set-at t) reads.Post → lts.After-close-set (visit-set-calls t) (visit-set-at t) reads.Post
-  to-close-set c = c .before .before .before .before .before .before .before .before .before
+  to-close-set c = c .before .before .before .before .before .before .before .before
 
   abbrev from-visit : lts.After-visit-part (visit-set-calls t) (visit-set-at t) reads.Post → lts.Start (visit-set-calls t) (visit-set-at t) reads.Post
   from-visit c = to-start (to-open-set (to-part c))
@@ -39,11 +38,14 @@ module _ (t : ℕ) where
   long : (c : lts.Start (visit-set-calls t) (visit-set-at t) reads.Post) → 3 ≤ size (c .pre .1 .0 .t)
   long c = set-long (c .pre .1 .1) (c .pre .1 .0)
 
+  pub slice-aggregate-noted : lts.Need-slice-aggregate-noted (visit-set-calls t) (visit-set-at t) reads.Post
+  slice-aggregate-noted c = search needs
+
   pub add-open-set : lts.Need-add-open-set (visit-set-calls t) (visit-set-at t) reads.Post
   add-open-set c = search needs
 
   pub open-set-requires : lts.Need-open-set-requires (visit-set-calls t) (visit-set-at t) reads.Post
-  open-set-requires c κs = let o = c .before .before .before .before .before .before .before .before .before in
+  open-set-requires c κs = let o = c .before .before .before .before in
       let x = o .pre .1 .0 in
       (omega (arith, long o, bounds.whole x), facts-length (x .tied) (x .fits .ample .rows))
 
@@ -73,58 +75,58 @@ module _ (t : ℕ) where
       )
 
   pub add-name : lts.Need-add-name (visit-set-calls t) (visit-set-at t) reads.Post
-  add-name c = let o = from-visit (c .before .before .before .before .before .before .before .before) in omega (arith, long o, bounds.whole (o .pre .1 .0))
+  add-name c = let o = from-visit (c .before) in omega (arith, long o, bounds.whole (o .pre .1 .0))
 
   pub name-requires : lts.Need-name-requires (visit-set-calls t) (visit-set-at t) reads.Post
-  name-requires c κs = let o = from-visit (c .before .before .before .before .before .before .before .before) in omega (arith, long o, bounds.whole (o .pre .1 .0))
+  name-requires c κs = let o = from-visit (c .before) in omega (arith, long o, bounds.whole (o .pre .1 .0))
+
+  pub slice-aggregate-close-set : lts.Need-slice-aggregate-close-set (visit-set-calls t) (visit-set-at t) reads.Post
+  slice-aggregate-close-set c = search needs
+
+  pub slice-aggregate-close-set-2 : lts.Need-slice-aggregate-close-set-2 (visit-set-calls t) (visit-set-at t) reads.Post
+  slice-aggregate-close-set-2 c = search needs
 
   pub close-set-requires : lts.Need-close-set-requires (visit-set-calls t) (visit-set-at t) reads.Post
-  close-set-requires c κs = let v = c .before .before .before .before .before .before .before .before .before .before .before .before in
+  close-set-requires c κs = let v = c .before .before .before .before .before in
       let p = to-part v in
       let o = from-visit v in
-      target-sets (o .pre .1 .1) (p .part .ensures) (to-open-set p .open-set .ensures) (part (o .args .rs .now) 12) (v .visit-part .ensures) (o .pre .1 .0)
+      target-sets (o .pre .1 .1) (p .part .ensures) (to-open-set p .open-set .ensures) (part (o .args .rs .now) 12) (v .visit-part .ensures .0) (o .pre .1 .0)
+
+  pub slice-aggregate-lent : lts.Need-slice-aggregate-lent (visit-set-calls t) (visit-set-at t) reads.Post
+  slice-aggregate-lent c = search needs
 
   pub add-visit-atom : lts.Need-add-visit-atom (visit-set-calls t) (visit-set-at t) reads.Post
-  add-visit-atom c = let o = from-visit (c .before .before .before .before .before .before .before .before .before .before .before .before .before .before .before .before .before) in omega (arith, long o, bounds.whole (o .pre .1 .0))
+  add-visit-atom c = let o = from-visit (c .before .before .before .before .before .before .before .before .before) in omega (arith, long o, bounds.whole (o .pre .1 .0))
+
+  pub slice-aggregate-visit-atom : lts.Need-slice-aggregate-visit-atom (visit-set-calls t) (visit-set-at t) reads.Post
+  slice-aggregate-visit-atom c = search needs
+
+  pub slice-aggregate-visit-atom-2 : lts.Need-slice-aggregate-visit-atom-2 (visit-set-calls t) (visit-set-at t) reads.Post
+  slice-aggregate-visit-atom-2 c = search needs
 
   pub visit-atom-requires : lts.Need-visit-atom-requires (visit-set-calls t) (visit-set-at t) reads.Post
-  visit-atom-requires c κs = let m = c .before .before .before .before .before .before .before .before in
+  visit-atom-requires c κs = let m = c .before .before .before .before .before .before .before in
       let n = to-name m in
       let v = to-visit n in
       let p = to-part v in
       let o = from-visit v in
-      target-reads (o .pre .1 .1) (p .part .ensures) (to-open-set p .open-set .ensures) (part (o .args .rs .now) 12) (v .visit-part .ensures) (n .name .ensures)
+      target-reads (o .pre .1 .1) (p .part .ensures) (to-open-set p .open-set .ensures) (part (o .args .rs .now) 12) (v .visit-part .ensures .0) (n .name .ensures)
       (m .close-set .ensures) (o .pre .1 .0)
 
   pub add-result : lts.Need-add-result (visit-set-calls t) (visit-set-at t) reads.Post
-  add-result c = let v = c .before .before .before .before .before .before .before .before .before .before .before .before .before .before .before .before .before .before .before .before .before .before .before .before .before .before in
+  add-result c = let v = c .before .before .before .before .before .before .before .before .before .before .before .before .before .before in
       let p = to-part v in
       let o = from-visit v in
       let x = expression-fits (o .pre .1 .1) (p .part .ensures) (to-open-set p .open-set .ensures) (part (o .args .rs .now) 12) (o .pre .1 .0) in
-      omega (arith, bounds.used x (v .visit-part .ensures))
-
-  pub same-length : lts.Need-same-length (visit-set-calls t) (visit-set-at t) reads.Post
-  same-length c = let a = c .before .before .before .before in
-      let m = to-close-set a in
-      a .visit-atom .kept .1 .1 .1 .1 .0 ∙ m .close-set .kept .1 .1 .0 ∙ to-visit (to-name m) .visit-part .kept .1 .1 .1 .1 .1 .1 .0
-
-  pub same-length-2 : lts.Need-same-length-2 (visit-set-calls t) (visit-set-at t) reads.Post
-  same-length-2 c = c .before .before .before .before .before .before .before .before .before .before .before .before .before .before .before .before .before .before .before .before .before .before .before .before .before .before .visit-part .kept .1 .1 .1 .1 .1 .1 .1 .0
-
-  pub same-length-3 : lts.Need-same-length-3 (visit-set-calls t) (visit-set-at t) reads.Post
-  same-length-3 c = c .before .before .before .before .before .before .before .before .before .before .before .before .before .before .before .before .before .before .before .before .before .before .before .before .before .before .visit-part .kept .1 .1 .1 .1 .1 .1 .1 .1 .0
-
-  pub same-length-4 : lts.Need-same-length-4 (visit-set-calls t) (visit-set-at t) reads.Post
-  same-length-4 c = let a = c .before .before .before .before in
-      let m = to-close-set a in
-      a .visit-atom .kept .1 .1 .1 .1 .1 .1 .0 ∙ m .close-set .kept .1 .1 .1 .0 ∙ to-visit (to-name m) .visit-part .kept .1 .1 .1 .1 .1 .1 .1 .1 .1 .0
+      omega (arith, bounds.used x (v .visit-part .ensures .0))
 
   pub returns : lts.Need-returns (visit-set-calls t) (visit-set-at t) reads.Post
-  returns c = let a = c .before .before .before .before in
-      let m = to-close-set a in
+  returns c = let m = to-close-set c in
       let n = to-name m in
       let v = to-visit n in
       let p = to-part v in
       let o = from-visit v in
-      set-done (o .pre .1 .1) (p .part .ensures) (to-open-set p .open-set .ensures) (part (o .args .rs .now) 12) (v .visit-part .ensures) (n .name .ensures)
-      (m .close-set .ensures) (a .visit-atom .ensures)
+      let done =
+      set-done (o .pre .1 .1) (p .part .ensures) (to-open-set p .open-set .ensures) (part (o .args .rs .now) 12) (v .visit-part .ensures .0) (n .name .ensures)
+      (m .close-set .ensures) (c .visit-atom .ensures) in
+      (done, v .visit-part .ensures .1)
