@@ -1,4 +1,5 @@
-// Defines: before and after their bodies, and the lambda defines that enter first.
+// Defines: before and after their bodies, and the lambda defines that enter first. `enter_define` is handed a copy of the pass: what is handed
+// by address is kept in memory from the start, also where nothing enters.
 use names::define::enter_define;
 use semantic::IdentifierStatus;
 use semantic::NONE;
@@ -27,13 +28,14 @@ pub fn before_define(
         return p.with_context(id);
     }
     if b.lambda {
+        let o = p;
         let q = enter_define(
-            all,
+            &*all,
             at + 1,
             IdentifierStatus::Local,
             NONE,
             b,
-            p,
+            o,
             facts,
             work,
         );
@@ -57,13 +59,14 @@ fn enter_value(
     if b.lambda {
         return p;
     }
+    let o = p;
     enter_define(
-        all,
+        &*all,
         at + 1,
         IdentifierStatus::Local,
         NONE,
         b,
-        p,
+        o,
         facts,
         work,
     )
@@ -110,7 +113,8 @@ pub fn enter_child(
     }
     let b = body_at(classes, all, at + 2);
     if b.lambda {
-        return enter_define(all, at + 1, kind, NONE, b, p, facts, work);
+        let o = p;
+        return enter_define(&*all, at + 1, kind, NONE, b, o, facts, work);
     }
     p
 }

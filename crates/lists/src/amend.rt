@@ -254,7 +254,8 @@ fn amend_long(
 }
 
 // A short list with few live names is amended by search. The arrays of `amend_long` are not to lie in the frame of that usual case: it is
-// called in two places, so that it is compiled as a function of its own.
+// called in two places, so that it is compiled as a function of its own. What is called is handed copies: what is handed by address is kept
+// in memory from the start.
 pub fn amend_list(
     all: &[u32],
     d: Ending,
@@ -271,15 +272,31 @@ pub fn amend_list(
         return 0;
     }
     if FEW < n {
-        return amend_long(all, d, e, p, captured, work);
+        let ending = d;
+        let o = p;
+        return amend_long(&*all, ending, e, o, captured, work);
     }
     let scope = p.scope;
     let low = above_bottom(p, work);
     let many = scope.length - low;
     if SEARCHED < n * many {
-        return amend_long(all, d, e, p, captured, work);
+        let ending = d;
+        let o = p;
+        return amend_long(&*all, ending, e, o, captured, work);
     }
     let none = [0; 0];
     let mut unseen = [0; 0];
-    amend_rows(&none, &none, &mut unseen, all, d, e, p, captured, work)
+    let ending = d;
+    let o = p;
+    amend_rows(
+        &none,
+        &none,
+        &mut unseen,
+        &*all,
+        ending,
+        e,
+        o,
+        captured,
+        work,
+    )
 }

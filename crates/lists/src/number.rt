@@ -213,7 +213,8 @@ pub fn number_list(e: Entries, p: Pass, captured: &mut [u32], work: &mut [u32]) 
     if e.length == 0 {
         return p;
     }
-    let q = number_rows(false, e, p, captured, work);
+    let o = p;
+    let q = number_rows(false, e, o, captured, work);
     number_rows(true, e, q, captured, work)
 }
 

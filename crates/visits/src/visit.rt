@@ -67,7 +67,8 @@ pub fn visit(
     }
 }
 
-// A part of an expression. Many parts are identifiers and constants: they need no call of `visit`.
+// A part of an expression. Many parts are identifiers and constants: they need no call of `visit`, and flags are stored for a call alone, as
+// it is handed a copy.
 fn visit_part(
     classes: &&[u8],
     all: &&[u32],
@@ -93,7 +94,19 @@ fn visit_part(
     if form == 2 {
         return 1;
     }
-    visit(classes, all, rs, at, f, r, facts, captured, arguments, work)
+    let g = f;
+    visit(
+        classes,
+        all,
+        &*rs,
+        at,
+        g,
+        r,
+        facts,
+        captured,
+        arguments,
+        work,
+    )
 }
 
 fn visit_if(

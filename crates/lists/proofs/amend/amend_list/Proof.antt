@@ -58,7 +58,9 @@ slice-aggregate-amend-rows-3 : tie.Need-slice-aggregate-amend-rows-3
 slice-aggregate-amend-rows-3 c = search needs
 
 amend-rows-requires : tie.Need-amend-rows-requires
-amend-rows-requires c κs = search needs
+amend-rows-requires c κs =
+    let start = c .before .before .before .before .before .before .before .before .before .before .before .before .before .before .before .before in
+    (start .pre .0, start .pre .1, start .pre .2, search needs, search needs)
 
 same-length-5 : tie.Need-same-length-5
 same-length-5 c = search needs
