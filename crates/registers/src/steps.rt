@@ -29,7 +29,7 @@ use walk::uses::Names;
 ghost use mathlib.Core.Path.{_≡_};
 ghost use Prim.Native.Nat.{_<_};
 ghost use lib.ListN.{length};
-ghost use Rattle.semantic.specs.declared.IdentifierStatus.the-variants.{LocallyDefinedFunction, Global};
+ghost use Rattle.semantic.specs.declared.IdentifierStatus.the-variants.{Global};
 ghost use Rattle.pass.specs.Read.{read};
 ghost use Rattle.pass.specs.Run.{rowsMost, factsLength};
 ghost use Rattle.work.specs.Passes.{inContext};
@@ -195,29 +195,22 @@ pub fn close_lambda(
     store(r, q);
 }
 
-pub fn open_begin(
+// The lambda defines among k trees, the first at the record `first`, enter with this kind.
+pub fn enter_defines(
     classes: &[u8],
     all: &[u32],
     first: usize,
     k: usize,
+    kind: IdentifierStatus,
     r: &mut [usize; REGISTERS],
     facts: &mut [u32],
     work: &mut [u32],
 )
     requires { ⌜ ChildrenFit (length (now classes)) (now all) first k (passIn (now r)) (now facts) (now work) ⌝ }
-    ensures { λ _. ⌜ EntersChildren (now (classes .entry)) (now (all .entry)) first k LocallyDefinedFunction (passIn (now (r .entry))) (now (facts .entry)) (now (work .entry)) (passIn (now (r .exit))) (now (facts .exit)) (now (work .exit)) ⌝ }
+    ensures { λ _. ⌜ EntersChildren (now (classes .entry)) (now (all .entry)) first k kind (passIn (now (r .entry))) (now (facts .entry)) (now (work .entry)) (passIn (now (r .exit))) (now (facts .exit)) (now (work .exit)) ⌝ }
 {
     let p = load(r);
-    let q = enter_children(
-        classes,
-        all,
-        first,
-        k,
-        IdentifierStatus::LocallyDefinedFunction,
-        p,
-        facts,
-        work,
-    );
+    let q = enter_children(classes, all, first, k, kind, p, facts, work);
     store(r, q);
 }
 
@@ -254,32 +247,6 @@ pub fn close_set(name: u32, r: &[usize; REGISTERS], facts: &mut [u32], work: &mu
 {
     let p = load(r);
     mutate(name, p, facts, work);
-}
-
-pub fn enter_globals(
-    classes: &[u8],
-    all: &[u32],
-    first: usize,
-    k: usize,
-    r: &mut [usize; REGISTERS],
-    facts: &mut [u32],
-    work: &mut [u32],
-)
-    requires { ⌜ ChildrenFit (length (now classes)) (now all) first k (passIn (now r)) (now facts) (now work) ⌝ }
-    ensures { λ _. ⌜ EntersChildren (now (classes .entry)) (now (all .entry)) first k Global (passIn (now (r .entry))) (now (facts .entry)) (now (work .entry)) (passIn (now (r .exit))) (now (facts .exit)) (now (work .exit)) ⌝ }
-{
-    let p = load(r);
-    let q = enter_children(
-        classes,
-        all,
-        first,
-        k,
-        IdentifierStatus::Global,
-        p,
-        facts,
-        work,
-    );
-    store(r, q);
 }
 
 pub fn enter_global(

@@ -3,11 +3,12 @@ use crate::visit::visit;
 use flags::Flags;
 use registers::REGISTERS;
 use registers::load;
+use registers::steps::enter_defines;
 use registers::steps::enter_global;
-use registers::steps::enter_globals;
 use registers::steps::enter_value;
 use registers::steps::set_context;
 use registers::store;
+use semantic::IdentifierStatus;
 use semantic::NONE;
 use table::wide;
 use walk::body::Body;
@@ -40,7 +41,16 @@ fn enter_top(
     let form = tree::record::form(all, at);
     if form == 7 {
         let count = wide(tree::record::count(all, at));
-        enter_globals(classes, all, at + 1, count, r, facts, work);
+        enter_defines(
+            classes,
+            all,
+            at + 1,
+            count,
+            IdentifierStatus::Global,
+            r,
+            facts,
+            work,
+        );
         return;
     }
     if form == 5 {

@@ -14,13 +14,14 @@ use registers::steps::close_let;
 use registers::steps::close_set;
 use registers::steps::context;
 use registers::steps::depth;
-use registers::steps::open_begin;
+use registers::steps::enter_defines;
 use registers::steps::open_define;
 use registers::steps::open_lambda;
 use registers::steps::open_let;
 use registers::steps::open_set;
 use registers::steps::set_context;
 use registers::steps::visit_atom;
+use semantic::IdentifierStatus;
 use semantic::NONE;
 use table::wide;
 use walk::body::body_at;
@@ -56,13 +57,90 @@ pub fn visit(
             visit_atom(*classes, *all, at, r, *facts, lent, *work);
             1
         }
-        3 => visit_if(classes, all, rs, at, f, r, facts, captured, arguments, work),
-        4 => visit_let(classes, all, rs, at, f, r, facts, captured, arguments, work),
-        5 => visit_define(classes, all, rs, at, f, r, facts, captured, arguments, work),
-        6 => visit_lambda_function(classes, all, rs, at, f, r, facts, captured, arguments, work),
-        7 => visit_begin(classes, all, rs, at, f, r, facts, captured, arguments, work),
-        8 => visit_list(classes, all, rs, at, f, r, facts, captured, arguments, work),
-        9 => visit_set(classes, all, rs, at, f, r, facts, captured, arguments, work),
+        3 => visit_if(
+            classes,
+            all,
+            &*rs,
+            at,
+            f,
+            r,
+            facts,
+            captured,
+            arguments,
+            work,
+        ),
+        4 => visit_let(
+            classes,
+            all,
+            &*rs,
+            at,
+            f,
+            r,
+            facts,
+            captured,
+            arguments,
+            work,
+        ),
+        5 => visit_define(
+            classes,
+            all,
+            &*rs,
+            at,
+            f,
+            r,
+            facts,
+            captured,
+            arguments,
+            work,
+        ),
+        6 => visit_lambda_function(
+            classes,
+            all,
+            &*rs,
+            at,
+            f,
+            r,
+            facts,
+            captured,
+            arguments,
+            work,
+        ),
+        7 => visit_begin(
+            classes,
+            all,
+            &*rs,
+            at,
+            f,
+            r,
+            facts,
+            captured,
+            arguments,
+            work,
+        ),
+        8 => visit_list(
+            classes,
+            all,
+            &*rs,
+            at,
+            f,
+            r,
+            facts,
+            captured,
+            arguments,
+            work,
+        ),
+        9 => visit_set(
+            classes,
+            all,
+            &*rs,
+            at,
+            f,
+            r,
+            facts,
+            captured,
+            arguments,
+            work,
+        ),
         _ => 1,
     }
 }
@@ -429,7 +507,16 @@ fn visit_begin(
     ensures { λ _. ⌜ tables (now (facts .exit)) (now (captured .exit)) (now (arguments .exit)) (now (work .exit)) ≡ tables (now (facts .entry)) (now (captured .entry)) (now (arguments .entry)) (now (work .entry)) ⌝ }
 {
     let count = wide(tree::record::count(*all, at));
-    open_begin(*classes, *all, at + 1, count, r, *facts, *work);
+    enter_defines(
+        *classes,
+        *all,
+        at + 1,
+        count,
+        IdentifierStatus::LocallyDefinedFunction,
+        r,
+        *facts,
+        *work,
+    );
     let mut used = 1;
     let mut i = 0;
     while i < count {

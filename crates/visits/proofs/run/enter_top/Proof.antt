@@ -15,11 +15,11 @@ count-requires c κs = inside (c .before .before .before .before .before .before
 wide-requires : tie.Need-wide-requires
 wide-requires c κs = search needs
 
-add-enter-globals : tie.Need-add-enter-globals
-add-enter-globals c = search needs
+add-enter-defines : tie.Need-add-enter-defines
+add-enter-defines c = search needs
 
-enter-globals-requires : tie.Need-enter-globals-requires
-enter-globals-requires c κs =
+enter-defines-requires : tie.Need-enter-defines-requires
+enter-defines-requires c κs =
     let size = c .before .before .before in
     let test = size .before .before in
     let start = test .before .before .before .before .before .before in
@@ -36,7 +36,7 @@ returns c =
     let size = c .before .before .before .before .before .before .before .before in
     let test = size .before .before in
     children-enter (sym (test .before .form .ensures) ∙ test .if1 .taken) (size .wide .ensures ∙ size .before .count .ensures)
-    (c .before .before .before .before .enter-globals .ensures)
+    (c .before .before .before .before .enter-defines .ensures)
 
 no-begin : (c : tie.Else1) → let o = c .before .before .before .before .before .before .args in nth (o .all .now) (o .at) .form ≡ 7 → ⊥
 no-begin c e = c .if1 .left (c .before .form .ensures ∙ e)
@@ -63,8 +63,8 @@ enter-top-spec =
     form-requires
     count-requires
     wide-requires
-    add-enter-globals
-    enter-globals-requires
+    add-enter-defines
+    enter-defines-requires
     same-length
     same-length-2
     returns

@@ -50,7 +50,7 @@ use Rattle.registers.proofs.steps.close_let.Reads as close-let-reads
 use Rattle.registers.proofs.steps.close_set.Reads as close-set-reads
 use Rattle.registers.proofs.steps.context.Reads as context-reads
 use Rattle.registers.proofs.steps.depth.Reads as depth-reads
-use Rattle.registers.proofs.steps.open_begin.Reads as open-begin-reads
+use Rattle.registers.proofs.steps.enter_defines.Reads as enter-defines-reads
 use Rattle.registers.proofs.steps.open_define.Reads as open-define-reads
 use Rattle.registers.proofs.steps.open_lambda.Reads as open-lambda-reads
 use Rattle.registers.proofs.steps.open_let.Reads as open-let-reads
@@ -210,7 +210,7 @@ abbrev pub visit-arguments-calls : ℕ → visit-arguments-lts.Claims
 visit-arguments-calls t = (visit-part-below t, visit-part.Post, next-reads.Asked, next-reads.Learnt)
 
 abbrev pub visit-begin-calls : ℕ → visit-begin-lts.Claims
-visit-begin-calls t = (count-reads.Asked, count-reads.Learnt, wide-reads.Asked, wide-reads.Learnt, open-begin-reads.Asked, open-begin-reads.Learnt, part-reads.Asked, part-reads.Learnt, visit-part-below t, visit-part.Post)
+visit-begin-calls t = (count-reads.Asked, count-reads.Learnt, wide-reads.Asked, wide-reads.Learnt, enter-defines-reads.Asked, enter-defines-reads.Learnt, part-reads.Asked, part-reads.Learnt, visit-part-below t, visit-part.Post)
 
 abbrev pub visit-body-calls : ℕ → visit-body-lts.Claims
 visit-body-calls t = (form-reads.Asked, form-reads.Learnt, visit-lambda-function-below t, visit-lambda-function.Post, visit-part-below t, visit-part.Post)

@@ -31,7 +31,7 @@ module _ (t : ℕ) where
   abbrev begun : lts.At-loop (visit-begin-calls t) (visit-begin-at t) reads.Post Inv-loop μ-loop → lts.Start (visit-begin-calls t) (visit-begin-at t) reads.Post Inv-loop μ-loop
   begun c = c .before .before .before .before .before .before .before .before .before .before .before
 
-  abbrev entered : lts.At-loop (visit-begin-calls t) (visit-begin-at t) reads.Post Inv-loop μ-loop → lts.After-open-begin (visit-begin-calls t) (visit-begin-at t) reads.Post Inv-loop μ-loop
+  abbrev entered : lts.At-loop (visit-begin-calls t) (visit-begin-at t) reads.Post Inv-loop μ-loop → lts.After-enter-defines (visit-begin-calls t) (visit-begin-at t) reads.Post Inv-loop μ-loop
   entered c = c .before
 
   abbrev counted : lts.At-loop (visit-begin-calls t) (visit-begin-at t) reads.Post Inv-loop μ-loop → lts.After-wide (visit-begin-calls t) (visit-begin-at t) reads.Post Inv-loop μ-loop
@@ -51,7 +51,7 @@ module _ (t : ℕ) where
       → Left x (c .loop .used) (counted c .wide .result - c .loop .i) (state c)
   now c x =
       let n = counted c .wide .ensures ∙ counted c .before .count .ensures in
-      c .loop .inv .3 _ _ _ _ _ x (all-left (begun c .pre .1 .1) n (entered c .open-begin .ensures) x)
+      c .loop .inv .3 _ _ _ _ _ x (all-left (begun c .pre .1 .1) n (entered c .enter-defines .ensures) x)
 
   more : (c : lts.In-loop (visit-begin-calls t) (visit-begin-at t) reads.Post Inv-loop μ-loop) → 0 < counted (c .before) .wide .result - c .before .loop .i
   more c = omega (arith, c .loop-test .taken)
@@ -78,17 +78,17 @@ module _ (t : ℕ) where
   pub wide-requires : lts.Need-wide-requires (visit-begin-calls t) (visit-begin-at t) reads.Post Inv-loop μ-loop
   wide-requires c κs = search needs
 
-  pub add-open-begin : lts.Need-add-open-begin (visit-begin-calls t) (visit-begin-at t) reads.Post Inv-loop μ-loop
-  add-open-begin c = search needs
+  pub add-enter-defines : lts.Need-add-enter-defines (visit-begin-calls t) (visit-begin-at t) reads.Post Inv-loop μ-loop
+  add-enter-defines c = search needs
 
-  pub slice-aggregate-open-begin : lts.Need-slice-aggregate-open-begin (visit-begin-calls t) (visit-begin-at t) reads.Post Inv-loop μ-loop
-  slice-aggregate-open-begin c = search needs
+  pub slice-aggregate-enter-defines : lts.Need-slice-aggregate-enter-defines (visit-begin-calls t) (visit-begin-at t) reads.Post Inv-loop μ-loop
+  slice-aggregate-enter-defines c = search needs
 
-  pub slice-aggregate-open-begin-2 : lts.Need-slice-aggregate-open-begin-2 (visit-begin-calls t) (visit-begin-at t) reads.Post Inv-loop μ-loop
-  slice-aggregate-open-begin-2 c = search needs
+  pub slice-aggregate-enter-defines-2 : lts.Need-slice-aggregate-enter-defines-2 (visit-begin-calls t) (visit-begin-at t) reads.Post Inv-loop μ-loop
+  slice-aggregate-enter-defines-2 c = search needs
 
-  pub open-begin-requires : lts.Need-open-begin-requires (visit-begin-calls t) (visit-begin-at t) reads.Post Inv-loop μ-loop
-  open-begin-requires c κs =
+  pub enter-defines-requires : lts.Need-enter-defines-requires (visit-begin-calls t) (visit-begin-at t) reads.Post Inv-loop μ-loop
+  enter-defines-requires c κs =
       let o = c .before .before .before .before .before .before .before .before .before in
       let w = c .before .before .before .before .before in
       children-fit {g = o .args .f} (o .pre .1 .1) (w .wide .ensures ∙ w .before .count .ensures) (o .pre .1 .0)

@@ -1,7 +1,7 @@
--- `open_begin`: `enter_children` of the pass that the table holds, and its answer is stored.
+-- `enter_defines`: `enter_children` of the pass that the table holds, and its answer is stored.
 use borrow.Author.Needs.{needs}
-use Rattle.registers.proofs.steps.open_begin.Statement.{statement}
-use Rattle.registers.proofs.steps.open_begin.Tie as tie
+use Rattle.registers.proofs.steps.enter_defines.Statement.{statement}
+use Rattle.registers.proofs.steps.enter_defines.Tie as tie
 
 load-requires : tie.Need-load-requires
 load-requires c κs = search needs
@@ -21,8 +21,8 @@ same-length-2 c = search needs
 returns : tie.Need-returns
 returns c = rw (c .store .ensures, ← c .before .before .before .before .before .before .before .before .before .load .ensures) (c .before .before .before .before .before .before .enter-children .ensures)
 
-pub open-begin-spec : {M : Type 1} → statement M
-open-begin-spec =
+pub enter-defines-spec : {M : Type 1} → statement M
+enter-defines-spec =
     tie.close
     (tie.spec
     load-requires
