@@ -67,19 +67,33 @@ impl Flags {
         }
     }
 
-    pub fn not_tail(mut self) -> Self
+    // This and the next name every field: a copy of the whole is loaded in wider words than it was just stored in, and waits for them.
+    pub fn not_tail(self) -> Self
         ensures { λ r. ⌜ r ≡ atPart NotTail self ⌝ }
     {
-        self.tail = false;
-        self.direct = false;
-        self
+        let function = self.function;
+        Flags {
+            height: self.height,
+            counter: self.counter,
+            function,
+            tail: false,
+            escape: self.escape,
+            direct: false,
+        }
     }
 
-    pub fn same_tail(mut self) -> Self
+    pub fn same_tail(self) -> Self
         ensures { λ r. ⌜ r ≡ atPart SameTail self ⌝ }
     {
-        self.direct = false;
-        self
+        let function = self.function;
+        Flags {
+            height: self.height,
+            counter: self.counter,
+            function,
+            tail: self.tail,
+            escape: self.escape,
+            direct: false,
+        }
     }
 
     fn let_body(mut self, k: u32) -> Self

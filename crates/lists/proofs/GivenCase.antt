@@ -87,8 +87,18 @@ module _ {rs : List ℕ} {n : Names} {p : Pass} {w : List ℕ} {x : ℕ} where
     pub offers-parameter : b ≡ true → Offers rs n p w [] x binder.Nothing
     offers-parameter e = searched binder.Nothing (record { is = λ s k. sym (ap (λ (c : Bool). recordIn (cond (not c) (capturedNewest (s .scope) x) none)) e) })
 
-    pub offers-other : b ≡ false → {q : Binder} → Tells p w (λ s. recordIn (capturedNewest (s .scope) x)) (recordOf q) → Offers rs n p w [] x q
-    offers-other e {q} t = searched q (record { is = λ s k. t .is s k ∙ sym (ap (λ (c : Bool). recordIn (cond (not c) (capturedNewest (s .scope) x) none)) e) })
+    pub offers-other : b ≡ false → {q r : Binder} → r ≡ q → Tells p w (λ s. recordIn (capturedNewest (s .scope) x)) (recordOf r) → Offers rs n p w [] x q
+    offers-other e {q} same t =
+        searched q (record { is = λ s k. ap recordOf (sym same) ∙ t .is s k ∙ sym (ap (λ (c : Bool). recordIn (cond (not c) (capturedNewest (s .scope) x) none)) e) })
+
+  -- no binder of the name is captured
+  pub offers-nothing : {q : Binder} → q ≡ binder.Nothing → Tells p w (λ s. recordIn (capturedNewest (s .scope) x)) (recordOf q)
+      → Offers rs n p w [] x binder.Nothing
+  offers-nothing e t = record { is = λ xs s k works idx. either (member x (map nameIn xs)) (capturedNewest (s .scope) x) (ap recordOf (sym e) ∙ t .is s works) }
+    where
+      either : (c : Bool) (o : Option Ident) → none ≡ recordIn o → none ≡ recordIn (cond (not c) o none)
+      either true o z = refl
+      either false o z = z
 
   module _ {a : List ℕ} {q : Binder} where
     -- the index has the name, or has not

@@ -42,15 +42,19 @@ fn captured_binder(p: Pass, work: &[u32], name: u32) -> Binder
     }
 }
 
-// What a name above the bottom layer gives to the list of a lambda with these parameters, by search.
+// What a name above the bottom layer gives to the list of a lambda with these parameters, by search. Few names are captured, so that is asked first.
 pub fn search(all: &[u32], names: Names, p: Pass, work: &[u32], name: u32) -> Binder
     requires { ⌜ SomeNames (now all) names × KnownHere (now all) p (now work) ⌝ }
     ensures { λ r. ⌜ Offers (now (all .entry)) names p (now (work .entry)) [] name r ⌝ }
 {
+    let found = captured_binder(p, work, name);
+    let Binder::At(b) = found else {
+        return Binder::Nothing;
+    };
     if holds(all, names, name) {
         return Binder::Nothing;
     }
-    captured_binder(p, work, name)
+    Binder::At(b)
 }
 
 // The binder that a number of the index stands for: its record counted from 1, or 0 for none.

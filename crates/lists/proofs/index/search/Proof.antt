@@ -1,26 +1,38 @@
 -- `search`.
 use borrow.Author.Needs.{needs}
-use Rattle.lists.proofs.GivenCase.{offers-parameter, offers-other}
+use Rattle.lists.proofs.GivenCase.{offers-nothing, offers-parameter, offers-other}
 use Rattle.lists.proofs.index.search.Statement.{statement}
 use Rattle.lists.proofs.index.search.Tie as tie
-
-holds-requires : tie.Need-holds-requires
-holds-requires c κs = search needs
-
-returns : tie.Need-returns
-returns c = offers-parameter (c .before .holds .ensures) (c .if1 .taken)
 
 captured-binder-requires : tie.Need-captured-binder-requires
 captured-binder-requires c κs = search needs
 
+enum-known-found : tie.Need-enum-known-found
+enum-known-found c = search needs
+
+enum-told : tie.Need-enum-told
+enum-told c = search needs
+
+returns : tie.Need-returns
+returns c = offers-nothing (c .enum-told .given .1) (c .before .before .captured-binder .ensures)
+
+holds-requires : tie.Need-holds-requires
+holds-requires c κs = search needs
+
 returns-2 : tie.Need-returns-2
-returns-2 c = offers-other (c .before .before .holds .ensures) (c .before .if1 .left) (c .captured-binder .ensures)
+returns-2 c = offers-parameter (c .before .holds .ensures) (c .if1 .taken)
+
+returns-3 : tie.Need-returns-3
+returns-3 c = offers-other (c .before .holds .ensures) (c .if1 .left) (c .before .before .before .found .given .1) (c .before .before .before .before .before .captured-binder .ensures)
 
 pub search-spec : {M : Type 1} → statement M
 search-spec =
     tie.close
     (tie.spec
-    holds-requires
-    returns
     captured-binder-requires
-    returns-2)
+    enum-known-found
+    enum-told
+    returns
+    holds-requires
+    returns-2
+    returns-3)
