@@ -6,9 +6,8 @@ use mathlib.Core.Option.{none}
 use mathlib.Core.Path.{_≡_, refl, ap, sym, _∙_}
 use native.Mathlib.Omega.{arith}
 use native.Mathlib.Decide.{decLe, decLt}
-use borrow.Author.Tests.{le-leb, lt-leb}
 use lib.ListN.{length, getElem?}
-use lib.Dec.{T, leb}
+use lib.Dec.{T}
 use Rattle.tree.specs.Record.{Record}
 use Rattle.tree.specs.Form.{Form, forms, formOf, namesOf, othersOf, childrenOf, fits}
 use Rattle.tree.specs.Field.{isForm}
@@ -42,10 +41,6 @@ pub is-form : (f : ℕ) → 1 ≤ f → f ≤ 9 → isForm (formOf f) ≡ true
 unfolding formOf
 is-form f h g = true-of _ (by-form (λ n. 1 ≤ n → n ≤ 9 → T (isForm (formOf n))) (omega arith) (λ n a b c. absurd (omega arith)) f h g)
 
-from-one : (f : ℕ) → 1 ≤ f → Dec (f ≤ 9) → leb f 9 ≡ isForm (formOf f)
-from-one f h (yes g) = le-leb f 9 g ∙ sym (is-form f h g)
-from-one f h (no g) = lt-leb f 9 (omega arith) ∙ sym (ap isForm (unknown f (omega arith)))
-
 at-most : (f : ℕ) → isForm (formOf f) ≡ true → Dec (f ≤ 9) → f ≤ 9
 at-most f e (yes g) = g
 at-most f e (no g) = absurd (true≢false (sym e ∙ ap isForm (unknown f (omega arith))))
@@ -58,17 +53,13 @@ unfolding formOf
 known-least zero e = absurd (true≢false (sym e))
 known-least (suc f) e = omega arith
 
-pub known : (f : ℕ) → 1 ≤ f → leb f 9 ≡ isForm (formOf f)
-known f h = from-one f h (decLe f 9)
-
-pub known-none : (f : ℕ) → f < 1 → leb 1 f ≡ isForm (formOf f)
-unfolding formOf
-known-none zero h = refl
-known-none (suc f) h = absurd (omega arith)
-
 pub few-children : (f c : ℕ) → childrenOf f c ≤ 2 * c + 3
 unfolding formOf namesOf othersOf childrenOf
 few-children f c = by-form (λ n. childrenOf n c ≤ 2 * c + 3) (omega arith) (λ n h. rw (unknown n h) (omega arith)) f
+
+pub more-children : (f : ℕ) → childrenOf f 0 ≤ childrenOf f 1
+unfolding formOf namesOf othersOf childrenOf
+more-children f = by-form (λ n. childrenOf n 0 ≤ childrenOf n 1) (omega arith) (λ n h. rw (unknown n h) (omega arith)) f
 
 -- a count of 32 bits gives no more
 pub children-at : {n f c g d : ℕ} → n ≡ childrenOf f c → f ≡ g → c ≡ d → c < 4294967296 → (n ≡ childrenOf g d) × (n ≤ 8589934593)
@@ -77,6 +68,10 @@ children-at {f = f} {c} e p q h = (e ∙ rw (p, q), omega (arith, e, few-childre
 pub few-names : (f c : ℕ) → namesOf f c ≤ c + 1
 unfolding formOf namesOf
 few-names f c = by-form (λ n. namesOf n c ≤ c + 1) (omega arith) (λ n h. rw (unknown n h) (omega arith)) f
+
+pub more-names : (f : ℕ) → namesOf f 0 ≤ namesOf f 1
+unfolding formOf namesOf
+more-names f = by-form (λ n. namesOf n 0 ≤ namesOf n 1) (omega arith) (λ n h. rw (unknown n h) (omega arith)) f
 
 counted-names : (f c : ℕ) → c ≤ mostIn (formOf f) → namesOf f c ≤ 255
 unfolding formOf namesOf

@@ -2,20 +2,45 @@
 use Prim.Native.Nat.{ℕ, zero, suc, _+_, _*_, _≤_, _<_}
 use mathlib.Core.List.{List}
 use mathlib.Core.Bool.{Bool, true, false, cond, _&&_, true≢false}
-use mathlib.Core.Path.{_≡_, refl, subst}
+use mathlib.Core.Option.{Option, none, some}
+use mathlib.Core.Path.{_≡_, refl, sym, ap, subst, _∙_}
 use native.Mathlib.Omega.{arith}
 use native.Mathlib.Decide.{ℕ-discrete}
-use borrow.Author.Tests.{leb-true, le-leb, ne-eqb}
-use lib.Dec.{eqb, leb}
+use borrow.Author.Tests.{leb-true, le-leb, lt-leb, ne-eqb}
+use lib.Dec.{eqb, leb, ltb}
 use Rattle.tree.specs.Record.{Record}
-use Rattle.tree.specs.Form.{formOf, namesOf, othersOf, childrenOf, idFits, fits}
-use Rattle.tree.specs.Field.{isForm, hasIdIn, nameBelowIn, countMostIn, dueMost, fits-known, fits-parts}
-use Rattle.tree.specs.Limits.{limits, limitOf, Between, partsAt, Within}
+use Rattle.tree.specs.Form.{Form, formOf, namesOf, othersOf, childrenOf, idFits, fitsAs, fits}
+use Rattle.tree.specs.Field.{isForm, fits-known}
+use Rattle.tree.specs.Limits.{limits, limitOf, Between, partsAt, Fields, Within}
 use Rattle.tree.specs.Clear.{Tells, Sound}
 use Rattle.tree.proofs.Table.{each}
 use Rattle.tree.proofs.Forms.{is-form, known-least, known-most, few-children, few-names}
-use Rattle.tree.proofs.Entries.{bit, as-bit}
-use Rattle.tree.proofs.Telling.{tells-no, tells-same, tells-itself, tells-le, tells-lt, tells-both}
+use Rattle.tree.proofs.Telling.{tells-no, tells-same, tells-alike, tells-itself, tells-le, tells-lt, tells-both}
+
+pub limit-at : (t : List (List ℕ)) (j : ℕ) {f g : ℕ} → f ≡ g → limitOf t f j ≡ limitOf t g j
+limit-at t j e = ap (λ (n : ℕ). limitOf t n j) e
+
+-- The parts of what a record's fields may be; an unknown form counts as one with no id, no name and no count
+
+abbrev hasIdIn : Option Form → Bool
+hasIdIn none = false
+hasIdIn (some f) = f .hasId
+
+abbrev nameBelowIn : Option Form → ℕ → ℕ
+nameBelowIn none N = 1
+nameBelowIn (some f) N = f .nameBelow N
+
+abbrev countMostIn : Option Form → ℕ
+countMostIn none = 0
+countMostIn (some f) = f .countMost
+
+parts : (N : ℕ) (r : Record) (o : Option Form) → fitsAs N r o ≡ isForm o && (idFits (hasIdIn o) (r .id) && (ltb (r .name) (nameBelowIn o N) && leb (r .count) (countMostIn o)))
+parts N r none = refl
+parts N r (some f) = refl
+
+-- how many names may be due where a record of form f stands: none but an identifier takes a name's place, and a record has 255 names at the most
+unfoldable dueMost : ℕ → ℕ
+dueMost f = cond (eqb f 1) 255 0
 
 -- what the limits of form f are
 record Row (N f : ℕ) : Type 0 where
@@ -46,12 +71,24 @@ id-form : (N i f : ℕ) → f ≤ 9 → Between (limits N) f 0 i → 1 ≤ f
 unfolding limits
 id-form N i f h = each (λ n. Between (limits N) n 0 i → 1 ≤ n) 10 (omega arith) f (omega arith)
 
+abbrev bit : Bool → ℕ
+bit true = 1
+bit false = 0
+
 -- what those of the id are
 id-of : (N f : ℕ) → 1 ≤ f → f ≤ 9 → let b = bit (hasIdIn (formOf f)) in (limitOf (limits N) f 0 ≡ b) × (limitOf (limits N) f 1 ≡ b * 4294967294)
 unfolding limits formOf
 id-of N f g h =
     each (λ n. 1 ≤ n → (limitOf (limits N) n 0 ≡ bit (hasIdIn (formOf n))) × (limitOf (limits N) n 1 ≡ bit (hasIdIn (formOf n)) * 4294967294)) 10 (omega arith)
     f (omega arith) g
+
+zero-only : (i : ℕ) → leb i 0 ≡ eqb i 0
+zero-only zero = refl
+zero-only (suc i) = lt-leb (suc i) 0 (omega arith) ∙ sym (ne-eqb (suc i) 0 (λ e. omega arith))
+
+as-bit : (b : Bool) (i : ℕ) → leb (bit b) i && leb i (bit b * 4294967294) ≡ idFits b i
+as-bit true i = refl
+as-bit false i = rw (le-leb 0 i (omega arith)) (zero-only i)
 
 tells-id : (N f i : ℕ) → 1 ≤ f → f ≤ 9 → Tells (idFits (hasIdIn (formOf f)) i) (Between (limits N) f 0 i)
 tells-id N f i g h =
@@ -62,12 +99,26 @@ tells-id N f i g h =
     (λ u. rw (l .0, l .1) u) (λ u. rw (l .0, l .1) at u))
 
 -- a record fits if its form is known, and the fields are within the form's limits, but for the least count
-module _ (N : ℕ) (r : Record) (g : 1 ≤ r .form) (h : r .form ≤ 9) where
-  tells-fit : Tells (fits N r) ((isForm (formOf (r .form)) ≡ true) × ((Between (limits N) (r .form) 0 (r .id) × (r .name < limitOf (limits N) (r .form) 4)) × (r .count ≤ limitOf (limits N) (r .form) 3)))
-  tells-fit =
+module _ (N : ℕ) (r : Record) where
+  tells-parts : 1 ≤ r .form → r .form ≤ 9 → Tells (fits N r) ((isForm (formOf (r .form)) ≡ true) × (Between (limits N) (r .form) 0 (r .id) × ((r .name < limitOf (limits N) (r .form) 4) × (r .count ≤ limitOf (limits N) (r .form) 3))))
+  unfolding fits
+  tells-parts g h =
       let o = formOf (r .form) in
-      rw (fits-parts N r, row-of N (r .form) h .below, row-of N (r .form) h .most)
-      (tells-both (tells-itself (isForm o)) (tells-both (tells-both (tells-id N (r .form) (r .id) g h) (tells-lt (r .name) (nameBelowIn o N))) (tells-le (r .count) (countMostIn o))))
+      rw (parts N r o, row-of N (r .form) h .below, row-of N (r .form) h .most)
+      (tells-both (tells-itself (isForm o)) (tells-both (tells-id N (r .form) (r .id) g h) (tells-both (tells-lt (r .name) (nameBelowIn o N)) (tells-le (r .count) (countMostIn o)))))
+
+  fit-fields : fits N r ≡ true → Fields (limits N) r
+  fit-fields e =
+      let k = fits-known N r e in
+      let h = known-most (r .form) k in
+      let f = tells-parts (known-least (r .form) k) h .yes e in
+      record { known = h; id = f .1 .0; most = f .1 .1 .1; name = f .1 .1 .0 }
+
+  fields-fit : Fields (limits N) r → fits N r ≡ true
+  fields-fit w =
+      let h = w .known in
+      let g = id-form N (r .id) (r .form) h (w .id) in
+      tells-parts g h .all (is-form (r .form) g h, (w .id, (w .name, w .most)))
 
 -- an empty call has fewer than its least
 tells-called : (b : Bool) (c : ℕ) → Tells (leb (cond b 1 0) c) (b && eqb c 0 ≡ false)
@@ -91,44 +142,40 @@ module _ (f due : ℕ) (h : due ≤ 255) where
 module _ (N : ℕ) (r : Record) (due : ℕ) (few : due ≤ 255) where
   within-sound : Within (limits N) r due → Sound N r due
   within-sound w =
-      let h = w .known in
-      let g = id-form N (r .id) (r .form) h (w .id) in
-      let o = row-of N (r .form) h in
+      let o = row-of N (r .form) (w .fields .known) in
       record {
-        fit = tells-fit N r g h .all (is-form (r .form) g h, ((w .id, w .name), w .count .1));
-        called = tells-called (eqb (r .form) 8) (r .count) .yes (le-leb _ _ (rw (o .least) at (w .count .0)));
+        fit = fields-fit N r (w .fields);
+        called = tells-called (eqb (r .form) 8) (r .count) .yes (le-leb _ _ (rw (o .least) at (w .least)));
         named = tells-named (r .form) due few .yes (le-leb _ _ (rw (o .due) at (w .few)));
       }
 
   sound-within : Sound N r due → Within (limits N) r due
   sound-within s =
-      let k = fits-known N r (s .fit) in
-      let h = known-most (r .form) k in
-      let g = known-least (r .form) k in
-      let o = row-of N (r .form) h in
-      let f = tells-fit N r g h .yes (s .fit) in
+      let f = fit-fields N r (s .fit) in
+      let o = row-of N (r .form) (f .known) in
       record {
-        known = h;
-        id = f .1 .0 .0;
-        count = (rw (o .least) (leb-true _ _ (tells-called (eqb (r .form) 8) (r .count) .all (s .called))), f .1 .1);
-        name = f .1 .0 .1;
+        fields = f;
+        least = rw (o .least) (leb-true _ _ (tells-called (eqb (r .form) 8) (r .count) .all (s .called)));
         few = rw (o .due) (leb-true _ _ (tells-named (r .form) due few .all (s .named)));
       }
 
 -- the same of any list that is the limits
-module _ (N : ℕ) {t : List (List ℕ)} (e : t ≡ limits N) (r : Record) {due : ℕ} where
-  pub tells-sound : due ≤ 255 → {b : Bool} → Tells b (Within t r due) → Tells b (Sound N r due)
-  tells-sound h u = tells-same u (λ w. within-sound N r due h (rw e at w)) (λ s. rw e (sound-within N r due h s))
+module _ (N : ℕ) {t : List (List ℕ)} (e : t ≡ limits N) (r : Record) where
+  pub fit-told : {b : Bool} → Tells b (Fields t r) → b ≡ fits N r
+  fit-told {b} u = tells-alike b (fits N r) u (tells-same (tells-itself (fits N r)) (λ f. rw e (fit-fields N r f)) (λ w. fields-fit N r (rw e at w)))
 
-  module _ (w : Within t r due) where
+  pub tells-sound : {due : ℕ} → due ≤ 255 → {b : Bool} → Tells b (Within t r due) → Tells b (Sound N r due)
+  tells-sound {due} h u = tells-same u (λ w. within-sound N r due h (rw e at w)) (λ s. rw e (sound-within N r due h s))
+
+  module _ {due : ℕ} (w : Within t r due) where
     pub names-at : partsAt t r 6 ≡ namesOf (r .form) (r .count)
-    names-at = rw e (parts-of N (r .count) (r .form) (w .known) .names)
+    names-at = rw e (parts-of N (r .count) (r .form) (w .fields .known) .names)
 
     pub children-at : partsAt t r 8 ≡ childrenOf (r .form) (r .count)
-    children-at = rw e (parts-of N (r .count) (r .form) (w .known) .children)
+    children-at = rw e (parts-of N (r .count) (r .form) (w .fields .known) .children)
 
     counted : r .count ≤ 255
-    counted = let k = rw e at (w .count .1) in omega (arith, count-few N (r .form) (w .known))
+    counted = let k = rw e at (w .fields .most) in omega (arith, count-few N (r .form) (w .fields .known))
 
     pub names-few : partsAt t r 6 ≤ 256
     names-few = omega (arith, names-at, few-names (r .form) (r .count), counted)

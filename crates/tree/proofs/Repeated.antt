@@ -43,13 +43,14 @@ module _ {rs : List ℕ} {i : ℕ} (a : Compared rs i) where
     at-record : repeated [] (records rs) ≡ on i (repeated (seen rs i) (nth rs i ∷ drop (suc i) (records rs)))
     at-record = a .rest ∙ ap (λ (l : List Record). on i (repeated (seen rs i) l)) (drop-cons (records rs) i blank h)
 
-    pub ids-hit : again rs i ≡ true → some i ≡ repeated [] (records rs)
+    pub ids-hit : {r : Bool} → r ≡ again rs i → r ≡ true → some i ≡ repeated [] (records rs)
     unfolding repeated
-    ids-hit t = sym (at-record ∙ rw t (ap some (omega arith)))
+    ids-hit e g = let t = sym e ∙ g in sym (at-record ∙ rw t (ap some (omega arith)))
 
-    pub ids-next : again rs i ≡ false → Compared rs (i + 1)
+    pub ids-next : {r : Bool} → r ≡ again rs i → r ≡ false → Compared rs (i + 1)
     unfolding repeated
-    ids-next t =
+    ids-next e g =
+        let t = sym e ∙ g in
         let z : i + 1 ≡ suc i = omega arith in
         let later = repeated (nth rs i .id ∷ seen rs i) (drop (suc i) (records rs)) in
         record { within = omega arith; rest = at-record ∙ rw (t, z) (on-on i 1 later ∙ ap (λ (k : ℕ). on k later) z) }

@@ -16,6 +16,12 @@ tells-without u z f = tells-no (λ q. true≢false (sym (u .all (f q)) ∙ z))
 pub tells-same : {P Q : Type 0} {b : Bool} → Tells b P → (P → Q) → (Q → P) → Tells b Q
 tells-same u f g = record { yes = λ t. f (u .yes t); all = λ q. u .all (g q) }
 
+-- two answers that tell the same are the same
+pub tells-alike : {P : Type 0} (a b : Bool) → Tells a P → Tells b P → a ≡ b
+tells-alike true b u v = sym (v .all (u .yes refl))
+tells-alike false true u v = u .all (v .yes refl)
+tells-alike false false u v = refl
+
 pub tells-itself : (b : Bool) → Tells b (b ≡ true)
 tells-itself b = record { yes = λ t. t; all = λ t. t }
 

@@ -9,35 +9,37 @@ use Rattle.tree.specs.RecordLaws.{nth}
 use Rattle.tree.specs.Check.{member}
 use Rattle.tree.specs.Seen.{seen}
 
--- any function of the id below 4,096 is right; this one spreads ids that have a common factor
-unfoldable pub bucketOf : ℕ → ℕ
-bucketOf id = id * 2654435761 / 1048576 % 4096
+-- of n buckets: any function of the id below n is right; this one spreads ids that have a common factor
+unfoldable pub bucketOf : ℕ → ℕ → ℕ
+bucketOf n id = id * 2654435761 / 1048576 % n
 
 -- record k has an id of bucket b; 0 is none
-pub record InBucket (rs : List ℕ) (b k : ℕ) : Type 0 where
+pub record InBucket (n : ℕ) (rs : List ℕ) (b k : ℕ) : Type 0 where
   pub given : nth rs k .id ≡ 0 → ⊥
-  pub bucket : bucketOf (nth rs k .id) ≡ b
+  pub bucket : bucketOf n (nth rs k .id) ≡ b
 
 -- p is the link to the newest of the first i records that has an id of bucket b: every id of the bucket that stands among the first i
 -- stands among the first p
-pub record Newest (rs : List ℕ) (b i p : ℕ) : Type 0 where
+pub record Newest (n : ℕ) (rs : List ℕ) (b i p : ℕ) : Type 0 where
   pub within : p ≤ i
-  pub last : 0 < p → InBucket rs b (p - 1)
-  pub all : (id : ℕ) → (id ≡ 0 → ⊥) → bucketOf id ≡ b → member id (seen rs i) ≡ member id (seen rs p)
+  pub last : 0 < p → InBucket n rs b (p - 1)
+  pub all : (id : ℕ) → (id ≡ 0 → ⊥) → bucketOf n id ≡ b → member id (seen rs i) ≡ member id (seen rs p)
 
 -- by record: the link to the newest earlier one of its bucket
-abbrev pub Linked : List ℕ → List ℕ → ℕ → Type 0
-Linked rs before i = (b k : ℕ) → k < i → InBucket rs b k → Newest rs b k (getD before k 0)
+abbrev pub Linked : ℕ → List ℕ → List ℕ → ℕ → Type 0
+Linked n rs before i = (b k : ℕ) → k < i → InBucket n rs b k → Newest n rs b k (getD before k 0)
 
--- a walk along the chain of bucket b has come to the link p
-pub record Chain (rs before : List ℕ) (b p : ℕ) : Type 0 where
+-- a walk along the chain of the id's bucket, of however many, has come to the link p
+pub record Chain (rs before : List ℕ) (id p : ℕ) : Type 0 where
+  pub buckets : ℕ
   pub within : p ≤ length (records rs)
-  pub last : 0 < p → InBucket rs b (p - 1)
-  pub links : Linked rs before p
+  pub places : length (records rs) ≤ length before
+  pub last : 0 < p → InBucket buckets rs (bucketOf buckets id) (p - 1)
+  pub links : Linked buckets rs before p
 
--- the first i records are chained, in tables of 4,096 links; by bucket: the link to the newest of it
+-- the first i records are chained, in a table of a link for each bucket, to the newest of it, and one of a link for each record
 pub record Chains (rs newest before : List ℕ) (i : ℕ) : Type 0 where
-  pub buckets : length newest ≡ 4096
-  pub places : length before ≡ 4096
-  pub heads : (b : ℕ) → Newest rs b i (getD newest b 0)
-  pub links : Linked rs before i
+  pub buckets : 0 < length newest
+  pub places : length (records rs) ≤ length before
+  pub heads : (b : ℕ) → Newest (length newest) rs b i (getD newest b 0)
+  pub links : Linked (length newest) rs before i

@@ -1,10 +1,17 @@
 -- The table of forms as rows of ten numbers, for the forms 0 to 9: the least and the most id, the least and the most count, what the name
 -- stays below, how many names may be due; the names among the children, how many of every record and for each one counted; the children
 -- alike. No id is within the limits of form 0.
-use Prim.Native.Nat.{ℕ, _+_, _*_, _≤_, _<_}
+use Prim.Native.Nat.{ℕ, _+_, _-_, _*_, _≤_, _<_}
 use mathlib.Core.List.{List, [], _∷_}
 use lib.ListN.{getD}
 use Rattle.tree.specs.Record.{Record}
+use Rattle.tree.specs.Form.{namesOf, childrenOf}
+
+-- the row of form f, with the limits l of its fields
+unfoldable pub rowOf : ℕ → List ℕ → List ℕ
+rowOf f l =
+    getD l 0 0 ∷ getD l 1 0 ∷ getD l 2 0 ∷ getD l 3 0 ∷ getD l 4 0 ∷ getD l 5 0
+    ∷ namesOf f 0 ∷ (namesOf f 1 - namesOf f 0) ∷ childrenOf f 0 ∷ (childrenOf f 1 - childrenOf f 0) ∷ []
 
 -- N is the number of names
 unfoldable pub limits : ℕ → List (List ℕ)
@@ -33,10 +40,15 @@ Between t f j x = (limitOf t f j ≤ x) × (x ≤ limitOf t f (j + 1))
 abbrev pub partsAt : List (List ℕ) → Record → ℕ → ℕ
 partsAt t r j = limitOf t (r .form) j + limitOf t (r .form) (j + 1) * r .count
 
--- the record r is within its form's limits, where so many names are due
-pub record Within (t : List (List ℕ)) (r : Record) (due : ℕ) : Type 0 where
+-- the fields of the record r are within its form's limits, but for the least count
+pub record Fields (t : List (List ℕ)) (r : Record) : Type 0 where
   pub known : r .form ≤ 9
   pub id : Between t (r .form) 0 (r .id)
-  pub count : Between t (r .form) 2 (r .count)
+  pub most : r .count ≤ limitOf t (r .form) 3
   pub name : r .name < limitOf t (r .form) 4
+
+-- the record r is within its form's limits, where so many names are due
+pub record Within (t : List (List ℕ)) (r : Record) (due : ℕ) : Type 0 where
+  pub fields : Fields t r
+  pub least : limitOf t (r .form) 2 ≤ r .count
   pub few : due ≤ limitOf t (r .form) 5

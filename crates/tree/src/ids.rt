@@ -16,17 +16,19 @@ use crate::record;
 use crate::scan::Found;
 use table::wide;
 
-const BUCKETS: usize = 4096;
+// Trees of at most this many records have tables of as many links: to clear those of 4096 would be a third of the whole pass at 30 records.
+const FEW: usize = 512;
 
 // A prime near 2^32 by the golden ratio.
 const MULTIPLIER: usize = 2654435761;
 
-// Bits 20 to 31 of the product, which spread ids that have a common factor too.
-fn bucket(id: u32) -> usize
-    ensures { λ r. ⌜ r ≡ bucketOf id ⌝ }
-    ensures few { λ r. ⌜ r < 4096 ⌝ }
+// The product from bit 20 on: those bits spread ids that have a common factor too.
+fn bucket(id: u32, buckets: usize) -> usize
+    requires { ⌜ 0 < buckets ⌝ }
+    ensures { λ r. ⌜ r ≡ bucketOf buckets id ⌝ }
+    ensures few { λ r. ⌜ r < buckets ⌝ }
 {
-    wide(id) * MULTIPLIER / 1048576 % BUCKETS
+    wide(id) * MULTIPLIER / 1048576 % buckets
 }
 
 // A link: a record counted from 1. 0 ends a chain.
@@ -37,10 +39,9 @@ fn link(x: u16) -> usize
 }
 
 // Whether the id stands among the first `last` records, of which the last is of the id's bucket: along the chain, newest first.
-fn stands(rs: &[u32], before: &[u16; MOST_RECORDS], last: usize, id: u32) -> bool
-    requires { ⌜ length (records (now rs)) ≤ 4096 ⌝ }
+fn stands(rs: &[u32], before: &[u16], last: usize, id: u32) -> bool
     requires { ⌜ (id ≡ 0 → ⊥) ⌝ }
-    requires { ⌜ Chain (now rs) (now before) (bucketOf id) last ⌝ }
+    requires { ⌜ Chain (now rs) (now before) id last ⌝ }
     ensures { λ r. ⌜ r ≡ member id (seen (now (rs .entry)) last) ⌝ }
 {
     let mut p = last;
@@ -55,12 +56,7 @@ fn stands(rs: &[u32], before: &[u16; MOST_RECORDS], last: usize, id: u32) -> boo
 }
 
 // Whether record i repeats an earlier id; 0 is none. If not, it becomes the newest of its bucket.
-fn repeats(
-    rs: &[u32],
-    i: usize,
-    newest: &mut [u16; BUCKETS],
-    before: &mut [u16; MOST_RECORDS],
-) -> bool
+fn repeats(rs: &[u32], i: usize, newest: &mut [u16], before: &mut [u16]) -> bool
     requires { ⌜ length (records (now rs)) ≤ 4096 ⌝ }
     requires { ⌜ i < length (records (now rs)) ⌝ }
     requires { ⌜ Chains (now rs) (now newest) (now before) i ⌝ }
@@ -71,7 +67,7 @@ fn repeats(
     if id == 0 {
         return false;
     }
-    let b = bucket(id);
+    let b = bucket(id, newest.len());
     let last = newest[b];
     if stands(rs, before, link(last), id) {
         return true;
@@ -81,21 +77,48 @@ fn repeats(
     false
 }
 
-// 8: an id used twice, at the record that repeats an earlier one.
-pub fn repeated_id(rs: &[u32]) -> Found
+// 8, in tables of no links: by bucket, the link to its newest record; by record, the link to the one before it in its bucket.
+fn repeated_in(rs: &[u32], newest: &mut [u16], before: &mut [u16]) -> Found
     requires { ⌜ length (records (now rs)) ≤ 4096 ⌝ }
+    requires { ⌜ Chains (now rs) (now newest) (now before) 0 ⌝ }
     ensures { λ r. ⌜ foundOf r ≡ repeated [] (records (now (rs .entry))) ⌝ }
 {
     let n = record::len(rs);
-    // by bucket, the link to its newest record; by record, the link to the one before it in its bucket
-    let mut newest = [0u16; BUCKETS];
-    let mut before = [0u16; MOST_RECORDS];
     let mut i = 0;
     while i < n {
-        if repeats(rs, i, &mut newest, &mut before) {
+        if repeats(rs, i, newest, before) {
             return Found::At(i);
         }
         i += 1;
     }
     Found::Nothing
+}
+
+fn repeated_few(rs: &[u32]) -> Found
+    requires { ⌜ length (records (now rs)) ≤ 512 ⌝ }
+    ensures { λ r. ⌜ foundOf r ≡ repeated [] (records (now (rs .entry))) ⌝ }
+{
+    let mut newest = [0u16; FEW];
+    let mut before = [0u16; FEW];
+    repeated_in(rs, &mut newest, &mut before)
+}
+
+fn repeated_many(rs: &[u32]) -> Found
+    requires { ⌜ length (records (now rs)) ≤ 4096 ⌝ }
+    ensures { λ r. ⌜ foundOf r ≡ repeated [] (records (now (rs .entry))) ⌝ }
+{
+    let mut newest = [0u16; MOST_RECORDS];
+    let mut before = [0u16; MOST_RECORDS];
+    repeated_in(rs, &mut newest, &mut before)
+}
+
+// 8: an id used twice, at the record that repeats an earlier one.
+pub fn repeated_id(rs: &[u32]) -> Found
+    requires { ⌜ length (records (now rs)) ≤ 4096 ⌝ }
+    ensures { λ r. ⌜ foundOf r ≡ repeated [] (records (now (rs .entry))) ⌝ }
+{
+    if record::len(rs) <= FEW {
+        return repeated_few(rs);
+    }
+    repeated_many(rs)
 }

@@ -6,10 +6,10 @@ ghost use lib.Dec.{eqb};
 ghost use lib.ListN.{length};
 ghost use Rattle.tree.specs.Record.{records};
 ghost use Rattle.tree.specs.RecordLaws.{nth};
-ghost use Rattle.tree.specs.Form.{fits};
 ghost use Rattle.tree.specs.Check.{check3, check4, check6, check7};
 ghost use Rattle.tree.specs.Found.{foundOf};
 use crate::form;
+use crate::limits;
 use crate::record;
 
 // The record that a check applies to first.
@@ -18,28 +18,15 @@ pub enum Found {
     Nothing,
 }
 
-pub fn fit(rs: &[u32], i: usize, names: usize) -> bool
-    requires { ⌜ i < length (records (now rs)) ⌝ }
-    ensures { λ r. ⌜ r ≡ fits names (nth (now (rs .entry)) i) ⌝ }
-{
-    let f = record::form(rs, i);
-    if !form::known(f) {
-        return false;
-    }
-    if !form::id_and_name_fit(f, record::id(rs, i), record::name(rs, i), names) {
-        return false;
-    }
-    form::count_fits(f, record::count(rs, i))
-}
-
 // 3: a field outside the table.
 pub fn field_outside(rs: &[u32], names: usize) -> Found
     ensures { λ r. ⌜ foundOf r ≡ check3 names (now (rs .entry)) ⌝ }
 {
     let n = record::len(rs);
+    let t = limits::all(names);
     let mut i = 0;
     while i < n {
-        if !fit(rs, i, names) {
+        if !limits::fit(&t, rs, i) {
             return Found::At(i);
         }
         i += 1;

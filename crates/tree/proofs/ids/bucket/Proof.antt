@@ -1,6 +1,6 @@
 -- `bucket`: the product fits, and a remainder is below its divisor.
 use borrow.Author.Needs.{needs}
-use native.Mathlib.Omega.{arith}
+use native.Mathlib.Nat.{mod-lt}
 use mathlib.Core.Path.{ap}
 use Rattle.tree.specs.Chain.{bucketOf}
 use Rattle.tree.proofs.ids.bucket.Statement.{statement}
@@ -12,9 +12,12 @@ wide-requires c κs = search needs
 mul-result : tie.Need-mul-result
 mul-result c = search needs
 
+rem-result : tie.Need-rem-result
+rem-result c = search needs
+
 returns : tie.Need-returns
 unfolding bucketOf
-returns c = (ap bucketOf (c .wide .ensures), omega arith)
+returns c = (ap (bucketOf _) (c .wide .ensures), mod-lt _ (c .before .pre))
 
 pub bucket-spec : {M : Type 1} → statement M
-bucket-spec = tie.close (tie.spec wide-requires mul-result returns)
+bucket-spec = tie.close (tie.spec wide-requires mul-result rem-result returns)

@@ -5,20 +5,20 @@ use Prim.Native.Nat.{suc, _-_}
 use mathlib.Core.Path.{_≡_, refl, sym, _∙_}
 use Rattle.tree.specs.Check.{member}
 use Rattle.tree.specs.Seen.{seen}
-use Rattle.tree.specs.Chain.{bucketOf, Chain}
+use Rattle.tree.specs.Chain.{Chain}
 use Rattle.tree.proofs.Repeated.{seen-hit, seen-none}
 use Rattle.tree.proofs.Chaining.{chain-less, chain-next, chain-miss}
 use Rattle.tree.proofs.ids.stands.Statement.{statement}
 use Rattle.tree.proofs.ids.stands.Tie as tie
 
 abbrev Inv-loop : tie.InvT-loop
-Inv-loop rs before last id p₀ p = Chain rs before (bucketOf id) p × (member id (seen rs last) ≡ member id (seen rs p))
+Inv-loop rs before last id p₀ p = Chain rs before id p × (member id (seen rs last) ≡ member id (seen rs p))
 
 abbrev μ-loop : tie.MeasureT-loop
 μ-loop rs before last id p₀ p = p
 
 loop-holds : tie.Need-loop-holds Inv-loop μ-loop
-loop-holds c = (c .before .pre .1 .1, refl)
+loop-holds c = (c .before .before .pre .1, refl)
 
 sub-p : tie.Need-sub-p Inv-loop μ-loop
 sub-p c = search needs
@@ -35,8 +35,8 @@ returns c =
 mul-link : tie.Need-mul-link Inv-loop μ-loop
 mul-link c = omega arith
 
-element-copy-out-link : tie.Need-element-copy-out-link Inv-loop μ-loop
-element-copy-out-link c = omega arith
+shared-slice-read-link : tie.Need-shared-slice-read-link Inv-loop μ-loop
+shared-slice-read-link c = omega arith
 
 link-requires : tie.Need-link-requires Inv-loop μ-loop
 link-requires c κs = search needs
@@ -51,7 +51,7 @@ loop-again c =
     let h = t .loop-test .taken in
     let e = c .link .ensures in (
       chain-next (l .inv .0) h e,
-      l .inv .1 ∙ chain-miss (l .inv .0) h e _ (t .before .before .before .pre .1 .0) refl (λ m. c .before .before .if1 .left (c .before .before .before .id .ensures ∙ m)),
+      l .inv .1 ∙ chain-miss (l .inv .0) h e (t .before .before .before .before .pre .0) (λ m. c .before .before .if1 .left (c .before .before .before .id .ensures ∙ m)),
     )
 
 returns-2 : tie.Need-returns-2 Inv-loop μ-loop
@@ -71,7 +71,7 @@ stands-spec =
     id-requires
     returns
     mul-link
-    element-copy-out-link
+    shared-slice-read-link
     link-requires
     loop-less
     loop-again

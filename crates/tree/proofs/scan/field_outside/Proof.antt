@@ -3,22 +3,28 @@ use borrow.Author.Needs.{needs}
 use native.Mathlib.Omega.{arith}
 use Prim.Native.Nat.{_-_}
 use mathlib.Core.Bool.{not}
-use mathlib.Core.Path.{sym, ap, _∙_}
+use mathlib.Core.Path.{_≡_, sym, ap, _∙_}
 use lib.ListN.{length}
 use Rattle.tree.specs.Record.{records}
+use Rattle.tree.specs.RecordLaws.{nth}
+use Rattle.tree.specs.Form.{fits}
 use Rattle.tree.specs.Check.{check3}
+use Rattle.tree.proofs.Limiting.{fit-told}
 use Rattle.tree.proofs.Search.{outside, At, begin, hit, next, end}
 use Rattle.tree.proofs.scan.field_outside.Statement.{statement}
 use Rattle.tree.proofs.scan.field_outside.Tie as tie
 
 abbrev Inv-loop : tie.InvT-loop
-Inv-loop rs names n i₀ i = At (outside names) rs i
+Inv-loop rs names n t i₀ i = At (outside names) rs i
 
 abbrev μ-loop : tie.MeasureT-loop
-μ-loop rs names n i₀ i = length (records rs) - i
+μ-loop rs names n t i₀ i = length (records rs) - i
 
 len-requires : tie.Need-len-requires Inv-loop μ-loop
 len-requires c κs = search needs
+
+all-requires : tie.Need-all-requires Inv-loop μ-loop
+all-requires c κs = search needs
 
 loop-holds : tie.Need-loop-holds Inv-loop μ-loop
 loop-holds c = begin _ _
@@ -26,9 +32,12 @@ loop-holds c = begin _ _
 fit-requires : tie.Need-fit-requires Inv-loop μ-loop
 fit-requires c κs = omega arith
 
+told : (c : tie.After-fit Inv-loop μ-loop) → let l = c .before .before .before in let s = l .before .before .before .before in c .fit .result ≡ fits (s .args .names) (nth (s .args .rs .now) (l .loop .i))
+told c = let l = c .before .before .before in fit-told _ (l .before .all .ensures) _ (c .fit .ensures)
+
 returns : tie.Need-returns Inv-loop μ-loop
 unfolding check3
-returns c = hit _ _ (c .before .before .before .loop .inv) (omega arith) (ap not (sym (c .before .fit .ensures)) ∙ c .if1 .taken)
+returns c = hit _ _ (c .before .before .before .before .loop .inv) (omega arith) (ap not (sym (told (c .before))) ∙ c .if1 .taken)
 
 add-i : tie.Need-add-i Inv-loop μ-loop
 add-i c = omega arith
@@ -37,7 +46,7 @@ loop-less : tie.Need-loop-less Inv-loop μ-loop
 loop-less c = omega arith
 
 loop-again : tie.Need-loop-again Inv-loop μ-loop
-loop-again c = next _ _ (c .before .before .before .loop .inv) (omega arith) (ap not (sym (c .before .fit .ensures)) ∙ c .if1 .left)
+loop-again c = next _ _ (c .before .before .before .before .loop .inv) (omega arith) (ap not (sym (told (c .before))) ∙ c .if1 .left)
 
 returns-2 : tie.Need-returns-2 Inv-loop μ-loop
 unfolding check3
@@ -50,6 +59,7 @@ field-outside-spec =
     Inv-loop
     μ-loop
     len-requires
+    all-requires
     loop-holds
     fit-requires
     returns

@@ -50,7 +50,7 @@ parts-requires : tie.Need-parts-requires Inv-loop μ-loop
 parts-requires c κs =
     let e = c .before .before in
     let f = fit e in
-    (omega arith, (f .known, (omega arith, omega (arith, names-few _ (e .before .before .before .before .before .all .ensures) _ f))))
+    (omega arith, (f .fields .known, (omega arith, omega (arith, names-few _ (e .before .before .before .before .before .all .ensures) _ f))))
 
 add-due : tie.Need-add-due Inv-loop μ-loop
 add-due c =
@@ -68,7 +68,7 @@ parts-requires-2 : tie.Need-parts-requires-2 Inv-loop μ-loop
 parts-requires-2 c κs =
     let e = c .before .before .before .before .before .before .before .before in
     let f = fit e in
-    (omega arith, (f .known, (omega arith, omega (arith, children-few _ (e .before .before .before .before .before .all .ensures) _ f))))
+    (omega arith, (f .fields .known, (omega arith, omega (arith, children-few _ (e .before .before .before .before .before .all .ensures) _ f))))
 
 step-requires : tie.Need-step-requires Inv-loop μ-loop
 step-requires c κs =
