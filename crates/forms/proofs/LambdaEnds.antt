@@ -33,7 +33,7 @@ use Rattle.work.specs.Leaves.{Becomes}
 use Rattle.work.specs.Tied.{raw, Tied, Good}
 use Rattle.work.specs.declared.Pass.{Pass}
 use Rattle.walk.specs.declared.uses.Names.{Names}
-use Rattle.lists.specs.Contract.{Told, Inside, Body, Ended, Named, HeldNamed, amendedList, AmendsList, StoresList}
+use Rattle.lists.specs.Contract.{Told, Inside, Body, Ended, Held, amendedList, AmendsList, StoresList}
 use Rattle.lists.specs.declared.amend.Ending.{Ending}
 use Rattle.forms.specs.Contract.{Fits, LambdaEnds, LeavesLambda}
 use Rattle.forms.specs.FitsLaws.{Sized, sized-same, sized-then, sized-amend, sized-last, fact-inside, tied-insert, told, good-each}
@@ -237,7 +237,7 @@ module _ {rs : List ℕ} {at : ℕ} (d : Ending) {v : FoundFunction} {p : Pass} 
     pub lists-made : {c l : Entries} → c ≡ entriesBetween (p .«captured_top») (b .«captured_top») → l ≡ entriesBetween (p .«arguments_top») (b .«arguments_top»)
         → EndsLists rs at d v p C A w (record { pass = b; captured = c; arguments = l }) C′ A′ w′
     lists-made ec el = record {
-      is = λ F s xs body t y f n.
+      is = λ F s xs body t y f.
           let top = tops t f in
           let i : b .«captured_top» - p .«captured_top» ≡ length (madeList xs s) = omega (arith, top .0) in
           let j : b .«arguments_top» - p .«arguments_top» ≡ length (layerList s) = omega (arith, top .1) in
@@ -251,18 +251,18 @@ module _ {rs : List ℕ} {at : ℕ} (d : Ending) {v : FoundFunction} {p : Pass} 
 -- or the captured one is amended
 
 module _ {rs : List ℕ} {at : ℕ} {d : Ending} {v : FoundFunction} {p : Pass} {C A w : List ℕ} {i : FunctionInformation} (found : v ≡ function.Found i) where
-  pub amend-held : ListsEnd rs at d v p C A w → Inside (i .«captured_vars») × Ended rs d × HeldNamed rs p C w
+  pub amend-held : ListsEnd rs at d v p C A w → Inside (i .«captured_vars») × Ended rs d × Held rs p C w
   amend-held a = (
     a .amended i (ap functionFound found),
     record { xs = a .xs; b = a .b; names = a .told; body = a .body },
-    record { held = record { facts = a .facts; arguments = A; s = a .s; good = a .fits .good; tied = a .fits .tied }; named = a .named },
+    record { facts = a .facts; arguments = A; s = a .s; good = a .fits .good; tied = a .fits .tied },
   )
 
   module _ {n : ℕ} {C′ w′ : List ℕ} (amends : AmendsList rs d (i .«captured_vars») p C w n C′ w′) where
     pub amended-few : ListsEnd rs at d v p C A w → n < 4294967296
     amended-few a = omega (
       arith,
-      amends .many (a .facts) A (a .s) (a .xs) (a .b) (a .told) (a .body) (a .fits .good) (a .named) (a .fits .tied),
+      amends .many (a .facts) A (a .s) (a .xs) (a .b) (a .told) (a .body) (a .fits .good) (a .fits .tied),
       amended-length (a .xs) (a .b) (i .«captured_vars») (a .s),
       a .amended i (ap functionFound found),
     )
@@ -270,9 +270,9 @@ module _ {rs : List ℕ} {at : ℕ} {d : Ending} {v : FoundFunction} {p : Pass} 
     pub lists-amended : {k : ℕ} → k ≡ n
         → EndsLists rs at d v p C A w (record { pass = p; captured = record { first = i .«captured_vars» .first; length = k }; arguments = i .arguments }) C′ A w′
     lists-amended e = record {
-      is = λ F s xs b t y f named. rw found (record {
-        tied = amends .is F A s xs b t y (f .good) named (f .tied);
-        captured = rw (e, amends .many F A s xs b t y (f .good) named (f .tied));
+      is = λ F s xs b t y f. rw found (record {
+        tied = amends .is F A s xs b t y (f .good) (f .tied);
+        captured = rw (e, amends .many F A s xs b t y (f .good) (f .tied));
         arguments = refl;
       });
     }
@@ -320,21 +320,20 @@ module _ {rs : List ℕ} {at : ℕ} {d : Ending} {p : Pass} {F C A w : List ℕ}
     made = λ e. a .ends .made (sym (fact-is few v found (a .fits)) ∙ e);
     amended = λ i e. a .ends .amended i (sym (fact-is few v found (a .fits)) ∙ e);
     captured = a .ends .captured;
-    named = a .ends .named;
   }
 
   module _ {e : EndedLists} {C′ A′ w′ : List ℕ} (ends : EndsLists rs at d v p C A w e C′ A′ w′) where
-    ended-fits : {s : State} {xs : List Ident} {b : Tree} → Told rs (d .names) xs → Body rs d b → Fits rs (raw p F C A w) s → Named s
+    ended-fits : {s : State} {xs : List Ident} {b : Tree} → Told rs (d .names) xs → Body rs d b → Fits rs (raw p F C A w) s
         → Fits rs (raw (e .pass) F C′ A′ w′) (withLists (functionFound v) at xs b s)
-    ended-fits {s} {xs} {b} t y f named = record { good = good-lists (functionFound v) at xs b (f .good); tied = ends .is F s xs b t y f named .tied }
+    ended-fits {s} {xs} {b} t y f = record { good = good-lists (functionFound v) at xs b (f .good); tied = ends .is F s xs b t y f .tied }
 
     pub ended-names : LambdaEnds rs at d p F C A w → NamesEnd rs (d .names) (e .pass) F w′
-    ended-names a = record { captured = C′; arguments = A′; s = _; xs = a .xs; told = a .told; fits = ended-fits (a .told) (a .body) (a .fits) (a .ends .named) }
+    ended-names a = record { captured = C′; arguments = A′; s = _; xs = a .xs; told = a .told; fits = ended-fits (a .told) (a .body) (a .fits) }
 
     module _ {q : Pass} {F₁ w″ : List ℕ} (closes : Closes rs (d .names) (e .pass) F w′ q F₁ w″) where
       pub ended-fact : LambdaEnds rs at d p F C A w → rowWidth * at + rowWidth ≤ length F₁
       ended-fact a =
-          let f = ended-fits (a .told) (a .body) (a .fits) (a .ends .named) in
+          let f = ended-fits (a .told) (a .body) (a .fits) in
           fact-inside (closes .is C′ A′ _ (a .xs) (a .told) f) (sized-closed (a .xs) _ .rows ∙ f .good .rows) at few
 
       pub lambda-left : {escapes : Bool} {k : ℕ} {u : FunctionInformation} {F₂ : List ℕ} → k ≡ q .scope .depth
@@ -343,8 +342,8 @@ module _ {rs : List ℕ} {at : ℕ} {d : Ending} {p : Pass} {F C A w : List ℕ}
       unfolding leaveLambda
       lambda-left {escapes} {u = u} {F₂} ek eu st = record {
         is = λ s xs b m em t y f x.
-            let l = ends .is F s xs b t y f (x .named) in
-            let g = ended-fits t y f (x .named) in
+            let l = ends .is F s xs b t y f in
+            let g = ended-fits t y f in
             let c = closes .is C′ A′ _ xs t g in
             let i = tied-insert c (sized-closed xs _ .rows ∙ g .good .rows) at few (Function u) st in
             let o = functionFound v in

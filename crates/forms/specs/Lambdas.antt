@@ -20,7 +20,7 @@ use Rattle.pass.specs.Run.{rowsMost, itemsMost}
 use Rattle.work.specs.Tied.{raw, Tied}
 use Rattle.work.specs.declared.Pass.{Pass}
 use Rattle.walk.specs.declared.uses.Names.{Names}
-use Rattle.lists.specs.Contract.{Told, Inside, CapturesRoom, Body, Named, amendedList}
+use Rattle.lists.specs.Contract.{Told, Inside, CapturesRoom, Body, amendedList}
 use Rattle.lists.specs.declared.amend.Ending.{Ending}
 use Rattle.forms.specs.Contract.{Fits, FewHeaps, heapsIn}
 use Rattle.forms.specs.declared.bound.Entering.{Entering}
@@ -117,7 +117,6 @@ pub record ListsEnd (rs : List ℕ) (at : ℕ) (d : Ending) (v : FoundFunction) 
   pub made : functionFound v ≡ none → s .facts .argumentsTop + length (newestLayer (s .scope .names)) ≤ itemsMost
   pub amended : (i : FunctionInformation) → functionFound v ≡ some i → Inside (i .«captured_vars»)
   pub captured : p .«captured_top» + itemsMost < 4294967296
-  pub named : Named s
 
 -- the lists are in the tables, and the code says where they lie
 pub record Listed (o : Option FunctionInformation) (at : ℕ) (xs : List Ident) (b : Tree) (s : State) (e : EndedLists) (F C A w : List ℕ) : Type 0 where
@@ -126,5 +125,5 @@ pub record Listed (o : Option FunctionInformation) (at : ℕ) (xs : List Ident) 
   pub arguments : e .arguments ≡ argumentEntries o s
 
 pub record EndsLists (rs : List ℕ) (at : ℕ) (d : Ending) (v : FoundFunction) (p : Pass) (C A w : List ℕ) (e : EndedLists) (C′ A′ w′ : List ℕ) : Type 0 where
-  pub is : (F : List ℕ) (s : State) (xs : List Ident) (b : Tree) → Told rs (d .names) xs → Body rs d b → Fits rs (raw p F C A w) s → Named s
+  pub is : (F : List ℕ) (s : State) (xs : List Ident) (b : Tree) → Told rs (d .names) xs → Body rs d b → Fits rs (raw p F C A w) s
       → Listed (functionFound v) at xs b s e F C′ A′ w′

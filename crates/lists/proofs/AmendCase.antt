@@ -29,12 +29,13 @@ use Rattle.work.specs.Tied.{raw, Tied, Good}
 use Rattle.work.specs.declared.Pass.{Pass}
 use Rattle.walk.specs.Marks.{Unmarked}
 use Rattle.lists.specs.declared.amend.Ending.{Ending}
-use Rattle.lists.specs.Contract.{Named, Told, Body, Ended, Held, HeldNamed, amendedList, AmendsList}
+use Rattle.lists.specs.Contract.{Told, Body, Ended, Held, amendedList, AmendsList}
 use Rattle.lists.specs.Rewrites.{Rewrites, cleared}
 use Rattle.lists.specs.Index.{Indexed}
 use Rattle.lists.specs.Given.{given, withGiven, captured-step, rowsUpTo}
 use Rattle.lists.specs.Counts.{nowOf, Counts, CountsNames}
 use Rattle.lists.specs.Kept.{Marks, keptAfter, isKept, keptRow, keptNames, KeepHeld, Right, Seen, KeepsRow, AllRight}
+use Rattle.lists.proofs.NowCase.{good-named}
 use Rattle.lists.proofs.Sets.{sets-append, sets-back, getD-after}
 use Rattle.lists.proofs.Amended.{kept-is, keep-snoc, amend-snoc, amended-length, keep-fewer, snoc-member, kept-after-name}
 
@@ -146,7 +147,6 @@ right-kept {counts = counts} {xs} {b} {s} holds first k h =
       told = h .told;
       body = h .body;
       good = kept-good holds (nowOf xs b s) (s .captures) first k s (h .good);
-      named = h .named;
       indexes = h .indexes;
       counted = subst (Counts counts) (sym (now-beside xs b l s)) (h .counted);
     }
@@ -156,14 +156,13 @@ pub all-right : {rs : List ℕ} {d : Ending} {p : Pass} {w index counts : List �
 all-right i c = record { indexes = i .is; counted = λ xs b s h y m works. c .is xs b s h y m works (i .is xs s h works) }
 
 right-first : {rs : List ℕ} {d : Ending} {p : Pass} {w index counts : List ℕ} {xs : List Ident} {b : Tree} {s : State} → AllRight rs d p w index counts
-    → Told rs (d .names) xs → Body rs d b → Good rs s → Named s → Works p w s → Right rs d index counts xs b s
-right-first {xs = xs} {b} {s} a h y g m works = record {
+    → Told rs (d .names) xs → Body rs d b → Good rs s → Works p w s → Right rs d index counts xs b s
+right-first {xs = xs} {b} {s} a h y g works = record {
   told = h;
   body = y;
   good = g;
-  named = m;
   indexes = a .indexes xs s h works;
-  counted = a .counted xs b s h y m works;
+  counted = a .counted xs b s h y (good-named g) works;
 }
 
 -- The loop
@@ -184,30 +183,30 @@ module _ {rs : List ℕ} {d : Ending} {p : Pass} {index counts : List ℕ} {firs
   unfolding keep amendList
   keep-start u = record { is = λ F A s xs b h t. t; ends = λ F A s xs b h t. omega arith; seen = λ F A s xs b h t x q. u x }
 
-  module _ {k to : ℕ} {m C′ w′ : List ℕ} (f : Keeping rs d p index counts first C w k to m C′ w′) (a : Ended rs d) (h : HeldNamed rs p C w)
+  module _ {k to : ℕ} {m C′ w′ : List ℕ} (f : Keeping rs d p index counts first C w k to m C′ w′) (a : Ended rs d) (h : Held rs p C w)
       (all : AllRight rs d p w index counts)
     where
-      first-right : Right rs d index counts (a .xs) (a .b) (h .held .s)
-      first-right = right-first all (a .names) (a .body) (h .held .good) (h .named) (h .held .tied .works)
+      first-right : Right rs d index counts (a .xs) (a .b) (h .s)
+      first-right = right-first all (a .names) (a .body) (h .good) (h .tied .works)
 
       -- the tables then hold a state
       pub keep-held : Held rs p C′ w′
       keep-held =
-          let s = h .held .s in
+          let s = h .s in
           record {
-            facts = h .held .facts;
-            arguments = h .held .arguments;
+            facts = h .facts;
+            arguments = h .arguments;
             s = withCaptured (sets (s .facts .captured) first (keptTo d first k (a .xs) (a .b) s)) s;
-            good = kept-good (d .holds) (nowOf (a .xs) (a .b) s) (s .captures) first k s (h .held .good);
-            tied = f .is (h .held .facts) (h .held .arguments) s (a .xs) (a .b) first-right (h .held .tied);
+            good = kept-good (d .holds) (nowOf (a .xs) (a .b) s) (s .captures) first k s (h .good);
+            tied = f .is (h .facts) (h .arguments) s (a .xs) (a .b) first-right (h .tied);
           }
 
       pub keep-row : first + k < itemsMost → KeepHeld rs d p index first to (first + k) C′ w′
       unfolding keep-held
       keep-row room =
-          let s = h .held .s in
-          let t = h .held .tied in
-          let ends = f .ends (h .held .facts) (h .held .arguments) s (a .xs) (a .b) first-right t in
+          let s = h .s in
+          let t = h .tied in
+          let ends = f .ends (h .facts) (h .arguments) s (a .xs) (a .b) first-right t in
           let few = rows-fewer (d .holds) (nowOf (a .xs) (a .b) s) (s .captures) first k (s .facts .captured) (omega (arith, captured-many (t .works))) in
           record {
             ended = a;
@@ -325,13 +324,13 @@ module _ {rs : List ℕ} {d : Ending} {p : Pass} {index counts : List ℕ} {firs
         → Rewrites C′ w′ (cleared to (first + n)) C″ w″ → AmendsList rs d e p C w (to - first) C″ w″
     unfolding rewriteCaptured
     amends {to} f {C″} {w″} r = record {
-      many = λ F A s xs b h y g m t.
-          omega (arith, f .ends F A s xs b (right-first all h y g m (t .works)) t, ap length (kept-whole e a c xs b s y));
-      is = λ F A s xs b h y g m t.
+      many = λ F A s xs b h y g t.
+          omega (arith, f .ends F A s xs b (right-first all h y g (t .works)) t, ap length (kept-whole e a c xs b s y));
+      is = λ F A s xs b h y g t.
           let l = s .facts .captured in
           let K = keptTo d first n xs b s in
           let L = amendedList xs b e s in
-          let right = right-first all h y g m (t .works) in
+          let right = right-first all h y g (t .works) in
           let ends = f .ends F A s xs b right t in
           let z : first + n - to ≡ n - length K = omega arith in
           let whole = kept-whole e a c xs b s y in
@@ -361,6 +360,6 @@ amended-none xs b e s z = rw z (go (holdsLambda b))
 pub none-amended : {rs : List ℕ} {d : Ending} (e : Entries) {p : Pass} {C w : List ℕ} → e .length ≡ 0 → AmendsList rs d e p C w 0 C w
 unfolding rewriteCaptured
 none-amended e {p} {C} {w} z = record {
-  many = λ F A s xs b u v g n t. sym (ap length (amended-none xs b e s z));
-  is = λ F A s xs b u v g n t. rw (amended-none xs b e s z, z) t;
+  many = λ F A s xs b u v g t. sym (ap length (amended-none xs b e s z));
+  is = λ F A s xs b u v g t. rw (amended-none xs b e s z, z) t;
 }

@@ -20,6 +20,7 @@ use Rattle.lists.specs.Contract.{ItemIs, LoadsItem, StoresItem}
 use Rattle.lists.specs.Given.{rowsUpTo}
 use Rattle.lists.specs.Counts.{nowOf, CountsUsed}
 use Rattle.lists.specs.Kept.{Marks, StandsBefore, IndexHeld, KeepsItem, isKept, keptAfter, KeepHeld, Right, Seen, KeepsRow}
+use Rattle.lists.proofs.NowCase.{good-named}
 
 module _ {rs : List ℕ} {d : Ending} {p : Pass} {index : List ℕ} {first to r : ℕ} {C w : List ℕ} (h : KeepHeld rs d p index first to r C w) where
   pub keep-small : {x : Coded} {n : ℕ} → LoadsItem C w r x → n ≡ x .binder → n < 4294967296
@@ -41,7 +42,7 @@ module _ {rs : List ℕ} {d : Ending} {p : Pass} {r : ℕ} {C w : List ℕ} {x :
       → k ≡ isKept (d .holds) (nowOf xs b s) (nameOf (itemAt s r))
   told s xs b h t =
       q
-      ∙ ap (λ (j : ℕ). d .holds || not (eqb j 0)) (c .is xs b s (h .told) (h .body) (h .named) (t .works) (h .counted))
+      ∙ ap (λ (j : ℕ). d .holds || not (eqb j 0)) (c .is xs b s (h .told) (h .body) (good-named (h .good)) (t .works) (h .counted))
       ∙ ap (λ (z : ℕ). isKept (d .holds) (nowOf xs b s) z) (l .is _ _ _ _ t .name)
 
   pub row-gone : {index m : List ℕ} {first to : ℕ} → k ≡ false → KeepsRow rs d p index counts m first to r C w false m C w
@@ -73,7 +74,7 @@ module _ {rs : List ℕ} {d : Ending} {p : Pass} {r : ℕ} {C w : List ℕ} {x :
           let same : before ≡ member (nameOf j) names =
           f .is (s .facts .captured) (t .captured) (captured-many (t .works)) z ∙ ap (λ (a : ℕ). member a names) (l .is _ _ _ _ t .name) in
           subst (λ (a : Bool). ItemIs v (cond a j (keptItem now (s .captures) (find (nameOf j) now) j))) same
-          (i .is xs b s j (h .told) (h .named) (t .works) (h .indexes) (c .is xs b s (h .told) (h .body) (h .named) (t .works) (h .counted))
+          (i .is xs b s j (h .told) (good-named (h .good)) (t .works) (h .indexes) (c .is xs b s (h .told) (h .body) (good-named (h .good)) (t .works) (h .counted))
           (l .is _ _ _ _ t))
 
       pub row-kept : KeepsRow rs d p index counts m first to r C w true m′ C′ w′

@@ -17,12 +17,14 @@ use Rattle.semantic.specs.Rows.{Item}
 use Rattle.pass.specs.State.{State, Scope, binderIn}
 use Rattle.pass.specs.Lists.{capturedIn, capturedVars, nameOf, countOf, find, keep}
 use Rattle.pass.specs.Lambda.{nameIn, namesUsed, holdsLambda, nowUsed}
+use Rattle.pass.specs.Sound.{IsNamed}
 use Rattle.pass.specs.Laws.Sound.Lists.{all-either}
 use Rattle.pass.specs.Laws.Sound.Items.{kept-items}
 use Rattle.work.specs.Coded.{recordIn, recordOf}
 use Rattle.work.specs.Works.{Works}
 use Rattle.work.specs.WorksLaws.{names-many}
 use Rattle.work.specs.Scope.{before, TellsLive}
+use Rattle.work.specs.Tied.{Good}
 use Rattle.work.specs.declared.Pass.{Pass}
 use Rattle.work.specs.declared.scope.Binder.{Binder}
 use Rattle.walk.specs.Contract.{UsesName}
@@ -37,9 +39,14 @@ use Rattle.lists.specs.Kept.{itemIn}
 use Rattle.lists.proofs.GivenCase.{next-live, before-all, live-is, indexes-none, given-offered, given-newest, next-given}
 use Rattle.lists.proofs.BottomCase.{none-before}
 
--- The newest binder of a name has the name
+-- In a good state live names are their binders'
 
-named-in : (l : List (Live Ident)) → All (λ e. e .value .name ≡ e .name) l → (x : ℕ) (b : Ident) → binderIn (getIn l x) ≡ some b → b .name ≡ x
+pub good-named : {rs : List ℕ} {s : State} → Good rs s → Named s
+good-named g = g .sound .named
+
+-- The newest binder of a name then has the name
+
+named-in : (l : List (Live Ident)) → All IsNamed l → (x : ℕ) (b : Ident) → binderIn (getIn l x) ≡ some b → b .name ≡ x
 unfolding getIn
 named-in [] a x b q = absurd (let z : _≡_ {A = ℕ} 0 1 = cc in omega arith)
 named-in (e ∷ l) a x b q = pick (eqb (e .name) x) refl q (named-in l (a .1) x b)

@@ -16,6 +16,7 @@ use Rattle.pass.specs.State.{State, Entry, itemAt, itemOf, withCaptured}
 use Rattle.pass.specs.Lists.{capturedVars, sortById, listIn, storeCaptured, rewriteCaptured, numberList, heapCount, amendList}
 use Rattle.pass.specs.Lambda.{nameIn, nowUsed, keptOf, holdsLambda}
 use Rattle.pass.specs.Run.{itemsMost}
+use Rattle.pass.specs.Sound.{IsNamed}
 use Rattle.work.specs.Known.{Known}
 use Rattle.work.specs.Coded.{coded}
 use Rattle.work.specs.Tied.{raw, Tied, Good}
@@ -103,16 +104,12 @@ amendedList xs b e s =
     let now = nowUsed b (capturedVars (map nameIn xs) s) in
     amendList now (s .captures) [] (keptOf b now (listIn (s .facts .captured) e))
 
--- a live name is its binder's
+-- a live name is its binder's, as in every good state
 abbrev pub Named : State → Type 0
-Named s = All (λ e. e .value .name ≡ e .name) (s .scope .names .live)
-
-pub record HeldNamed (rs : List ℕ) (p : Pass) (C w : List ℕ) : Type 0 where
-  pub held : Held rs p C w
-  pub named : Named (held .s)
+Named s = All IsNamed (s .scope .names .live)
 
 pub record AmendsList (rs : List ℕ) (d : Ending) (e : Entries) (p : Pass) (C w : List ℕ) (n : ℕ) (C′ w′ : List ℕ) : Type 0 where
-  pub many : (F A : List ℕ) (s : State) (xs : List Ident) (b : Tree) → Told rs (d .names) xs → Body rs d b → Good rs s → Named s → Tied (raw p F C A w) s
+  pub many : (F A : List ℕ) (s : State) (xs : List Ident) (b : Tree) → Told rs (d .names) xs → Body rs d b → Good rs s → Tied (raw p F C A w) s
       → n ≡ length (amendedList xs b e s)
-  pub is : (F A : List ℕ) (s : State) (xs : List Ident) (b : Tree) → Told rs (d .names) xs → Body rs d b → Good rs s → Named s → Tied (raw p F C A w) s
+  pub is : (F A : List ℕ) (s : State) (xs : List Ident) (b : Tree) → Told rs (d .names) xs → Body rs d b → Good rs s → Tied (raw p F C A w) s
       → Tied (raw p F C′ A w′) (rewriteCaptured e (amendedList xs b e s) s)

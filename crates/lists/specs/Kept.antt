@@ -105,7 +105,6 @@ pub record Right (rs : List ℕ) (d : Ending) (index counts : List ℕ) (xs : Li
   pub told : Told rs (d .names) xs
   pub body : Body rs d b
   pub good : Good rs s
-  pub named : Named s
   pub indexes : Indexes index (map nameIn xs) (s .scope)
   pub counted : Counts counts (nowOf xs b s)
 

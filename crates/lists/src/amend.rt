@@ -34,7 +34,7 @@ ghost use Rattle.pass.specs.Lists.{enclosingOf};
 ghost use Rattle.pass.specs.Run.{itemsMost, itemsLength};
 ghost use Rattle.work.specs.Leaves.{Tells};
 ghost use Rattle.walk.specs.Marks.{Unmarked};
-ghost use Rattle.lists.specs.Contract.{Inside, Ended, HeldNamed, AmendsList};
+ghost use Rattle.lists.specs.Contract.{Inside, Ended, Held, AmendsList};
 ghost use Rattle.lists.specs.Index.{SomeHere};
 ghost use Rattle.lists.specs.Kept.{StandsBefore, SomeBinder, AmendsInfo, IndexHeld, KeepsItem, KeepHeld, KeepsRow, AllRight};
 
@@ -203,7 +203,7 @@ fn amend_rows(
     captured: &mut [u32],
     work: &mut [u32],
 ) -> usize
-    requires { ⌜ Inside e × Ended (now all) d × HeldNamed (now all) p (now captured) (now work) × AllRight (now all) d p (now work) (now index) (now counts) × Unmarked (now seen) ⌝ }
+    requires { ⌜ Inside e × Ended (now all) d × Held (now all) p (now captured) (now work) × AllRight (now all) d p (now work) (now index) (now counts) × Unmarked (now seen) ⌝ }
     ensures { λ r. ⌜ AmendsList (now (all .entry)) d e p (now (captured .entry)) (now (work .entry)) r (now (captured .exit)) (now (work .exit)) ⌝ }
 {
     let first = wide(e.first);
@@ -241,7 +241,7 @@ fn amend_long(
     captured: &mut [u32],
     work: &mut [u32],
 ) -> usize
-    requires { ⌜ Inside e × Ended (now all) d × HeldNamed (now all) p (now captured) (now work) ⌝ }
+    requires { ⌜ Inside e × Ended (now all) d × Held (now all) p (now captured) (now work) ⌝ }
     ensures { λ r. ⌜ AmendsList (now (all .entry)) d e p (now (captured .entry)) (now (work .entry)) r (now (captured .exit)) (now (work .exit)) ⌝ }
 {
     let names = d.names;
@@ -264,7 +264,7 @@ pub fn amend_list(
     captured: &mut [u32],
     work: &mut [u32],
 ) -> usize
-    requires { ⌜ Inside e × Ended (now all) d × HeldNamed (now all) p (now captured) (now work) ⌝ }
+    requires { ⌜ Inside e × Ended (now all) d × Held (now all) p (now captured) (now work) ⌝ }
     ensures { λ r. ⌜ AmendsList (now (all .entry)) d e p (now (captured .entry)) (now (work .entry)) r (now (captured .exit)) (now (work .exit)) ⌝ }
 {
     let n = wide(e.length);

@@ -1,4 +1,5 @@
 pub mod All
+pub mod Order
 pub mod Rows
 pub mod Changes
 pub mod Names

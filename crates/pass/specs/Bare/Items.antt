@@ -5,7 +5,7 @@ use mathlib.Core.Bool.{Bool, true, false, not, _&&_}
 use mathlib.Core.Option.{Option, none, some, Option·map}
 use mathlib.Core.Path.{_≡_, refl, ap, sym, _∙_}
 use lib.ListN.{length, length-map, set}
-use lib.Dec.{eqb, leb, ltb}
+use lib.Dec.{eqb, ltb}
 use Rattle.tree.specs.Tree.{Ident}
 use Rattle.tree.specs.Check.{member}
 use Rattle.scope_map.specs.ScopeMap.{ScopeMap, Live, get}
@@ -14,7 +14,9 @@ use Rattle.semantic.specs.Rows.{Item}
 use Rattle.semantic.specs.declared.Entries.{Entries}
 use Rattle.semantic.specs.declared.ScopeInfo.{ScopeInfo}
 use Rattle.pass.specs.State.{Entry, Capture, State, withCaptures, withCaptured, itemOf, newest}
-use Rattle.pass.specs.Lists.{addCaptured, capturedIn, capturedVars, insertById, sortById, listIn, capturedMost, storeCaptured, storeArguments, rewriteCaptured, nearIn, near, isNear, onInfo, captureOf, numberRow, numberRows, numberList, heapCount, nameOf, namesOf, keep, countOf, find, enclosingOf, keptItem, amendList}
+use Rattle.pass.specs.Lists.{addCaptured, capturedIn, capturedVars, itemId, insertById, sortById, listIn, capturedMost, storeCaptured, storeArguments, rewriteCaptured, nearIn, near, isNear, onInfo, captureOf, numberRow, numberRows, numberList, heapCount, nameOf, namesOf, keep, countOf, find, enclosingOf, keptItem, amendList}
+use Rattle.pass.specs.Laws.All.{all-of}
+use Rattle.pass.specs.Laws.Order.{map-insert}
 use Rattle.pass.specs.Bare.{bareIdent, bareItem, bareFacts, bareEntry, bareCapture, bareState, _↝_}
 use Rattle.pass.specs.Bare.Maps.{map-cond, map-set, map-sets, map-take, map-drop, map-replicate}
 use Rattle.pass.specs.Bare.Steps.{bare-id, bare-newest, bare-capture, bare-item, steps}
@@ -40,15 +42,12 @@ pub bare-captured-vars : (ps : List ℕ) (s : State) → capturedVars ps (bareSt
 unfolding capturedVars bareState
 bare-captured-vars ps s = captured-in ps s (s .scope .names .live)
 
-insert-by-id : (i : Item) (l : List Item) → insertById (bareItem i) (map bareItem l) ≡ map bareItem (insertById i l)
-unfolding insertById
-insert-by-id i [] = refl
-insert-by-id i (j ∷ l) = rw (insert-by-id i l) (sym (map-cond (map bareItem) (leb (i .info .id) (j .info .id)) _ _))
-
 pub bare-sort : (l : List Item) → sortById (map bareItem l) ≡ map bareItem (sortById l)
-unfolding sortById
+unfolding insertById sortById
 bare-sort [] = refl
-bare-sort (i ∷ l) = rw (bare-sort l) (insert-by-id i (sortById l))
+bare-sort (i ∷ l) =
+    let m = sortById l in
+    ap (insertById (bareItem i)) (bare-sort l) ∙ sym (map-insert bareItem itemId itemId i m refl (all-of (λ x. itemId x ≡ itemId x) (λ x. refl) m))
 
 -- Lists in their tables
 

@@ -34,7 +34,7 @@ sub-many c = search needs
 mul-if3 : tie.Need-mul-if3
 mul-if3 c =
     let start = c .before .before .before .before .before .before .before .before .before .before in
-    scaled-fits _ 129 _ (omega (arith, c .before .before .before .before .if2 .left)) (omega (arith, spacious (start .pre .2 .held .tied .works) .names))
+    scaled-fits _ 129 _ (omega (arith, c .before .before .before .before .if2 .left)) (omega (arith, spacious (start .pre .2 .tied .works) .names))
 
 amend-long-requires-2 : tie.Need-amend-long-requires-2
 amend-long-requires-2 c κs = search needs

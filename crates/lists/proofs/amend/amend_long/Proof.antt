@@ -14,7 +14,7 @@ slice-aggregate-index-names c = search needs
 index-names-requires : tie.Need-index-names-requires
 index-names-requires c κs =
     let start = c .before .before .before .before .before .before in
-    (told-names (start .pre .1 .names), held-here (start .pre .2 .held), zeros namesMost)
+    (told-names (start .pre .1 .names), held-here (start .pre .2), zeros namesMost)
 
 slice-aggregate-count-names : tie.Need-slice-aggregate-count-names
 slice-aggregate-count-names c = search needs
@@ -25,7 +25,7 @@ slice-aggregate-count-names-2 c = search needs
 count-names-requires : tie.Need-count-names-requires
 count-names-requires c κs =
     let start = c .before .before .before .before .before .before .before .before .before .before .before in
-    (start .pre .1, held-here (start .pre .2 .held), zeros namesMost)
+    (start .pre .1, held-here (start .pre .2), zeros namesMost)
 
 slice-aggregate-amend-rows : tie.Need-slice-aggregate-amend-rows
 slice-aggregate-amend-rows c = search needs

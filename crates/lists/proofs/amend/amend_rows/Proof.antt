@@ -110,7 +110,7 @@ same-length-2 c =
     let start = at-loop .before .before .before .before .before .before .before .before .before in
     at-clear-items .clear-items .kept .0
     ∙ captured-long (keep-held (at-loop .loop .inv .4) (start .pre .1) (start .pre .2) (start .pre .3) .tied)
-    ∙ sym (captured-long (start .pre .2 .held .tied))
+    ∙ sym (captured-long (start .pre .2 .tied))
 
 same-length-3 : tie.Need-same-length-3 Inv-loop μ-loop
 same-length-3 c =
@@ -119,7 +119,7 @@ same-length-3 c =
     let start = at-loop .before .before .before .before .before .before .before .before .before in
     at-clear-items .clear-items .kept .1 .0
     ∙ keep-held (at-loop .loop .inv .4) (start .pre .1) (start .pre .2) (start .pre .3) .tied .works .long
-    ∙ sym (start .pre .2 .held .tied .works .long)
+    ∙ sym (start .pre .2 .tied .works .long)
 
 returns : tie.Need-returns Inv-loop μ-loop
 returns c =

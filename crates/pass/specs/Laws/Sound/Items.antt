@@ -5,7 +5,7 @@ use mathlib.Core.Bool.{Bool, true, false, cond, not, _&&_}
 use mathlib.Core.Option.{Option, none, some}
 use mathlib.Core.Path.{_≡_, refl}
 use lib.ListN.{getD, drop}
-use lib.Dec.{leb, ltb}
+use lib.Dec.{ltb}
 use Rattle.tree.specs.Tree.{Ident}
 use Rattle.tree.specs.Check.{member}
 use Rattle.tree.specs.Accepted.{All}
@@ -14,21 +14,17 @@ use Rattle.semantic.specs.Rows.{Item, noItem}
 use Rattle.semantic.specs.declared.Entries.{Entries}
 use Rattle.semantic.specs.declared.ScopeInfo.{ScopeInfo}
 use Rattle.pass.specs.State.{Capture, State, binderIn, entryAt, itemOf, newest}
-use Rattle.pass.specs.Lists.{addCaptured, capturedIn, capturedVars, insertById, sortById, listIn, nameOf, keep, find, keptItem, amendList}
+use Rattle.pass.specs.Lists.{addCaptured, capturedIn, capturedVars, itemId, insertById, sortById, listIn, nameOf, keep, find, keptItem, amendList}
 use Rattle.pass.specs.Sound.{Property, Lawful, Each}
+use Rattle.pass.specs.Laws.Order.{insert-all}
 use Rattle.pass.specs.Laws.Sound.Lists.{all-elements, all-take, all-drop, all-either, Maybe, get-value}
 use Rattle.pass.specs.Laws.Sound.Each.{Fine}
 
 module _ (P : Item → Type 0) where
-  inserted-items : (i : Item) (l : List Item) → P i → All P l → All P (insertById i l)
-  unfolding insertById
-  inserted-items i [] p q = (p, tt)
-  inserted-items i (j ∷ l) p q = all-either P (leb (i .info .id) (j .info .id)) (i ∷ j ∷ l) (j ∷ insertById i l) (p, q) (q .0, inserted-items i l p (q .1))
-
   pub sorted-items : (l : List Item) → All P l → All P (sortById l)
-  unfolding sortById
+  unfolding insertById sortById
   sorted-items [] p = tt
-  sorted-items (i ∷ l) p = inserted-items i (sortById l) (p .0) (sorted-items l (p .1))
+  sorted-items (i ∷ l) p = insert-all itemId P i (sortById l) (p .0) (sorted-items l (p .1))
 
   pub kept-items : (f : ℕ → Bool) (l : List Item) → All P l → All P (keep f l)
   unfolding keep

@@ -3,10 +3,10 @@ use Prim.Native.Nat.{ℕ, suc, _+_, _*_, _≤_}
 use mathlib.Core.List.{List, [], _∷_, map}
 use mathlib.Core.Bool.{Bool, true, false, cond, not, _&&_}
 use mathlib.Core.Option.{Option, none, some}
-use mathlib.Core.Path.{_≡_, refl, ap, _∙_}
+use mathlib.Core.Path.{_≡_, refl, _∙_}
 use native.Mathlib.Omega.{arith}
 use lib.ListN.{length}
-use lib.Dec.{leb, ltb}
+use lib.Dec.{ltb}
 use Rattle.tree.specs.Check.{member}
 use Rattle.tree.specs.Tree.{Ident, Node, Tree, Trees, ident, const, if, letin, define, lambda, begin, call, set!, nil, cons, many, size, sizes, Num, Nums}
 use Rattle.scope_map.specs.ScopeMap.{ScopeMap, Live, newestLayer}
@@ -15,11 +15,12 @@ use Rattle.semantic.specs.Rows.{Row, Item}
 use Rattle.semantic.specs.declared.FunctionInformation.{FunctionInformation}
 use Rattle.pass.specs.State.{Capture, State, withContext, insert, rowAt, entryAt, itemOf, newest, depth}
 use Rattle.pass.specs.Read.{mutate}
-use Rattle.pass.specs.Lists.{addCaptured, capturedIn, capturedVars, insertById, sortById, storeArguments, rewriteCaptured}
+use Rattle.pass.specs.Lists.{addCaptured, capturedIn, capturedVars, sortById, storeArguments, rewriteCaptured}
 use Rattle.pass.specs.Lambda.{functionIn, enterLambda, makeFunction, amendFunction, functionEnds, nameIn, itemsOf, markLasts, closeScope, closeCaptures, endParameters, leaveLambda, atBottom, enterLet, entered, makeLet, leaveLet}
 use Rattle.pass.specs.Visit.{Flags, notTail, sameTail, pushed, letBodyFlags, bodyFlags, argumentFlags, isLambda, headFlags, isNil, childFlags, defineFlags, clearContext, beforeDefine, enterChildren, visit, visitArguments, visitChildren}
 use Rattle.pass.specs.Run.{itemsMost}
 use Rattle.pass.specs.Stage.{due, enterings}
+use Rattle.pass.specs.Laws.Order.{sorted-length}
 use Rattle.pass.specs.Laws.Scopes.{Any, lambda-depth, let-stays}
 use Rattle.pass.specs.Laws.Visits.{stays, before-changes, children-changes, clear-changes}
 use Rattle.pass.specs.Laws.Ranges.{trees-any}
@@ -51,26 +52,12 @@ pub vars-long : (ps : List ℕ) (s : State) → length (capturedVars ps s) ≤ l
 unfolding capturedVars
 vars-long ps s = vars-in-long ps s (s .scope .names .live)
 
-insert-long : (i : Item) (l : List Item) → length (insertById i l) ≡ suc (length l)
-unfolding insertById
-insert-long i [] = refl
-insert-long i (j ∷ l) = pick (leb (i .info .id) (j .info .id)) (insert-long i l)
-  where
-    pick : (b : Bool) → length (insertById i l) ≡ suc (length l) → length (cond b (i ∷ j ∷ l) (j ∷ insertById i l)) ≡ suc (suc (length l))
-    pick true h = refl
-    pick false h = ap suc h
-
-pub sort-long : (l : List Item) → length (sortById l) ≡ length l
-unfolding sortById
-sort-long [] = refl
-sort-long (i ∷ l) = insert-long i (sortById l) ∙ ap suc (sort-long l)
-
 -- its end
 
 function-top : (f : Option FunctionInformation) (n : Node) (b : Tree) (escapes : Bool) (now arguments : List Item) (m : ScopeMap Capture) (s : State)
     → functionEnds f n b escapes now arguments m s .facts .capturedTop ≤ s .facts .capturedTop + length now
 unfolding makeFunction amendFunction rewriteCaptured storeArguments insert
-function-top none n b escapes now arguments m s = omega (arith, put (n .at) (sortById now) s .captured, sort-long now)
+function-top none n b escapes now arguments m s = omega (arith, put (n .at) (sortById now) s .captured, sorted-length now)
 function-top (some v) n b escapes now arguments m s = omega arith
 
 leave-lambda-top : (n : Node) (xs : List Ident) (b : Tree) (escapes : Bool) (s : State)
