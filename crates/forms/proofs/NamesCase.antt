@@ -1,6 +1,6 @@
 -- Names enter one after another, over states.
 use Prim.Native.Nat.{ℕ, suc, _+_, _-_, _≤_, _<_}
-use mathlib.Core.List.{List, [], _∷_}
+use mathlib.Core.List.{List}
 use mathlib.Core.Bool.{Bool, true, false, cond, _&&_}
 use mathlib.Core.Option.{Option, none, some}
 use mathlib.Core.Path.{_≡_, refl, ap, sym, _∙_}
@@ -20,13 +20,13 @@ use Rattle.pass.specs.Run.{itemsLength}
 use Rattle.work.specs.Coded.{notedOf}
 use Rattle.work.specs.Works.{Beside, Works}
 use Rattle.work.specs.WorksLaws.{names-many, captures-many, depth-is, captures-depth, context-is, captured-top, arguments-top}
-use Rattle.work.specs.Tied.{Raw, raw}
+use Rattle.work.specs.Tied.{Raw, raw, Tied}
+use Rattle.work.specs.TiedLaws.{tied-works}
 use Rattle.work.specs.declared.Pass.{Pass}
 use Rattle.walk.specs.declared.uses.Names.{Names}
 use Rattle.lists.specs.Contract.{Told}
-use Rattle.forms.specs.Contract.{Fits, NamesRoom, NamesFit, EntersNames, heapsIn, withEntered}
+use Rattle.forms.specs.Contract.{Fits, NamesRoom, NamesFit, EntersNames, heapsIn, withEntered, enteredIn}
 use Rattle.forms.specs.declared.bound.Entering.{Entering}
-use Rattle.forms.specs.declared.bound.EnteredNames.{EnteredNames}
 use Rattle.forms.specs.FitsLaws.{arguments-length}
 use Rattle.forms.specs.GoodLaws.{good-name, grows-name}
 use Rattle.forms.specs.Bound.{TellsHeap, NameFits, EntersName}
@@ -81,20 +81,11 @@ module _ (kind : IdentifierStatus) (base : ℕ) (heaps : Option ℕ) (before : L
   name-aside true x j h s = fact-aside (x .at) _ x _ (noteHeap heaps x s) ∙ heap-aside heaps x s
   name-aside false x j h s = fact-aside (x .at) _ x _ s
 
-  names-aside : (xs : List Ident) (j h : ℕ) (s : State) → asideOf (enterNames kind base heaps before xs j h s) ≡ asideOf s
-  unfolding enterNames
-  names-aside [] j h s = refl
-  names-aside (x ∷ xs) j h s = names-aside xs (suc j) _ _ ∙ name-aside (isHeap before j) x j h s
-
 map-is : {m k : Map} → m .depth ≡ k .depth → m .length ≡ k .length → m ≡ k
 map-is {m} {k} d l = let z : record { depth = m .depth; length = m .length } ≡ k = rw (d, l) in z
 
 -- so the pass is what it was, but for what they changed
-
-abbrev changedIn : Pass → EnteredNames
-changedIn q = record { length = q .scope .length; nine = q .nine; second = q .second }
-
-works-entered : {p q : Pass} {w w′ : List ℕ} {s t : State} → Works p w s → Works q w′ t → asideOf t ≡ asideOf s → Works (withEntered (changedIn q) p) w′ t
+works-entered : {p q : Pass} {w w′ : List ℕ} {s t : State} → Works p w s → Works q w′ t → asideOf t ≡ asideOf s → Works (withEntered (enteredIn q) p) w′ t
 works-entered {p} {q} {t = t} a b e =
     let d : p .captures .depth ≡ q .captures .depth = captures-depth a ∙ ap (λ (k : Aside). k .captures .depth) (sym e) ∙ sym (captures-depth b) in
     let l : p .captures .length ≡ q .captures .length = captures-many a ∙ ap (λ (k : Aside). length (k .captures .live)) (sym e) ∙ sym (captures-many b) in
@@ -140,14 +131,9 @@ module _ {rs : List ℕ} {n : Names} {g : Entering} {p : Pass} {F A w : List ℕ
   names-few a = omega (arith, a .told .stand .within .few, length-map (a .xs) named, a .told .count)
 
   module _ {j h : ℕ} {q : Pass} {F′ w′ : List ℕ} (m : Coming rs n g p F A w j h q F′ w′) where
-    pub coming-ends : n .count ≤ j → EntersNames rs n g p F A w (withEntered (changedIn q) p) F′ w′
+    pub coming-ends : n .count ≤ j → EntersNames rs n g p F A w q F′ w′
     unfolding enterNames
-    coming-ends k = record {
-      is = λ C s xs t f.
-          let d = left-done rs (m .is C s xs t f) (omega arith) (λ u. refl) in
-          let e = names-aside (g .kind) (g .base) (heapsIn (g .heaps)) (listIn (s .facts .arguments) (g .before)) xs 0 0 s in
-          record { facts = d .facts; captured = d .captured; arguments = d .arguments; works = works-entered (f .tied .works) (d .works) e };
-    }
+    coming-ends k = record { is = λ C s xs t f. left-done rs (m .is C s xs t f) (omega arith) (λ u. refl) }
 
     module _ (k : j < n .count) {b : Bool} (heap : TellsHeap A (g .before) j b) where
       is-heap : {C : List ℕ} {s : State} → Fits rs (raw p F C A w) s → b ≡ isHeap (listIn (s .facts .arguments) (g .before)) j
@@ -158,15 +144,17 @@ module _ {rs : List ℕ} {n : Names} {g : Entering} {p : Pass} {F A w : List ℕ
         came : {C : List ℕ} {s : State} (f : Fits rs (raw p F C A w) s) {each : List Ident → State → State} {out : State}
             (l : Left rs (n .first + j) (n .count - j) (raw q F′ C A w′) each out)
             (x : Head rs (n .first + j) (n .count - j) (raw q F′ C A w′) each (l .s) out)
-            → Fits rs (raw q′ F″ C A w″) (enterOneName g (listIn (s .facts .arguments) (g .before)) j h (x .x) (l .s))
+            → Fits rs (raw (withEntered (enteredIn q′) q) F″ C A w″) (enterOneName g (listIn (s .facts .arguments) (g .before)) j h (x .x) (l .s))
         came {C} {s} f l x =
             let before = listIn (s .facts .arguments) (g .before) in
+            let t : Tied (raw q′ F″ C A w″) (enterOneName g before j h (x .x) (l .s)) = rw (is-heap f) at (e .is before C A (l .s) (x .x) (x .here)) in
+            let a = name-aside (g .kind) (g .base) (heapsIn (g .heaps)) before (isHeap before j) (x .x) j h (l .s) in
             record {
               good = good-name (g .kind) (g .base) (heapsIn (g .heaps)) before (isHeap before j) (x .x) j h (x .here .known) (l .fits .good);
-              tied = rw (is-heap f) at (e .is before C A (l .s) (x .x) (x .here));
+              tied = tied-works _ t refl (works-entered (l .fits .tied .works) (t .works) a);
             }
 
-        pub coming-goes : {h′ : ℕ} → h′ ≡ cond b (suc h) h → Coming rs n g p F A w (j + 1) h′ q′ F″ w″
+        pub coming-goes : {h′ : ℕ} → h′ ≡ cond b (suc h) h → Coming rs n g p F A w (j + 1) h′ (withEntered (enteredIn q′) q) F″ w″
         unfolding enterNames
         coming-goes {h′} eh = record {
           is = λ C s xs t f.

@@ -1,7 +1,7 @@
 -- What each form's own functions promise, of every state that the tables hold.
 use Prim.Native.Nat.{ℕ, _+_, _*_, _≤_, _<_}
 use mathlib.Core.List.{List}
-use mathlib.Core.Bool.{Bool, true, false}
+use mathlib.Core.Bool.{Bool}
 use mathlib.Core.Option.{Option, none, some}
 use mathlib.Core.Path.{_≡_}
 use lib.ListN.{length}
@@ -12,7 +12,6 @@ use Rattle.scope_map.specs.Hints.{rowsLength}
 use Rattle.semantic.specs.Rows.{Blank}
 use Rattle.semantic.specs.Kinds.{functionIn, letIn}
 use Rattle.semantic.specs.declared.IdentifierStatus.{IdentifierStatus}
-use Rattle.semantic.specs.declared.Entries.{Entries}
 use Rattle.semantic.specs.declared.FunctionInformation.{FunctionInformation}
 use Rattle.semantic.specs.declared.LetInformation.{LetInformation}
 use Rattle.pass.specs.State.{State, rowAt}
@@ -78,6 +77,10 @@ pub record EntersNames (rs : List ℕ) (n : Names) (g : Entering) (p : Pass) (F 
 -- the pass with what they changed
 abbrev pub withEntered : EnteredNames → Pass → Pass
 withEntered e p = inScope (record { depth = p .scope .depth; length = e .length }) (withNotes (e .nine) (p .ten) (e .second) p)
+
+-- what they changed, in the pass after them
+abbrev pub enteredIn : Pass → EnteredNames
+enteredIn q = record { length = q .scope .length; nine = q .nine; second = q .second }
 
 -- Lambda
 

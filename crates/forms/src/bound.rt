@@ -28,7 +28,7 @@ ghost use Rattle.pass.specs.Lambda.{orZero};
 ghost use Rattle.pass.specs.Run.{rowsMost, itemsMost, factsLength, itemsLength};
 ghost use Rattle.work.specs.Coded.{coded};
 ghost use Rattle.lists.specs.Contract.{Inside};
-ghost use Rattle.forms.specs.Contract.{heapsIn, withEntered, NamesFit, EntersNames};
+ghost use Rattle.forms.specs.Contract.{heapsIn, withEntered, enteredIn, NamesFit, EntersNames};
 ghost use Rattle.forms.specs.Bound.{TellsHeap, NameFits, EntersWith, nameEntry, NotesHeap, EntersName, SlotsFit, Marked, MarksLast, MarksLasts, BinderFits, LayerFits, NamesStore, StoresArgument, StoresLayer, StoresNames, NamesEnd, EndsParameters, LeavesNames};
 
 pub fn no_entries() -> Entries
@@ -166,6 +166,20 @@ pub struct EnteredNames {
     pub second: Second,
 }
 
+fn entered_in(q: Pass) -> EnteredNames
+    ensures { λ r. ⌜ r ≡ enteredIn q ⌝ }
+{
+    let scope = q.scope;
+    let nine = q.nine;
+    let second = q.second;
+    EnteredNames {
+        length: scope.length,
+        nine,
+        second,
+    }
+}
+
+// The loop holds only what changes: a whole pass would be stored in narrow words and copied in wide ones at each name, and such a copy waits for the stores.
 pub fn enter_names(
     all: &[u32],
     names: Names,
@@ -180,23 +194,27 @@ pub fn enter_names(
 {
     let first = names.first;
     let before = g.before;
-    let mut q = p;
+    let mut e = entered_in(p);
     let mut h = 0;
     let mut j = 0;
     while j < names.count {
         let heap = is_heap(arguments, before, j);
-        q = enter_name(all, first + j, heap, g, narrow(j), h, q, facts, work);
+        let q = enter_name(
+            all,
+            first + j,
+            heap,
+            g,
+            narrow(j),
+            h,
+            with_entered(p, e),
+            facts,
+            work,
+        );
+        e = entered_in(q);
         h = next_heap(heap, h);
         j += 1;
     }
-    let scope = q.scope;
-    let nine = q.nine;
-    let second = q.second;
-    EnteredNames {
-        length: scope.length,
-        nine,
-        second,
-    }
+    e
 }
 
 pub fn with_entered(p: Pass, e: EnteredNames) -> Pass
