@@ -1,7 +1,7 @@
 -- A call's arguments and its fact, over states.
 use Prim.Native.Nat.{ℕ, _+_, _-_, _*_, _≤_, _<_}
 use mathlib.Core.List.{List}
-use mathlib.Core.Bool.{Bool, true, false, cond, not, _&&_}
+use mathlib.Core.Bool.{Bool, true, false, cond, _&&_}
 use mathlib.Core.Option.{Option, none, some}
 use mathlib.Core.Path.{_≡_, refl, ap, sym, subst, _∙_}
 use native.Mathlib.Omega.{arith}
@@ -19,7 +19,7 @@ use Rattle.semantic.specs.Information.{markLastUsage}
 use Rattle.semantic.specs.Rows.{Blank, rowWidth, putRow}
 use Rattle.semantic.specs.Amend.{amended}
 use Rattle.semantic.specs.Leaves.{Amends}
-use Rattle.pass.specs.State.{State, Entry, entryAt, newest, depth}
+use Rattle.pass.specs.State.{State, entryAt, newest, depth}
 use Rattle.pass.specs.Lambda.{markLast}
 use Rattle.pass.specs.Visit.{lastUseOf, sameIdent, markArgument, markArguments, markIfTail, endCall}
 use Rattle.pass.specs.Laws.Sound.Calls.{each-marks}
@@ -31,12 +31,14 @@ use Rattle.work.specs.Leaves.{Tells, LoadsEntry}
 use Rattle.work.specs.WorksLaws.{depth-is}
 use Rattle.work.specs.ScopeLaws.{KnownAt, newest-known}
 use Rattle.work.specs.Tied.{raw, Tied, Good}
+use Rattle.work.specs.GoodLaws.{Sized, sized-same, sized-then, good-each}
 use Rattle.work.specs.declared.Pass.{Pass}
 use Rattle.work.specs.declared.entries.Entry.{Entry as Coded}
 use Rattle.work.specs.declared.scope.Binder.{Binder}
 use Rattle.walk.specs.Contract.{SomeTree, StepsOver}
 use Rattle.forms.specs.Contract.{Fits, CallFits, EndsCall}
-use Rattle.forms.specs.FitsLaws.{fact-inside, tied-amend, Sized, sized-same, sized-then, sized-last, good-each}
+use Rattle.forms.specs.FitsLaws.{fact-inside, tied-amend}
+use Rattle.forms.specs.GoodLaws.{sized-last}
 use Rattle.forms.specs.Calls.{Mentioned, IsLast, ArgumentFits, MarksArgument, ArgumentsFit, MarksArguments, MarksIfTail, Called, MakesCall}
 use Rattle.forms.proofs.Idents.{known-ident, name-is, id-is}
 use Rattle.forms.proofs.Trees.{Walks, Left, Head, left-all, left-done, left-head, step-few}

@@ -7,7 +7,6 @@ use mathlib.Core.Path.{_≡_, refl, ap, sym, subst, _∙_}
 use native.Mathlib.Omega.{arith}
 use lib.ListN.{length, drop, getD, length-take, List·getD-eq-default}
 use lib.Seq.{getD-take, getD-drop}
-use Rattle.table.specs.Layout.{layout}
 use Rattle.tree.specs.Record.{records}
 use Rattle.tree.specs.RecordLaws.{nth}
 use Rattle.tree.specs.Tree.{Ident}
@@ -19,7 +18,7 @@ use Rattle.semantic.specs.declared.IdentifierStatus.{IdentifierStatus}
 use Rattle.semantic.specs.declared.IdentifierStatus.the-variants.{HeapAllocated}
 use Rattle.semantic.specs.declared.SemanticInformation.{SemanticInformation}
 use Rattle.semantic.specs.declared.Span.{Span}
-use Rattle.pass.specs.State.{State, Facts, insert, depth, noteSecond}
+use Rattle.pass.specs.State.{State, insert, depth, noteSecond}
 use Rattle.pass.specs.Read.{span, enter}
 use Rattle.pass.specs.Lists.{listIn}
 use Rattle.pass.specs.Lambda.{orZero, enterName}
@@ -28,7 +27,8 @@ use Rattle.work.specs.Coded.{coded}
 use Rattle.work.specs.WorksLaws.{depth-is, names-many}
 use Rattle.work.specs.Leaves.{Becomes}
 use Rattle.work.specs.Tied.{raw, Tied, Good, Here}
-use Rattle.work.specs.TiedLaws.{tied-works}
+use Rattle.work.specs.TiedLaws.{enter-facts, tied-works}
+use Rattle.work.specs.GoodLaws.{sized-enter}
 use Rattle.work.specs.declared.Pass.{Pass}
 use Rattle.work.specs.declared.entries.Entry.{Entry as Coded}
 use Rattle.names.specs.Contract.{SomeState, Room, Enters}
@@ -37,7 +37,7 @@ use Rattle.lists.specs.Contract.{Inside}
 use Rattle.forms.specs.Contract.{FewHeaps, heapsIn}
 use Rattle.forms.specs.declared.bound.Heaps.{Heaps}
 use Rattle.forms.specs.FitsLaws.{fact-inside, tied-insert}
-use Rattle.forms.specs.GoodLaws.{enter-facts, good-second}
+use Rattle.forms.specs.GoodLaws.{good-second}
 use Rattle.forms.specs.Bound.{TellsHeap, NameFits, EntersWith, notedName, nameEntry, NotesHeap, EntersName}
 use Rattle.forms.proofs.Idents.{span-is, known-inside, known-few}
 use Rattle.forms.specs.declared.bound.Heaps.the-variants as heaps
@@ -92,14 +92,8 @@ module _ (rs : List ℕ) (at : ℕ) (p : Pass) (F w : List ℕ) where
       → EntersWith rs at kind e p F w p′ F′ w′
   enters-with {kind} {e} {d} {q} {v} {p′} {w′} {F′} ed eq ev m k = record {
     is = λ C A s x u c h.
-        let f = enter-facts x u s in
-        let t : Tied (raw p′ F C A w′) (enter x u s) = record {
-          facts = h .tied .facts ∙ ap (λ (g : Facts). layout putRow (g .rows)) (sym f);
-          captured = h .tied .captured ∙ ap (λ (g : Facts). layout putItem (g .captured)) (sym f);
-          arguments = h .tied .arguments ∙ ap (λ (g : Facts). layout putItem (g .arguments)) (sym f);
-          works = m .is s x u (h .known) (h .place) c (h .tied .works);
-        } in
-        let n : length (enter x u s .facts .rows) ≡ rowsMost = ap (λ (g : Facts). length (g .rows)) f ∙ h .good .rows in
+        let t = tied-works (enter x u s) (h .tied) (enter-facts x u s) (m .is s x u (h .known) (h .place) c (h .tied .works)) in
+        let n = sized-enter x u s .rows ∙ h .good .rows in
         let z : v ≡ new kind (depth s) (span x) = ev ∙ rw (ed, depth-is (h .tied .works), span-is (h .known) (h .place) eq) in
         let k′ : Stores putRow F (x .at) (Variable v) F′ = rw (h .place) k in
         rw (← z) (tied-insert t n (x .at) (h .known .few) (Variable v) k′);

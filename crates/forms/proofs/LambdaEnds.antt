@@ -5,9 +5,9 @@ use mathlib.Core.Bool.{Bool, true, false, cond, not, _&&_}
 use mathlib.Core.Option.{Option, none, some}
 use mathlib.Core.Path.{_≡_, refl, ap, sym, subst, _∙_}
 use native.Mathlib.Omega.{arith}
-use lib.ListN.{length, take, drop, length-take}
+use lib.ListN.{length, drop, length-take}
 use lib.Dec.{leb, ltb}
-use lib.Seq.{sets, length-sets}
+use lib.Seq.{length-sets}
 use Rattle.tree.specs.Tree.{Ident, Node, Tree}
 use Rattle.tree.specs.Check.{member}
 use Rattle.tree.specs.Accepted.{All}
@@ -31,12 +31,14 @@ use Rattle.work.specs.Works.{Spacious}
 use Rattle.work.specs.WorksLaws.{spacious, depth-is, names-many, captured-top, arguments-top}
 use Rattle.work.specs.Leaves.{Becomes}
 use Rattle.work.specs.Tied.{raw, Tied, Good}
+use Rattle.work.specs.GoodLaws.{Sized, sized-same, sized-then, sized-amend, good-each}
 use Rattle.work.specs.declared.Pass.{Pass}
 use Rattle.walk.specs.declared.uses.Names.{Names}
 use Rattle.lists.specs.Contract.{Told, Inside, Body, Ended, Held, amendedList, AmendsList, StoresList}
 use Rattle.lists.specs.declared.amend.Ending.{Ending}
 use Rattle.forms.specs.Contract.{Fits, LambdaEnds, LeavesLambda}
-use Rattle.forms.specs.FitsLaws.{Sized, sized-same, sized-then, sized-amend, sized-last, fact-inside, tied-insert, told, good-each}
+use Rattle.forms.specs.FitsLaws.{fact-inside, tied-insert, told}
+use Rattle.forms.specs.GoodLaws.{sized-last}
 use Rattle.forms.specs.Bound.{MarksLasts, LayerFits, StoresLayer, NamesEnd, EndsParameters}
 use Rattle.forms.specs.Lambdas.{closed, Closes, madeList, layerList, withLists, entriesBetween, capturedEntries, argumentEntries, functionFact, ListsEnd, EndsLists}
 use Rattle.forms.specs.declared.lambda.EndedLists.{EndedLists}

@@ -8,7 +8,7 @@ use native.Mathlib.Omega.{arith}
 use lib.ListN.{length, length-map}
 use Rattle.tree.specs.Tree.{named}
 use Rattle.semantic.specs.Information.{NONE}
-use Rattle.semantic.specs.Rows.{Row, Blank, Item, putRow}
+use Rattle.semantic.specs.Rows.{Blank, Item, putRow}
 use Rattle.semantic.specs.Kinds.{functionIn, functionFound}
 use Rattle.semantic.specs.Leaves.{Tells}
 use Rattle.semantic.specs.declared.Entries.{Entries}
@@ -20,20 +20,21 @@ use Rattle.pass.specs.State.{State, Scope, withContext, rowAt, itemAt}
 use Rattle.pass.specs.Lists.{isOf, numberRow, numberRows, numberList, numberedHeap, numberedCapture}
 use Rattle.pass.specs.Lambda.{openCaptures, openScope, enterParameters, enterLambda}
 use Rattle.pass.specs.Laws.Sound.Scopes.{each-push, each-push-captures, each-open}
-use Rattle.pass.specs.Laws.Sound.Known.{knowing, inside-listed}
-use Rattle.pass.specs.Laws.Sound.Counted.{asking-nothing, any-listed}
+use Rattle.pass.specs.Laws.Sound.Known.{inside-listed}
+use Rattle.pass.specs.Laws.Sound.Counted.{any-listed}
 use Rattle.pass.specs.Run.{rowsMost, itemsMost, itemsLength}
 use Rattle.work.specs.WorksLaws.{depth-is, names-many, captures-many, captured-many}
 use Rattle.work.specs.Passes.{inContext}
 use Rattle.work.specs.Leaves.{Becomes}
 use Rattle.work.specs.Captures.{opened}
 use Rattle.work.specs.Tied.{raw, Tied}
+use Rattle.work.specs.GoodLaws.{good-where, good-each}
 use Rattle.work.specs.declared.Pass.{Pass}
 use Rattle.walk.specs.declared.uses.Names.{Names}
 use Rattle.lists.specs.Contract.{Inside, CapturesRoom, SomeHeld, Numbers, CountsHeap}
 use Rattle.forms.specs.Contract.{Fits, NamesFit, EntersNames, ListsFit, LambdaFits, EntersLambda}
 use Rattle.forms.specs.declared.bound.Entering.{Entering}
-use Rattle.forms.specs.FitsLaws.{told, tied-context, good-each}
+use Rattle.forms.specs.FitsLaws.{told, tied-context}
 use Rattle.forms.specs.Lambdas.{ListOpens, OpensList, ListInside, EntersBy}
 use Rattle.forms.proofs.LetsCase.{captured-length}
 use Rattle.semantic.specs.declared.FoundFunction.the-variants as function
@@ -167,12 +168,8 @@ module _ {rs : List ℕ} {at : ℕ} {p : Pass} {F C A w : List ℕ} (few : at < 
         let k = captures-opened (functionFound v) s in
         let i = inside-of (functionFound v) (λ i e. l i (sym (fact-is f) ∙ e) .0) in
         record {
-          good = record {
-            rows = ap length (k .rows) ∙ f .good .rows;
-            arguments = ap length (k .arguments) ∙ f .good .arguments;
-            sound = each-open (knowing (λ x q. q .few)) tt (functionFound v) (inside-listed (functionFound v) i) (f .good .sound);
-            counted = each-open asking-nothing (omega arith) (functionFound v) (any-listed (functionFound v)) (f .good .counted);
-          };
+          good = good-where (λ Q. pass.Listed (Q .row) (functionFound v)) (inside-listed (functionFound v) i) (any-listed (functionFound v)) (f .good)
+              (record { rows = ap length (k .rows); arguments = ap length (k .arguments) }) (λ Q l q F z h. each-open l z (functionFound v) q h);
           tied = opens .is rs F A s f;
         }
 

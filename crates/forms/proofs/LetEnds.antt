@@ -7,13 +7,12 @@ use mathlib.Core.Path.{_≡_, refl, ap, sym, subst, _∙_}
 use native.Mathlib.Omega.{arith}
 use lib.ListN.{length, getD}
 use borrow.Author.Tests.{not-true, not-false}
-use Rattle.table.specs.Layout.{layout}
 use Rattle.tree.specs.Tree.{Ident, Node}
-use Rattle.semantic.specs.Rows.{Row, Blank, Variable, Function, CallSite, Let, Item, rowWidth, putRow, putItem}
+use Rattle.semantic.specs.Rows.{Row, Blank, Variable, Function, CallSite, Let, Item, rowWidth, putRow}
 use Rattle.semantic.specs.Kinds.{isBlank}
 use Rattle.semantic.specs.Leaves.{Stores, Tells}
 use Rattle.semantic.specs.declared.LetInformation.{LetInformation}
-use Rattle.pass.specs.State.{State, Facts, Entry, rowAt, noEntry, entryAt, itemOf, insert, amend}
+use Rattle.pass.specs.State.{State, Entry, rowAt, noEntry, entryAt, itemOf, insert, amend}
 use Rattle.pass.specs.Lists.{storeArguments}
 use Rattle.pass.specs.Lambda.{markLast, closeScope, closeLet, leaveNames, entered, functionId, makeLet, leaveLet}
 use Rattle.pass.specs.Laws.Sound.Scopes.{each-leave-names}
@@ -22,12 +21,15 @@ use Rattle.work.specs.Works.{Spacious}
 use Rattle.work.specs.WorksLaws.{spacious, arguments-top}
 use Rattle.work.specs.Leaves.{Becomes}
 use Rattle.work.specs.Tied.{raw, Tied, Good}
+use Rattle.work.specs.TiedLaws.{tied-works}
+use Rattle.work.specs.GoodLaws.{Sized, sized-same, sized-then, good-each}
 use Rattle.work.specs.declared.Pass.{Pass}
 use Rattle.walk.specs.declared.uses.Names.{Names}
 use Rattle.lists.specs.Contract.{Told}
 use Rattle.forms.specs.Contract.{Fits, LetEnds, LeavesLet}
 use Rattle.flags.specs.declared.Around.{Around}
-use Rattle.forms.specs.FitsLaws.{Sized, sized-same, sized-then, sized-last, fact-inside, tied-insert, told, good-each}
+use Rattle.forms.specs.FitsLaws.{fact-inside, tied-insert, told}
+use Rattle.forms.specs.GoodLaws.{sized-last}
 use Rattle.forms.specs.Bound.{NamesStore, StoresNames, LeavesNames}
 use Rattle.forms.specs.Lets.{makeIf, MakeFits, MakesLet, TellsFunction}
 use Rattle.forms.proofs.ArgumentsCase.{entered-length}
@@ -164,11 +166,5 @@ module _ {rs : List ℕ} {at : ℕ} {n : Names} {p : Pass} {F A w : List ℕ} wh
             let same : makeIf blank m (entered xs l) height function l ≡ d =
             ap (λ (i : List Item). makeIf blank m i height function l) en ∙ made-by (rowAt s (m .at)) blank bl m (entered xs s) height function l in
             let v : Tied (raw r F′ C A′ w₁) d = subst (λ (z : State). Tied (raw r F′ C A′ w₁) z) same (makes .is C l xs m function em ar u (left-fits leaves u f)) in
-            let g = close-facts opened d in
-            record {
-              facts = v .facts ∙ ap (λ (h : Facts). layout putRow (h .rows)) (sym g);
-              captured = v .captured ∙ ap (λ (h : Facts). layout putItem (h .captured)) (sym g);
-              arguments = v .arguments ∙ ap (λ (h : Facts). layout putItem (h .arguments)) (sym g);
-              works = k .is d (v .works);
-            };
+            tied-works _ v (close-facts opened d) (k .is d (v .works));
       }

@@ -8,7 +8,7 @@ use native.Mathlib.Omega.{arith}
 use lib.ListN.{length}
 use lib.Dec.{eqb}
 use borrow.Author.Tests.{eq-eqb, ne-eqb}
-use Rattle.table.specs.Layout.{layout, length-layout}
+use Rattle.table.specs.Layout.{length-layout}
 use Rattle.tree.specs.Tree.{Node}
 use Rattle.semantic.specs.Rows.{Blank, rowWidth, putRow, itemWidth, putItem, item-long}
 use Rattle.semantic.specs.Kinds.{functionIn, letIn, functionFound, letFound}
@@ -19,7 +19,7 @@ use Rattle.semantic.specs.declared.LetInformation.{LetInformation}
 use Rattle.semantic.specs.declared.FoundFunction.{FoundFunction}
 use Rattle.semantic.specs.declared.FoundLet.{FoundLet}
 use Rattle.semantic.specs.declared.IdentifierStatus.the-variants.{LetVar}
-use Rattle.pass.specs.State.{State, Facts, rowAt, depth}
+use Rattle.pass.specs.State.{State, rowAt, depth}
 use Rattle.pass.specs.Lists.{listIn}
 use Rattle.pass.specs.Lambda.{openScope, heapsAround, letArguments, atBottom, openLet, enterLet, functionId}
 use Rattle.pass.specs.Laws.Sound.Scopes.{each-open-let}
@@ -27,18 +27,19 @@ use Rattle.pass.specs.Run.{rowsMost, itemsMost, itemsLength}
 use Rattle.work.specs.WorksLaws.{depth-is, names-many, captured-many}
 use Rattle.work.specs.Leaves.{Becomes}
 use Rattle.work.specs.Tied.{raw}
+use Rattle.work.specs.TiedLaws.{tied-works}
+use Rattle.work.specs.GoodLaws.{sized-facts, good-each}
 use Rattle.work.specs.declared.Pass.{Pass}
 use Rattle.walk.specs.declared.uses.Names.{Names}
-use Rattle.lists.specs.Contract.{Told, Inside, CountsHeap}
+use Rattle.lists.specs.Contract.{Inside, CountsHeap}
 use Rattle.flags.specs.Flags.{AroundIs}
 use Rattle.forms.specs.Contract.{Fits, NamesFit, EntersNames, LetFits, EntersLet, heapsIn}
 use Rattle.flags.specs.declared.Around.{Around}
 use Rattle.forms.specs.declared.bound.Heaps.{Heaps}
-use Rattle.forms.specs.FitsLaws.{fact-inside, told, good-each}
+use Rattle.forms.specs.FitsLaws.{fact-inside, told}
 use Rattle.forms.specs.Lets.{AroundFits, TellsHeaps, TellsFunction, LetAt, TellsLet}
 use Rattle.semantic.specs.declared.FoundFunction.the-variants as function
 use Rattle.semantic.specs.declared.FoundLet.the-variants as letin
-use Rattle.pass.specs.Lambda as pass
 use Rattle.forms.specs.declared.bound.Heaps.the-variants as heaps
 
 -- the captured entries' table
@@ -177,14 +178,8 @@ module _ {rs : List ℕ} {p : Pass} {F C A w : List ℕ} {q : Pass}
   opened-fits {s} f =
       let e = opened-facts (atBottom s) s in
       record {
-        good = good-each (f .good) (record { rows = ap (λ (g : Facts). length (g .rows)) e; arguments = ap (λ (g : Facts). length (g .arguments)) e })
-            (λ Q l F z h. each-open-let l z (atBottom s) h);
-        tied = record {
-          facts = f .tied .facts ∙ ap (λ (g : Facts). layout putRow (g .rows)) (sym e);
-          captured = f .tied .captured ∙ ap (λ (g : Facts). layout putItem (g .captured)) (sym e);
-          arguments = f .tied .arguments ∙ ap (λ (g : Facts). layout putItem (g .arguments)) (sym e);
-          works = opens w .is s (f .tied .works);
-        };
+        good = good-each (f .good) (sized-facts e) (λ Q l F z h. each-open-let l z (atBottom s) h);
+        tied = tied-works _ (f .tied) e (opens w .is s (f .tied .works));
       }
 
   module _ {at : ℕ} {n : Names} {height : ℕ} {a : Around} {o : Heaps} {l : Entries} (heapsTold : TellsHeaps a F C o) (letTold : TellsLet at F l) where

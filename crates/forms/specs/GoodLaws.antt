@@ -1,44 +1,26 @@
--- What keeps a state good: names that enter.
+-- What keeps a state good: names that enter, and names at their end.
 use Prim.Native.Nat.{ℕ}
 use mathlib.Core.List.{List, [], _∷_}
-use mathlib.Core.Bool.{Bool, true, false, _&&_}
+use mathlib.Core.Bool.{Bool, true, false}
 use mathlib.Core.Option.{Option, none, some}
-use mathlib.Core.Path.{_≡_, refl, ap, _∙_}
-use native.Mathlib.Omega.{arith}
-use lib.ListN.{length}
-use lib.Dec.{ltb}
+use mathlib.Core.Path.{_≡_, refl}
 use Rattle.tree.specs.Tree.{Ident, Tree}
-use Rattle.scope_map.specs.ScopeMap.{hasAtTop}
+use Rattle.semantic.specs.Information.{markLastUsage}
 use Rattle.semantic.specs.Rows.{Variable, Item}
 use Rattle.semantic.specs.declared.IdentifierStatus.{IdentifierStatus}
-use Rattle.pass.specs.State.{State, Facts, Entry, depth, putEntry, topLevelEntry, noteSecond}
-use Rattle.pass.specs.Read.{noteLive, enter, defineFact, enterDefine}
+use Rattle.pass.specs.State.{State, topLevelEntry, noteSecond}
+use Rattle.pass.specs.Read.{enter, defineFact, enterDefine}
 use Rattle.pass.specs.Lambda.{isHeap, noteHeap, enterName, enterNames, markLast, endParameters}
 use Rattle.pass.specs.Sound.{Grows, IsNamed}
 use Rattle.pass.specs.Laws.Sound.Each.{each-noted, each-live}
 use Rattle.pass.specs.Laws.Sound.Lists.{removed-values, removed-live}
-use Rattle.pass.specs.Laws.Sound.Known.{knowing, sound-define}
-use Rattle.pass.specs.Laws.Sound.Counted.{asking-nothing, counted-define}
+use Rattle.pass.specs.Laws.Sound.Names.{each-define}
 use Rattle.pass.specs.Laws.Sound.Scopes.{each-name, each-last, each-ended}
 use Rattle.pass.specs.Laws.Sound.Rooms.{grows-names}
 use Rattle.work.specs.Known.{Known}
 use Rattle.work.specs.Scope.{removed}
 use Rattle.work.specs.Tied.{Good}
-use Rattle.forms.specs.FitsLaws.{Sized, sized-same, sized-then, sized-insert, sized-amend, sized-last, good-each}
-
-live-facts : (b : Bool) (i : ℕ) (s : State) → noteLive b i s .facts ≡ s .facts
-live-facts true i s = refl
-live-facts false i s = refl
-
--- a name that enters changes no fact
-pub enter-facts : (x : Ident) (e : Entry) (s : State) → enter x e s .facts ≡ s .facts
-unfolding enter putEntry
-enter-facts x e s = live-facts (ltb 1 (depth s) && hasAtTop (s .scope .names) (x .name)) (x .at) s
-
-pub sized-enter : (x : Ident) (e : Entry) (s : State) → Sized s (enter x e s)
-sized-enter x e s =
-    let q = enter-facts x e s in
-    record { rows = ap (λ (f : Facts). length (f .rows)) q; arguments = ap (λ (f : Facts). length (f .arguments)) q }
+use Rattle.work.specs.GoodLaws.{Sized, sized-same, sized-then, sized-facts, sized-enter, sized-insert, sized-amend, good-where, good-each}
 
 module _ (classes : List ℕ) (kind : IdentifierStatus) (alias : ℕ) (x : Ident) (b : Tree) where
   pub sized-define : (s : State) → Sized s (enterDefine classes kind alias x b s)
@@ -46,12 +28,7 @@ module _ (classes : List ℕ) (kind : IdentifierStatus) (alias : ℕ) (x : Ident
   sized-define s = sized-then (sized-enter x topLevelEntry s) (sized-insert (x .at) (Variable (defineFact classes kind alias x b s)) (enter x topLevelEntry s))
 
   pub good-define : {rs : List ℕ} {s : State} → Known rs x → Good rs s → Good rs (enterDefine classes kind alias x b s)
-  good-define {rs} {s} k g = record {
-    rows = sized-define s .rows ∙ g .rows;
-    arguments = sized-define s .arguments ∙ g .arguments;
-    sound = sound-define (λ y q. q .few) classes kind alias x b k (g .sound);
-    counted = counted-define classes kind alias x b (g .counted);
-  }
+  good-define {s = s} k g = good-where (λ Q. Q .ident x) k tt g (sized-define s) (λ Q l q F z h. each-define z classes kind alias x b q h)
 
 -- a name of a lambda or a let
 heap-facts : (o : Option ℕ) (x : Ident) (s : State) → noteHeap o x s .facts ≡ s .facts
@@ -61,19 +38,12 @@ heap-facts (some n) x s = refl
 module _ (kind : IdentifierStatus) (base : ℕ) (heaps : Option ℕ) (before : List Item) where
   sized-name : (b : Bool) (x : Ident) (j h : ℕ) (s : State) → Sized s (enterName kind base heaps before b x j h s)
   unfolding enterName
-  sized-name true x j h s =
-      let q = heap-facts heaps x s in
-      let z : Sized s (noteHeap heaps x s) = record { rows = ap (λ (f : Facts). length (f .rows)) q; arguments = ap (λ (f : Facts). length (f .arguments)) q } in
-      sized-then z (sized-then (sized-enter x _ _) (sized-insert (x .at) _ _))
+  sized-name true x j h s = sized-then (sized-facts (heap-facts heaps x s)) (sized-then (sized-enter x _ _) (sized-insert (x .at) _ _))
   sized-name false x j h s = sized-then (sized-enter x _ s) (sized-insert (x .at) _ _)
 
   pub good-name : {rs : List ℕ} {s : State} (b : Bool) (x : Ident) (j h : ℕ) → Known rs x → Good rs s → Good rs (enterName kind base heaps before b x j h s)
-  good-name {rs} {s} b x j h k g = record {
-    rows = sized-name b x j h s .rows ∙ g .rows;
-    arguments = sized-name b x j h s .arguments ∙ g .arguments;
-    sound = each-name (knowing (λ y q. q .few)) tt kind base heaps before b x j h k (g .sound);
-    counted = each-name asking-nothing (omega arith) kind base heaps before b x j h tt (g .counted);
-  }
+  good-name {s = s} b x j h k g =
+      good-where (λ Q. Q .ident x) k tt g (sized-name b x j h s) (λ Q l q F z e. each-name l z kind base heaps before b x j h q e)
 
   -- one live name more at most
   pub grows-name : (x : Ident) (j h : ℕ) (s : State) → Grows 0 1 s (enterName kind base heaps before (isHeap before j) x j h s)
@@ -85,6 +55,10 @@ pub good-second : {rs : List ℕ} {s : State} (n i : ℕ) → Good rs s → Good
 good-second n i g = good-each g (record { rows = refl; arguments = refl }) (λ Q l F z h. each-noted _ h)
 
 -- names at their end
+
+pub sized-last : (o : Option Ident) (s : State) → Sized s (markLast o s)
+sized-last none s = sized-same s
+sized-last (some x) s = sized-amend markLastUsage (x .at) s
 
 pub good-last : {rs : List ℕ} {s : State} (o : Option Ident) → Good rs s → Good rs (markLast o s)
 good-last {s = s} o g = good-each g (sized-last o s) (λ Q l F z h. each-last l z o h)

@@ -1,27 +1,27 @@
 -- A name enters, and a define's fact is made. No place of the code stands here.
-use Prim.Native.Nat.{ℕ, zero, suc, _≤_, _<_}
-use mathlib.Core.List.{List, [], _∷_}
+use Prim.Native.Nat.{ℕ, _<_}
+use mathlib.Core.List.{List, []}
 use mathlib.Core.Bool.{Bool, true, false, _&&_}
 use mathlib.Core.Option.{Option, none, some}
 use mathlib.Core.Path.{_≡_, refl, ap, sym, _∙_, subst}
 use native.Mathlib.Omega.{arith}
-use lib.ListN.{length, getD, set}
 use lib.Dec.{ltb}
 use Rattle.tree.specs.RecordLaws.{nth}
 use Rattle.tree.specs.Tree.{Ident}
 use Rattle.scope_map.specs.ScopeMap.{ScopeMap, hasAtTop}
 use Rattle.scope_map.specs.ScopeMap as map
 use Rattle.semantic.specs.Information.{new, shadows, aliasesTo, markBuiltin, markRequired, markShadowed}
-use Rattle.semantic.specs.Rows.{Row, Blank, Variable, Function, CallSite, Let, putRow}
+use Rattle.semantic.specs.Rows.{Blank, Variable, putRow}
 use Rattle.semantic.specs.Amend.{amended, markIf}
 use Rattle.semantic.specs.Leaves.{Stores, Amends}
 use Rattle.semantic.specs.declared.IdentifierStatus.{IdentifierStatus}
 use Rattle.semantic.specs.declared.IdentifierStatus.the-variants.{Global}
 use Rattle.semantic.specs.declared.SemanticInformation.{SemanticInformation}
 use Rattle.semantic.specs.declared.Span.{Span}
-use Rattle.pass.specs.State.{State, Facts, Entry, rowAt, putEntry, insert, amend, withNames, topLevelEntry, newest, depth}
+use Rattle.pass.specs.State.{State, Entry, putEntry, insert, amend, withNames, topLevelEntry, newest, depth}
 use Rattle.pass.specs.Read.{noteLive, enter, statusAt, defineFact, enterDefine, shadowIfBuiltin, shadow, enterTopLevelValue, alias}
-use Rattle.pass.specs.Sound.{Property, Each, usesIn}
+use Rattle.pass.specs.Laws.Sound.Each.{each-mark}
+use Rattle.pass.specs.Laws.Sound.Names.{marked-uses}
 use Rattle.work.specs.Coded.{coded, recordIn}
 use Rattle.work.specs.Works.{Works}
 use Rattle.work.specs.WorksLaws.{depth-is}
@@ -29,8 +29,8 @@ use Rattle.work.specs.ScopeLaws.{newest-known}
 use Rattle.work.specs.Leaves.{Becomes, Tells, StoresEntry}
 use Rattle.work.specs.Scope.{TellsId, isLiveRow, inRow, Defines}
 use Rattle.work.specs.Tied.{raw, Tied, Good, Here}
-use Rattle.pass.specs.Visitable.{usesMost}
-use Rattle.work.specs.TiedLaws.{rowCount, count-amend, facts-entry, tied-works, tied-insert, tied-amend}
+use Rattle.work.specs.TiedLaws.{rowCount, enter-facts, tied-works, tied-insert, tied-amend}
+use Rattle.work.specs.GoodLaws.{sized-enter, sized-amend, good-each}
 use Rattle.work.specs.declared.Pass.{Pass}
 use Rattle.work.specs.declared.entries.Entry.{Entry as Coded}
 use Rattle.walk.specs.declared.body.Body.{Body}
@@ -54,22 +54,12 @@ define-fact {n = n} {h} {p = p} {q = q} ed en t ek eq ei ej el em er = record {
 
 -- A name enters
 
-note-facts : (b : Bool) (i : ℕ) (s : State) → noteLive b i s .facts ≡ s .facts
-note-facts true i s = refl
-note-facts false i s = refl
-
 abbrev isLive : ℕ → State → Bool
 isLive n s = ltb 1 (depth s) && hasAtTop (s .scope .names) n
 
 -- x enters under the name n, its entry at the place i
 abbrev entered : ℕ → ℕ → Ident → Entry → State → State
 entered n i x e s = putEntry i e (withNames (map.define n x (s .scope .names)) (noteLive (isLive n s) i s))
-
-enter-facts : (x : Ident) (e : Entry) (s : State) → enter x e s .facts ≡ s .facts
-unfolding enter
-enter-facts x e s =
-    facts-entry (withNames (map.define (x .name) x (s .scope .names)) (noteLive (isLive (x .name) s) (x .at) s)) (x .at) e
-    ∙ note-facts (isLive (x .name) s) (x .at) s
 
 note-after : (b : Bool) (i : ℕ) (m : ScopeMap Ident) (s : State) → noteLive b i (withNames m s) ≡ withNames m (noteLive b i s)
 note-after true i m s = refl
@@ -106,7 +96,7 @@ defines-by {kind = kind} {a} {rs} {at} {p} {q} {F} {w} {F′} {w′} {r = r} f e
         let s₁ = enter x topLevelEntry s in
         let t₁ : Tied (raw q F C A w′) s₁ =
         tied-works s₁ (h .tied) (enter-facts x topLevelEntry s) (k .is s x topLevelEntry (h .known) (h .place) ee (h .tied .works)) in
-        let e = ap (λ (f : Facts). length (f .rows)) (enter-facts x topLevelEntry s) in
+        let e = sized-enter x topLevelEntry s .rows in
         let j : at < rowCount s₁ = omega (arith, e, h .good .rows, known-few (h .known) (h .place)) in
         let z : r ≡ defineFact classes kind a x t s = f .is classes t s x eb (h .known) (h .place) (h .tied .works) (h .good .sound .binders) in
         subst (λ (i : ℕ). Tied (raw q F′ C A w′) (insert i (Variable (defineFact classes kind a x t s)) s₁)) (sym (h .place))
@@ -116,51 +106,10 @@ defines-by {kind = kind} {a} {rs} {at} {p} {q} {F} {w} {F′} {w′} {r = r} f e
 
 -- A builtin that a value define hides is marked: what holds of a state holds still
 
-set-has : {A : Type 0} (P : A → Type 0) (l : List A) (b i : ℕ) (a d : A) → P (getD l i d) → P a → P (getD (set l b a) i d)
-set-has P [] b i a d h g = h
-set-has P (x ∷ l) zero zero a d h g = g
-set-has P (x ∷ l) zero (suc i) a d h g = h
-set-has P (x ∷ l) (suc b) zero a d h g = h
-set-has P (x ∷ l) (suc b) (suc i) a d h g = set-has P l b i a d h g
-
-module _ (F : ℕ → Type 0) (f : SemanticInformation → SemanticInformation) (kept : (v : SemanticInformation) → f v .«usage_count» ≡ v .«usage_count») where
-  amended-uses : (r : Row) → F (usesIn r) → F (usesIn (amended f r))
-  amended-uses Blank h = h
-  amended-uses (Variable v) h = subst F (sym (kept v)) h
-  amended-uses (Function v) h = h
-  amended-uses (CallSite v) h = h
-  amended-uses (Let v) h = h
-
-  each-amend : {Q : Property} {s : State} (b : ℕ) → Each Q F s → Each Q F (amend f b s)
-  unfolding amend insert
-  each-amend {s = s} b e = record {
-    named = e .named;
-    binders = e .binders;
-    lasts = e .lasts;
-    items = e .items;
-    taken = e .taken;
-    entryUses = e .entryUses;
-    rowUses = λ i. set-has (λ r. F (usesIn r)) (s .facts .rows) b i (amended f (rowAt s b)) Blank (e .rowUses i) (amended-uses (rowAt s b) (e .rowUses b));
-    itemUses = e .itemUses;
-    captureUses = e .captureUses;
-  }
-
-good-amend : {rs : List ℕ} {s : State} (f : SemanticInformation → SemanticInformation)
-    → ((v : SemanticInformation) → f v .«usage_count» ≡ v .«usage_count») → (b : ℕ) → Good rs s → Good rs (amend f b s)
-unfolding amend insert
-good-amend {s = s} f kept b g = record {
-  rows = count-amend s b f ∙ g .rows;
-  arguments = g .arguments;
-  sound = each-amend (λ n. Unit {0}) f kept b (g .sound);
-  counted = each-amend (λ n. n ≤ usesMost) f kept b (g .counted);
-}
-
-shadow-uses : (classes : List ℕ) (v : SemanticInformation) → shadowIfBuiltin classes v .«usage_count» ≡ v .«usage_count»
-shadow-uses classes v = go (v .builtin)
-  where
-    go : (b : Bool) → markIf b markShadowed v .«usage_count» ≡ v .«usage_count»
-    go true = refl
-    go false = refl
+good-shadow : {rs : List ℕ} {s : State} (classes : List ℕ) (b : ℕ) → Good rs s → Good rs (amend (shadowIfBuiltin classes) b s)
+good-shadow {s = s} classes b g =
+    let f = shadowIfBuiltin classes in
+    good-each g (sized-amend f b s) (λ Q l F z h. each-mark f b z (λ v q. subst F (sym (marked-uses (v .builtin) markShadowed v refl)) q) h)
 
 module _ {n : ℕ} {p : Pass} {F w : List ℕ} where
   pub shadows-newest : {b : ℕ} {F′ : List ℕ} → Tells p w (λ s. recordIn (newest s n)) (some b)
@@ -173,7 +122,7 @@ module _ {n : ℕ} {p : Pass} {F w : List ℕ} where
         let k : Here rs at (raw p F′ C A w) (amend f b s) x = record {
           known = h .known;
           place = h .place;
-          good = good-amend f (shadow-uses classes) b (h .good);
+          good = good-shadow classes b (h .good);
           tied = tied-amend (h .tied) i a;
         } in
         subst (λ (o : Option Ident). Here rs at (raw p F′ C A w) (shadow classes o s) x) (sym (z .is) ∙ ap (newest s) en)

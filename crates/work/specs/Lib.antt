@@ -12,3 +12,4 @@ pub mod WorksKept
 pub mod CapturesLaws
 pub mod Tied
 pub mod TiedLaws
+pub mod GoodLaws

@@ -1,14 +1,19 @@
 -- One row of the facts or one entry changes: the tables hold the state so changed.
 use Prim.Native.Nat.{ℕ, _<_}
 use mathlib.Core.List.{List}
+use mathlib.Core.Bool.{Bool, true, false, _&&_}
 use mathlib.Core.Path.{_≡_, refl, ap, sym, _∙_}
 use lib.ListN.{length, length-set}
+use lib.Dec.{ltb}
 use Rattle.table.specs.Layout.{layout}
+use Rattle.tree.specs.Tree.{Ident}
+use Rattle.scope_map.specs.ScopeMap.{hasAtTop}
 use Rattle.semantic.specs.Rows.{Row, Blank, putRow, putItem}
 use Rattle.semantic.specs.Amend.{amended}
 use Rattle.semantic.specs.Leaves.{Stores, Amends}
 use Rattle.semantic.specs.declared.SemanticInformation.{SemanticInformation}
-use Rattle.pass.specs.State.{State, Facts, Entry, insert, amend, rowAt, putEntry}
+use Rattle.pass.specs.State.{State, Facts, Entry, insert, amend, rowAt, putEntry, depth}
+use Rattle.pass.specs.Read.{noteLive, enter}
 use Rattle.work.specs.Coded.{coded}
 use Rattle.work.specs.Works.{Works}
 use Rattle.work.specs.WorksKept.{insert-kept}
@@ -37,6 +42,15 @@ module _ (s : State) (i : ℕ) where
 
   pub count-entry : (e : Entry) → rowCount (putEntry i e s) ≡ rowCount s
   count-entry e = ap (λ (f : Facts). length (f .rows)) (facts-entry e)
+
+live-facts : (b : Bool) (i : ℕ) (s : State) → noteLive b i s .facts ≡ s .facts
+live-facts true i s = refl
+live-facts false i s = refl
+
+-- a name that enters changes no fact
+pub enter-facts : (x : Ident) (e : Entry) (s : State) → enter x e s .facts ≡ s .facts
+unfolding enter putEntry
+enter-facts x e s = live-facts (ltb 1 (depth s) && hasAtTop (s .scope .names) (x .name)) (x .at) s
 
 -- a change that leaves the facts alone
 pub tied-works : {p q : Pass} {F C A w w′ : List ℕ} {s : State} (s′ : State) → Tied (raw p F C A w) s
