@@ -1,6 +1,6 @@
 // Check 8: each id against the earlier ones of its bucket, which are few, unless ids are chosen to share one.
 ghost use mathlib.Core.Path.{_≡_};
-ghost use mathlib.Core.Bool.{false, not, _&&_};
+ghost use mathlib.Core.Bool.{cond, false, not, _&&_};
 ghost use mathlib.Core.List.{[]};
 ghost use Prim.Native.Nat.{_+_, _<_, _≤_};
 ghost use lib.Dec.{eqb};
@@ -40,7 +40,7 @@ fn link(x: u16) -> usize
 
 // Whether the id stands among the first `last` records, of which the last is of the id's bucket: along the chain, newest first.
 fn stands(rs: &[u32], before: &[u16], last: usize, id: u32) -> bool
-    requires { ⌜ (id ≡ 0 → ⊥) ⌝ }
+    requires { ⌜ (id ≡ 0 → last ≡ 0) ⌝ }
     requires { ⌜ Chain (now rs) (now before) id last ⌝ }
     ensures { λ r. ⌜ r ≡ member id (seen (now (rs .entry)) last) ⌝ }
 {
@@ -55,7 +55,15 @@ fn stands(rs: &[u32], before: &[u16], last: usize, id: u32) -> bool
     false
 }
 
-// Whether record i repeats an earlier id; 0 is none. If not, it becomes the newest of its bucket.
+// The first or the second, as asked.
+fn pick(first: bool, a: u16, b: u16) -> u16
+    ensures { λ r. ⌜ r ≡ cond first a b ⌝ }
+{
+    if first { a } else { b }
+}
+
+// Whether record i repeats an earlier id; 0 is none. If not, it becomes the newest of its bucket. Which records have an id comes mixed, as the
+// forms do: each link is picked, and a branch on it would be mispredicted.
 fn repeats(rs: &[u32], i: usize, newest: &mut [u16], before: &mut [u16]) -> bool
     requires { ⌜ length (records (now rs)) ≤ 4096 ⌝ }
     requires { ⌜ i < length (records (now rs)) ⌝ }
@@ -64,16 +72,15 @@ fn repeats(rs: &[u32], i: usize, newest: &mut [u16], before: &mut [u16]) -> bool
     ensures chained { λ r. ⌜ (r ≡ false → Chains (now (rs .entry)) (now (newest .exit)) (now (before .exit)) (i + 1)) ⌝ }
 {
     let id = record::id(rs, i);
-    if id == 0 {
-        return false;
-    }
+    let none = id == 0;
     let b = bucket(id, newest.len());
-    let last = newest[b];
+    let head = newest[b];
+    let last = pick(none, 0, head);
     if stands(rs, before, link(last), id) {
         return true;
     }
     before[i] = last;
-    newest[b] = (i + 1) as u16;
+    newest[b] = pick(none, head, (i + 1) as u16);
     false
 }
 

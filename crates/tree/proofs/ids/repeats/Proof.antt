@@ -1,53 +1,55 @@
--- `repeats`: the id is compared along its bucket's chain, which the record then heads.
+-- `repeats`: the id is compared along its bucket's chain, which the record then heads; with no id, neither.
 use borrow.Author.Needs.{needs}
-use borrow.Author.Tests.{eq-eqb}
 use native.Mathlib.Omega.{arith}
-use mathlib.Core.Bool.{true≢false}
+use mathlib.Core.Bool.{cond, true≢false}
 use mathlib.Core.Path.{_≡_, sym, _∙_}
+use lib.Dec.{eqb}
+use lib.ListN.{getD}
+use Prim.Native.Nat.{_+_}
 use Rattle.tree.proofs.Repeated.{again}
-use Rattle.tree.proofs.Chaining.{chains-skip, chain-begin, again-along, chains-add}
+use Rattle.tree.proofs.Chaining.{Picked, picked}
 use Rattle.tree.proofs.ids.repeats.Statement.{statement}
 use Rattle.tree.proofs.ids.repeats.Tie as tie
 
 id-requires : tie.Need-id-requires
 id-requires c κs = search needs
 
-returns : tie.Need-returns
-returns c =
-    let s = c .before .before .before .before .before in
-    let e = c .before .id .ensures in
-    (rw (← e, eq-eqb _ _ (c .if1 .taken)), λ f. chains-skip (s .pre .1 .1) (sym e ∙ c .if1 .taken))
-
 bucket-requires : tie.Need-bucket-requires
 bucket-requires c κs = search needs
 
-mul-last : tie.Need-mul-last
-mul-last c = search needs
+mul-head : tie.Need-mul-head
+mul-head c = search needs
 
-slice-read-last : tie.Need-slice-read-last
-slice-read-last c = search needs
+slice-read-head : tie.Need-slice-read-head
+slice-read-head c = search needs
+
+pick-requires : tie.Need-pick-requires
+pick-requires c κs = search needs
 
 link-requires : tie.Need-link-requires
 link-requires c κs = search needs
 
-stands-requires : tie.Need-stands-requires
-stands-requires c κs =
-    let d = c .before .before .before in
-    let s = d .before .before .before .before .before .before in
-    let n = d .before .if1 .left in
-    (n, chain-begin (s .pre .1 .1) (d .before .before .id .ensures) n (d .bucket .ensures .0) (c .link .ensures) (omega arith))
+-- what is picked of the links
+at-pick : (c : tie.After-pick) → let d = c .before .before in let s = d .before .before .before .before .before in
+    let head = getD (s .args .newest .now) (d .bucket .result) 0 in
+    Picked (s .args .rs .now) (s .args .newest .now) (s .args .before .now) (s .args .i) (d .before .id .result) (d .bucket .result) (c .pick .result)
+    (cond (eqb (d .before .id .result) 0) head (s .args .i + 1))
+at-pick c =
+    let d = c .before .before in
+    let s = d .before .before .before .before .before in
+    rw (c .pick .ensures) (picked (s .pre .1 .1) (d .before .id .ensures) (d .bucket .ensures .0) (omega arith) (omega arith))
 
 compared : (c : tie.After-stands) → let s = c .before .before .before .before .before .before .before .before .before .before in c .stands .result ≡ again (s .args .rs .now) (s .args .i)
-compared c =
-    let d = c .before .before .before .before in
-    let s = d .before .before .before .before .before .before in
-    again-along (s .pre .1 .1) (d .before .before .id .ensures) (d .before .if1 .left) (d .bucket .ensures .0) (c .before .link .ensures) (c .stands .ensures)
+compared c = at-pick (c .before .before .before) .along (rw (← c .before .link .ensures) (c .stands .ensures))
+
+stands-requires : tie.Need-stands-requires
+stands-requires c κs = let k = at-pick (c .before .before) in rw (c .link .ensures) (k .none, k .chain)
 
 same-length : tie.Need-same-length
 same-length c = search needs
 
-returns-2 : tie.Need-returns-2
-returns-2 c = (sym (c .if2 .taken) ∙ compared (c .before), λ f. absurd (true≢false f))
+returns : tie.Need-returns
+returns c = (sym (c .if1 .taken) ∙ compared (c .before), λ f. absurd (true≢false f))
 
 mul-before : tie.Need-mul-before
 mul-before c = search needs
@@ -55,11 +57,14 @@ mul-before c = search needs
 slice-write-before : tie.Need-slice-write-before
 slice-write-before c = search needs
 
-add-newest : tie.Need-add-newest
-add-newest c = search needs
+add-pick : tie.Need-add-pick
+add-pick c = search needs
 
-cast-newest : tie.Need-cast-newest
-cast-newest c = search needs
+cast-pick : tie.Need-cast-pick
+cast-pick c = search needs
+
+pick-requires-2 : tie.Need-pick-requires-2
+pick-requires-2 c κs = search needs
 
 mul-newest : tie.Need-mul-newest
 mul-newest c = search needs
@@ -73,33 +78,29 @@ same-length-2 c = search needs
 same-length-3 : tie.Need-same-length-3
 same-length-3 c = search needs
 
-returns-3 : tie.Need-returns-3
-returns-3 c =
-    let d = c .before .before .before .before .before in
-    let s = d .before .before .before .before .before .before in (
-      sym (c .if2 .left) ∙ compared (c .before),
-      λ f. chains-add (s .pre .1 .1) (d .before .before .id .ensures) (d .before .if1 .left) (d .bucket .ensures .0) (omega arith) (omega arith),
-    )
+returns-2 : tie.Need-returns-2
+returns-2 c = (sym (c .before .if1 .left) ∙ compared (c .before .before), λ f. rw (c .pick2 .ensures) (at-pick (c .before .before .before .before .before) .chained))
 
 pub repeats-spec : {M : Type 1} → statement M
 repeats-spec =
     tie.close
     (tie.spec
     id-requires
-    returns
     bucket-requires
-    mul-last
-    slice-read-last
+    mul-head
+    slice-read-head
+    pick-requires
     link-requires
     stands-requires
     same-length
-    returns-2
+    returns
     mul-before
     slice-write-before
-    add-newest
-    cast-newest
+    add-pick
+    cast-pick
+    pick-requires-2
     mul-newest
     slice-write-newest
     same-length-2
     same-length-3
-    returns-3)
+    returns-2)

@@ -12,13 +12,13 @@ use Rattle.tree.proofs.ids.stands.Statement.{statement}
 use Rattle.tree.proofs.ids.stands.Tie as tie
 
 abbrev Inv-loop : tie.InvT-loop
-Inv-loop rs before last id p₀ p = Chain rs before id p × (member id (seen rs last) ≡ member id (seen rs p))
+Inv-loop rs before last id p₀ p = Chain rs before id p × (member id (seen rs last) ≡ member id (seen rs p)) × (id ≡ 0 → p ≡ 0)
 
 abbrev μ-loop : tie.MeasureT-loop
 μ-loop rs before last id p₀ p = p
 
 loop-holds : tie.Need-loop-holds Inv-loop μ-loop
-loop-holds c = (c .before .before .pre .1, refl)
+loop-holds c = (c .before .before .pre .1, refl, c .before .before .pre .0)
 
 sub-p : tie.Need-sub-p Inv-loop μ-loop
 sub-p c = search needs
@@ -49,9 +49,11 @@ loop-again c =
     let t = c .before .before .before .before in
     let l = t .before .loop in
     let h = t .loop-test .taken in
-    let e = c .link .ensures in (
+    let e = c .link .ensures in
+    let given : t .before .before .before .before .args .id ≡ 0 → ⊥ = λ z. omega (arith, l .inv .2 z) in (
       chain-next (l .inv .0) h e,
-      l .inv .1 ∙ chain-miss (l .inv .0) h e (t .before .before .before .before .pre .0) (λ m. c .before .before .if1 .left (c .before .before .before .id .ensures ∙ m)),
+      l .inv .1 ∙ chain-miss (l .inv .0) h e given (λ m. c .before .before .if1 .left (c .before .before .before .id .ensures ∙ m)),
+      λ z. absurd (given z),
     )
 
 returns-2 : tie.Need-returns-2 Inv-loop μ-loop
