@@ -100,7 +100,8 @@ tells-id N f i g h =
 
 -- a record fits if its form is known, and the fields are within the form's limits, but for the least count
 module _ (N : ℕ) (r : Record) where
-  tells-parts : 1 ≤ r .form → r .form ≤ 9 → Tells (fits N r) ((isForm (formOf (r .form)) ≡ true) × (Between (limits N) (r .form) 0 (r .id) × ((r .name < limitOf (limits N) (r .form) 4) × (r .count ≤ limitOf (limits N) (r .form) 3))))
+  tells-parts : let f = r .form in 1 ≤ f → f ≤ 9
+      → Tells (fits N r) ((isForm (formOf f) ≡ true) × (Between (limits N) f 0 (r .id) × ((r .name < limitOf (limits N) f 4) × (r .count ≤ limitOf (limits N) f 3))))
   unfolding fits
   tells-parts g h =
       let o = formOf (r .form) in
