@@ -6,7 +6,7 @@ use mathlib.Core.Option.{Option, none, some}
 use mathlib.Core.Path.{_≡_, refl, ap, sym, subst, _∙_}
 use native.Mathlib.Omega.{arith}
 use lib.ListN.{length, drop, length-take}
-use lib.Dec.{leb, ltb}
+use lib.Dec.{ltb}
 use lib.Seq.{length-sets}
 use Rattle.tree.specs.Tree.{Ident, Node, Tree}
 use Rattle.tree.specs.Check.{member}
@@ -19,9 +19,10 @@ use Rattle.semantic.specs.declared.Entries.{Entries}
 use Rattle.semantic.specs.declared.FunctionInformation.{FunctionInformation}
 use Rattle.semantic.specs.declared.FoundFunction.{FoundFunction}
 use Rattle.pass.specs.State.{State, Capture, rowAt, entryAt, newest, insert, itemOf, depth}
-use Rattle.pass.specs.Lists.{addCaptured, capturedIn, capturedVars, insertById, sortById, listIn, keep, nameOf, namesOf, amendList, storeCaptured, storeArguments, rewriteCaptured}
+use Rattle.pass.specs.Lists.{addCaptured, capturedIn, capturedVars, listIn, keep, nameOf, namesOf, amendList, storeCaptured, storeArguments, rewriteCaptured}
 use Rattle.pass.specs.Lambda.{nameIn, itemsOf, markLasts, closeScope, closeCaptures, endParameters, makeFunction, nowUsed, keptOf, holdsLambda, amendFunction, functionEnds, leaveLambda}
 use Rattle.pass.specs.Sound.{Property, Lawful, Each}
+use Rattle.pass.specs.Laws.Order.{sorted-length}
 use Rattle.pass.specs.Laws.Sound.Each.{Fine, fine}
 use Rattle.pass.specs.Laws.Sound.Items.{sorted-items, kept-items, listed-items, amended-items, captured-items}
 use Rattle.pass.specs.Laws.Sound.Lists.{all-either}
@@ -84,20 +85,6 @@ module _ {rs : List ℕ} {p : Pass} {F w : List ℕ} where
       lambda-closes k = record { is = λ C A s xs t f. k .is C A _ xs t (closed-fits f) }
 
 -- How long the lists are
-
-insert-length : (i : Item) (l : List Item) → length (insertById i l) ≡ suc (length l)
-unfolding insertById
-insert-length i [] = refl
-insert-length i (j ∷ l) = go (leb (i .info .id) (j .info .id)) (insert-length i l)
-  where
-    go : (b : Bool) → length (insertById i l) ≡ suc (length l) → length (cond b (i ∷ j ∷ l) (j ∷ insertById i l)) ≡ suc (suc (length l))
-    go true e = refl
-    go false e = ap suc e
-
-sort-length : (l : List Item) → length (sortById l) ≡ length l
-unfolding sortById
-sort-length [] = refl
-sort-length (i ∷ l) = insert-length i (sortById l) ∙ ap suc (sort-length l)
 
 either-length : (b : Bool) (i : Item) (l : List Item) → length (cond b (i ∷ l) l) ≤ suc (length l)
 either-length true i l = omega arith
@@ -231,7 +218,7 @@ module _ {rs : List ℕ} {at : ℕ} (d : Ending) {v : FoundFunction} {p : Pass} 
         let c = capturedVars (map nameIn (m .xs)) (m .s) in
         let k = spacious (m .fits .tied .works) .names in
         let few : length c ≤ itemsMost = captured-few (map nameIn (m .xs)) (m .s) (omega (arith, names-many (m .fits .tied .works))) in
-        let x : b .«captured_top» ≡ p .«captured_top» + length c = t .0 ∙ ap (λ (i : ℕ). p .«captured_top» + i) (sort-length c) in
+        let x : b .«captured_top» ≡ p .«captured_top» + length c = t .0 ∙ ap (λ (i : ℕ). p .«captured_top» + i) (sorted-length c) in
         let y = items-length (m .s) (newestLayer (m .s .scope .names)) in
         let room = m .made (ap functionFound nothing) in
         (omega (arith, x), omega (arith, x, m .captured), omega (arith, t .1), omega (arith, t .1, room, arguments-top (m .fits .tied .works)))

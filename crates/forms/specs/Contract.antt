@@ -25,7 +25,7 @@ use Rattle.work.specs.declared.Pass.{Pass}
 use Rattle.walk.specs.Contract.{bodyOf}
 use Rattle.walk.specs.declared.uses.Names.{Names}
 use Rattle.walk.specs.declared.body.Body.{Body as Says}
-use Rattle.lists.specs.Contract.{Told, Inside, CapturesRoom, Body, Named}
+use Rattle.lists.specs.Contract.{Told, Inside, CapturesRoom, Body}
 use Rattle.lists.specs.declared.amend.Ending.{Ending}
 use Rattle.flags.specs.Flags.{AroundIs}
 use Rattle.forms.specs.Defines.{enterValue, enterOne, enterEach}
@@ -102,12 +102,11 @@ pub record EntersLambda (rs : List ℕ) (at : ℕ) (n : Names) (p : Pass) (F C A
   pub is : (s : State) (xs : List Ident) (m : Node) → m .at ≡ at → Told rs n xs → Fits rs (raw p F C A w) s → ListsFit p s at
       → Tied (raw p′ F′ C′ A w′) (enterLambda m xs s)
 
--- at its end: the argument list has room where the fact is made, the captured list lies inside where it is amended, and live names are their binders'
+-- at its end: the argument list has room where the fact is made, and the captured list lies inside where it is amended
 pub record EndFits (p : Pass) (s : State) (at : ℕ) : Type 0 where
   pub made : functionIn (rowAt s at) ≡ none → s .facts .argumentsTop + length (newestLayer (s .scope .names)) ≤ itemsMost
   pub amended : (v : FunctionInformation) → functionIn (rowAt s at) ≡ some v → Inside (v .«captured_vars»)
   pub captured : p .«captured_top» + itemsMost < 4294967296
-  pub named : Named s
 
 pub record LambdaEnds (rs : List ℕ) (at : ℕ) (d : Ending) (p : Pass) (F C A w : List ℕ) : Type 0 where
   pub s : State

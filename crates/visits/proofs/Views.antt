@@ -97,7 +97,7 @@ lists-fit {z} {s} {i} {j} t e h v f =
 pub end-fits : {P : Ident → Type 0} {z : Raw} {s : State} {i j : ℕ} → Tied z s → i ≡ j → pass.LambdaEnds P i s → EndFits (z .pass) s j
 end-fits {s = s} t e b =
     let f = ap (λ (k : ℕ). functionIn (rowAt s k)) e in
-    record { made = λ h. b .made (f ∙ h); amended = λ v h. b .amended v (f ∙ h); captured = omega (arith, ap (λ (o : Beside). o .capturedTop) (t .works .beside), b .captured); named = b .reliable .good .sound .named }
+    record { made = λ h. b .made (f ∙ h); amended = λ v h. b .amended v (f ∙ h); captured = omega (arith, ap (λ (o : Beside). o .capturedTop) (t .works .beside), b .captured) }
 
 -- a let that begins, and one that ends
 

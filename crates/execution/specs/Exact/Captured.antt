@@ -7,7 +7,7 @@ use mathlib.Core.Path.{_≡_, refl, ap, sym, _∙_}
 use native.Mathlib.Omega.{arith}
 use borrow.Author.Tests.{lt-ltb, le-ltb, eq-eqb, ne-eqb, eqb-false}
 use lib.ListN.{length}
-use lib.Dec.{eqb, leb, ltb}
+use lib.Dec.{eqb, ltb}
 use Rattle.tree.specs.Tree.{Ident, Node, Tree, bit}
 use Rattle.tree.specs.Check.{member}
 use Rattle.tree.specs.Accepted.{All}
@@ -15,10 +15,11 @@ use Rattle.scope_map.specs.ScopeMap.{ScopeMap, Live, getIn, newestLayer}
 use Rattle.semantic.specs.Rows.{Blank, Item}
 use Rattle.semantic.specs.declared.FunctionInformation.{FunctionInformation}
 use Rattle.pass.specs.State.{Facts, Capture, State, withFacts, entryAt, rowAt, binderIn, newest, itemOf, orKept, noteTen}
-use Rattle.pass.specs.Lists.{addCaptured, capturedIn, capturedVars, insertById, sortById, capturedMost, storeCaptured}
+use Rattle.pass.specs.Lists.{addCaptured, capturedIn, capturedVars, sortById, capturedMost, storeCaptured}
 use Rattle.pass.specs.Lambda.{itemsOf, functionIn, nameIn, makeFunction, functionEnds, closeScope, closeCaptures, leaveLambda}
 use Rattle.pass.specs.Laws.Layers.{or-false, liveAt}
 use Rattle.pass.specs.Laws.Leaves.{names}
+use Rattle.pass.specs.Laws.Order.{sorted-length}
 use Rattle.pass.specs.Laws.Says.{usedInside}
 use Rattle.pass.specs.Laws.Finds.{livesOf, Around, Stands, Finds, all-map, all-zip, liveIn, search-for}
 use Rattle.pass.specs.Laws.Bodies.{all-rest}
@@ -27,22 +28,6 @@ use Rattle.execution.specs.References.{isInnerOf, any}
 use Rattle.execution.specs.Acceptance.{hasName, listLength}
 use Rattle.execution.specs.Exact.Seen.{Seen}
 use Rattle.execution.specs.Exact.Plain.{Plain, plain, _then_, lasts-plain, ended-plain, arguments-plain, insert-plain}
-
--- Sorting keeps the length
-
-inserted-length : (i : Item) (l : List Item) → length (insertById i l) ≡ suc (length l)
-unfolding insertById
-inserted-length i [] = refl
-inserted-length i (j ∷ l) = go (leb (i .info .id) (j .info .id)) (inserted-length i l)
-  where
-    go : (b : Bool) → length (insertById i l) ≡ suc (length l) → length (cond b (i ∷ j ∷ l) (j ∷ insertById i l)) ≡ suc (suc (length l))
-    go true e = refl
-    go false e = ap suc e
-
-pub sorted-length : (l : List Item) → length (sortById l) ≡ length l
-unfolding sortById
-sorted-length [] = refl
-sorted-length (i ∷ l) = inserted-length i (sortById l) ∙ ap suc (sorted-length l)
 
 -- The parameters' names
 

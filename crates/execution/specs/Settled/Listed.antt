@@ -18,6 +18,7 @@ use Rattle.pass.specs.Lambda.{nameIn}
 use Rattle.pass.specs.Laws.Says.{usedInside, isSetIn}
 use Rattle.pass.specs.Laws.Finds.{livesOf, Around, Stands, Finds, all-map, all-zip, liveIn, search-for}
 use Rattle.pass.specs.Laws.Bodies.{all-rest}
+use Rattle.pass.specs.Laws.Sound.Items.{sorted-items}
 use Rattle.r7rs.specs.Binding.{Binder, Place, Use, binders, find}
 use Rattle.execution.specs.Acceptance.{hasName}
 use Rattle.execution.specs.Exact.Captured.{member-name, parameters-out, bottom-out, all-named, Found, all-found, find-past}
@@ -50,21 +51,7 @@ find-name (c ∷ sc) x {b} e = go (eqb (c .ident .name) x) refl (λ q. find-name
     go true q k e = ap (λ (d : Binder). d .ident .name) (sym (Option·some-injective c b e)) ∙ eqb-true (c .ident .name) x q
     go false q k e = k e
 
--- Sorting keeps entries and counts
-
-all-inserted : (P : Item → Type 0) (i : Item) (l : List Item) → P i → All P l → All P (insertById i l)
-unfolding insertById
-all-inserted P i [] p a = (p, tt)
-all-inserted P i (j ∷ l) p a = go (leb (i .info .id) (j .info .id)) (all-inserted P i l p (a .1))
-  where
-    go : (b : Bool) → All P (insertById i l) → All P (cond b (i ∷ j ∷ l) (j ∷ insertById i l))
-    go true r = (p, a)
-    go false r = (a .0, r)
-
-all-sorted : (P : Item → Type 0) (l : List Item) → All P l → All P (sortById l)
-unfolding sortById
-all-sorted P [] a = tt
-all-sorted P (i ∷ l) a = all-inserted P i (sortById l) (a .0) (all-sorted P l (a .1))
+-- Sorting keeps counts
 
 count-two : (x : ℕ) (i j : Item) (n : ℕ) → cond (eqb (nameOf i) x) (suc (cond (eqb (nameOf j) x) (suc n) n)) (cond (eqb (nameOf j) x) (suc n) n)
     ≡ cond (eqb (nameOf j) x) (suc (cond (eqb (nameOf i) x) (suc n) n)) (cond (eqb (nameOf i) x) (suc n) n)
@@ -193,6 +180,6 @@ module _ {own : ℕ → Type 0} {bottom : List (Live Ident)} {before : List Use}
         ap (λ (m : ScopeMap Ident). capturedIn ps s (m .live)) (f .live)
         ∙ parameters-out ps s false base q 0 xs sc bottom (all-named ps xs (λ x e. member-name x xs ∙ e)) in
         record {
-          taken = all-sorted (Taken before xs sc) _ (subst (All (Taken before xs sc)) (sym same) (taken-in sc all));
+          taken = sorted-items (Taken before xs sc) _ (subst (All (Taken before xs sc)) (sym same) (taken-in sc all));
           times = λ x b o e u. count-sorted x _ ∙ ap (countOf x) same ∙ times-in sc all x b o e u;
         }
