@@ -7,7 +7,8 @@ use mathlib.Core.Path.{_≡_, refl, ap, sym, subst, _∙_}
 use native.Mathlib.Omega.{arith}
 use lib.ListN.{length, length-map}
 use Rattle.tree.specs.Tree.{named}
-use Rattle.semantic.specs.Information.{NONE}
+use Rattle.scope_map.specs.MapLaws.{mapValues}
+use Rattle.scope_map.specs.declared.ScopeMap.{ScopeMap}
 use Rattle.semantic.specs.Rows.{Blank, Item, putRow}
 use Rattle.semantic.specs.Kinds.{functionIn, functionFound}
 use Rattle.semantic.specs.Leaves.{Tells}
@@ -23,11 +24,14 @@ use Rattle.pass.specs.Laws.Sound.Scopes.{each-push, each-push-captures, each-op
 use Rattle.pass.specs.Laws.Sound.Known.{inside-listed}
 use Rattle.pass.specs.Laws.Sound.Counted.{any-listed}
 use Rattle.pass.specs.Run.{rowsMost, itemsMost, itemsLength}
-use Rattle.work.specs.WorksLaws.{depth-is, names-many, captures-many, captured-many}
-use Rattle.work.specs.Passes.{inContext}
+use Rattle.work.specs.Works.{recordAt, besideState, Works}
+use Rattle.work.specs.WorksLaws.{depth-is, names-many, captures-many, captured-many, context-is}
+use Rattle.work.specs.WorksKept.{works-as}
+use Rattle.work.specs.Passes.{inContext, inCaptures}
 use Rattle.work.specs.Leaves.{Becomes}
 use Rattle.work.specs.Captures.{opened}
 use Rattle.work.specs.Tied.{raw, Tied}
+use Rattle.work.specs.TiedLaws.{tied-works}
 use Rattle.work.specs.GoodLaws.{good-where, good-each}
 use Rattle.work.specs.declared.Pass.{Pass}
 use Rattle.walk.specs.declared.uses.Names.{Names}
@@ -35,7 +39,8 @@ use Rattle.lists.specs.Contract.{Inside, CapturesRoom, SomeHeld, Numbers, Count
 use Rattle.forms.specs.Contract.{Fits, NamesFit, EntersNames, ListsFit, LambdaFits, EntersLambda}
 use Rattle.forms.specs.declared.bound.Entering.{Entering}
 use Rattle.forms.specs.FitsLaws.{told, tied-context}
-use Rattle.forms.specs.Lambdas.{ListOpens, OpensList, ListInside, EntersBy}
+use Rattle.forms.specs.Lambdas.{ListRoom, numberFound, NumbersCaptures, contextWithin, ListOpens, OpensList, ListInside, EntersBy}
+use Rattle.forms.proofs.NamesCase.{held-same}
 use Rattle.forms.proofs.LetsCase.{captured-length}
 use Rattle.semantic.specs.declared.FoundFunction.the-variants as function
 use Rattle.pass.specs.Sound as pass
@@ -46,27 +51,55 @@ use Rattle.forms.specs.declared.bound.Heaps.the-variants as heaps
 record Numbered (s t : State) : Type 0 where
   pub rows : t .facts .rows ≡ s .facts .rows
   pub arguments : t .facts .arguments ≡ s .facts .arguments
-  pub context : t .context ≡ s .context
   pub scope : t .scope ≡ s .scope
+  pub beside : besideState t ≡ besideState s
+
+numbered-same : (s : State) → Numbered s s
+numbered-same s = record { rows = refl; arguments = refl; scope = refl; beside = refl }
 
 numbered-then : {s t u : State} → Numbered s t → Numbered t u → Numbered s u
-numbered-then a b = record { rows = b .rows ∙ a .rows; arguments = b .arguments ∙ a .arguments; context = b .context ∙ a .context; scope = b .scope ∙ a .scope }
+numbered-then a b = record { rows = b .rows ∙ a .rows; arguments = b .arguments ∙ a .arguments; scope = b .scope ∙ a .scope; beside = b .beside ∙ a .beside }
 
 module _ (which : Bool) (f : ℕ → Option ScopeInfo → ScopeInfo → ScopeInfo) where
   numbered-row : (b : Bool) (r i : ℕ) (x : Item) (s : State) → Numbered s (cond b (numberRow which f r i x s) s)
   unfolding numberRow
-  numbered-row true r i x s = record { rows = refl; arguments = refl; context = refl; scope = refl }
-  numbered-row false r i x s = record { rows = refl; arguments = refl; context = refl; scope = refl }
+  numbered-row true r i x s = record { rows = refl; arguments = refl; scope = refl; beside = refl }
+  numbered-row false r i x s = numbered-same s
 
   numbered-rows : (k r i : ℕ) (s : State) → Numbered s (numberRows which f k r i s)
   unfolding numberRows
-  numbered-rows zero r i s = record { rows = refl; arguments = refl; context = refl; scope = refl }
+  numbered-rows zero r i s = numbered-same s
   numbered-rows (suc k) r i s =
       numbered-then (numbered-row (isOf which f (itemAt s r)) r i (itemAt s r) s) (numbered-rows k (suc r) _ _)
 
 numbered-list : (e : Entries) (s : State) → Numbered s (numberList e s)
 unfolding numberList
 numbered-list e s = numbered-then (numbered-rows false numberedCapture (e .length) (e .first) 0 s) (numbered-rows true numberedHeap (e .length) (e .first) 0 _)
+
+-- so the pass is what it was, but for the captures
+works-numbered : {p q : Pass} {w w′ : List ℕ} {s t : State} → Works p w s → Works q w′ t → Numbered s t → Works (inCaptures (q .captures) p) w′ t
+works-numbered {t = t} a b n =
+    works-as b _ t (held-same (a .names) (b .names) (ap (λ (c : Scope). mapValues recordAt (c .names)) (sym (n .scope)))) refl refl refl refl
+    (a .beside ∙ sym (n .beside))
+
+module _ {v : FoundFunction} {p : Pass} {C w : List ℕ} where
+  pub numbers-nothing : v ≡ function.Nothing → NumbersCaptures v p C w (p .captures) C w
+  numbers-nothing e = record { is = λ rs. record { is = λ F A s g t. rw e t } }
+
+  module _ {i : FunctionInformation} (e : v ≡ function.Found i) where
+    pub list-numbers : ListRoom v p × SomeHeld p C w → Inside (i .«captured_vars») × CapturesRoom p (i .«captured_vars») × SomeHeld p C w
+    list-numbers a = let l = a .0 i (ap functionFound e) in (l .0, l .1, a .1)
+
+    pub numbers-found : {q : Pass} {C′ w′ : List ℕ} → Numbers (i .«captured_vars») p C w q C′ w′ → NumbersCaptures v p C w (q .captures) C′ w′
+    numbers-found k = record {
+      is = λ rs. record {
+        is = λ F A s g t.
+            let n = k .is rs .is F A s g t in
+            rw e (tied-works _ n refl (works-numbered (t .works) (n .works) (numbered-list (i .«captured_vars») s)));
+      };
+    }
+
+-- The captures' layer
 
 record Opened (s t : State) : Type 0 where
   pub rows : t .facts .rows ≡ s .facts .rows
@@ -78,8 +111,6 @@ unfolding openCaptures
 captures-opened none s = record { rows = refl; arguments = refl; scope = refl }
 captures-opened (some v) s = let n = numbered-list (v .«captured_vars») (opened s) in record { rows = n .rows; arguments = n .arguments; scope = n .scope }
 
--- The captures' layer
-
 opened-fits : {rs : List ℕ} {p q : Pass} {F C A w : List ℕ} {s : State} → ((w : List ℕ) → Becomes p w opened q w) → Fits rs (raw p F C A w) s
     → Fits rs (raw q F C A w) (opened s)
 opened-fits {w = w} {s} k f = record {
@@ -87,36 +118,29 @@ opened-fits {w = w} {s} k f = record {
   tied = record { facts = f .tied .facts; captured = f .tied .captured; arguments = f .tied .arguments; works = k w .is s (f .tied .works) };
 }
 
+open-is : (o : Option FunctionInformation) (s : State) → withContext (contextWithin o (s .context)) (numberFound o (opened s)) ≡ openCaptures o s
+unfolding openCaptures
+open-is none s = refl
+open-is (some i) s = refl
+
 module _ {v : FoundFunction} {p : Pass} {C w : List ℕ} {q : Pass} (opens : (w : List ℕ) → Becomes p w opened q w) where
-  pub opens-none : v ≡ function.Nothing → OpensList v p C w q C w
-  unfolding openCaptures
-  opens-none e = record { is = λ rs F A s f. rw e (opened-fits opens f .tied) }
+  pub list-room : ListOpens v p C w → ListRoom v q × SomeHeld q C w
+  list-room a =
+      let f = opened-fits opens (a .fits) in (
+        λ i e. let l = a .lists i e in (l .0, omega (arith, l .1, captures-many (a .fits .tied .works), captures-many (f .tied .works))),
+        record { rs = a .rs; held = record { facts = a .facts; arguments = a .arguments; s = opened (a .s); good = f .good; tied = f .tied } },
+      )
 
-  module _ {i : FunctionInformation} (e : v ≡ function.Found i) where
-    pub list-numbers : ListOpens v p C w → Inside (i .«captured_vars») × CapturesRoom q (i .«captured_vars») × SomeHeld q C w
-    list-numbers a =
-        let f = opened-fits opens (a .fits) in
-        let l = a .lists i (ap functionFound e) in (
-          l .0,
-          omega (arith, l .1, captures-many (a .fits .tied .works), captures-many (f .tied .works)),
-          record { rs = a .rs; held = record { facts = a .facts; arguments = a .arguments; s = opened (a .s); good = f .good; tied = f .tied } },
-        )
-
-    module _ {r : Pass} {C′ w′ : List ℕ} (numbers : Numbers (i .«captured_vars») q C w r C′ w′) where
-      numbered-tied : {rs F A : List ℕ} {s : State} → Fits rs (raw p F C A w) s → Tied (raw r F C′ A w′) (numberList (i .«captured_vars») (opened s))
-      numbered-tied {rs} {F} {A} {s} f = let g = opened-fits opens f in numbers .is rs .is F A (opened s) (g .good) (g .tied)
-
-      pub opens-escaping : i .escapes ≡ true → {r′ : Pass} → r′ ≡ inContext NONE r → OpensList v p C w r′ C′ w′
-      unfolding openCaptures
-      opens-escaping x k = record { is = λ rs F A s f. rw (e, x, k) (tied-context NONE (numbered-tied f)) }
-
-      pub opens-staying : i .escapes ≡ false → OpensList v p C w r C′ w′
-      unfolding openCaptures
-      opens-staying x = record {
-        is = λ rs F A s f.
-            let n = numbered-list (i .«captured_vars») (opened s) in
-            rw (e, x) (subst (λ (c : ℕ). Tied (raw r F C′ A w′) (withContext c (numberList (i .«captured_vars») (opened s)))) (n .context) (numbered-tied f));
-      }
+  pub list-opens : {m : ScopeMap} {C′ w′ : List ℕ} → NumbersCaptures v q C w m C′ w′ → {c : ℕ} → c ≡ contextWithin (functionFound v) (p .context)
+      → {r : Pass} → r ≡ inContext c (inCaptures m q) → OpensList v p C w r C′ w′
+  list-opens {C′ = C′} {w′} numbers {c} e {r} k = record {
+    is = λ rs F A s f.
+        let g = opened-fits opens f in
+        let o = functionFound v in
+        let x : c ≡ contextWithin o (s .context) = e ∙ ap (contextWithin o) (context-is (f .tied .works)) in
+        let y : withContext c (numberFound o (opened s)) ≡ openCaptures o s = rw x (open-is o s) in
+        subst (λ (t : State). Tied (raw r F C′ A w′) t) y (rw k (tied-context c (numbers .is rs .is F A (opened s) (g .good) (g .tied))));
+  }
 
 -- What the parameters have in common
 

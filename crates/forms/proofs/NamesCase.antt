@@ -9,6 +9,8 @@ use lib.ListN.{length, length-map}
 use lib.Dec.{ltb}
 use Rattle.tree.specs.Tree.{Ident, named}
 use Rattle.scope_map.specs.ScopeMap.{ScopeMap, define, hasAtTop}
+use Rattle.scope_map.specs.MapLaws.{mapValues}
+use Rattle.scope_map.specs.Held.{Held}
 use Rattle.scope_map.specs.declared.ScopeMap.{ScopeMap as Map}
 use Rattle.semantic.specs.Rows.{Row, Item}
 use Rattle.semantic.specs.declared.IdentifierStatus.{IdentifierStatus}
@@ -18,8 +20,9 @@ use Rattle.pass.specs.Lists.{listIn}
 use Rattle.pass.specs.Lambda.{isHeap, noteHeap, enterName, enterNames}
 use Rattle.pass.specs.Run.{itemsLength}
 use Rattle.work.specs.Coded.{notedOf}
-use Rattle.work.specs.Works.{Beside, Works}
-use Rattle.work.specs.WorksLaws.{names-many, captures-many, depth-is, captures-depth, context-is, captured-top, arguments-top}
+use Rattle.work.specs.Works.{rowOf, Beside, Works}
+use Rattle.work.specs.WorksLaws.{names-many, depth-is, context-is, captured-top, arguments-top}
+use Rattle.work.specs.WorksKept.{works-as}
 use Rattle.work.specs.Tied.{Raw, raw, Tied}
 use Rattle.work.specs.TiedLaws.{tied-works}
 use Rattle.work.specs.declared.Pass.{Pass}
@@ -84,34 +87,23 @@ module _ (kind : IdentifierStatus) (base : ℕ) (heaps : Option ℕ) (before : L
 map-is : {m k : Map} → m .depth ≡ k .depth → m .length ≡ k .length → m ≡ k
 map-is {m} {k} d l = let z : record { depth = m .depth; length = m .length } ≡ k = rw (d, l) in z
 
+-- one struct alone holds a map
+pub held-same : {m k : Map} {t u : List ℕ} {x y : ScopeMap ℕ} → Held m t x → Held k u y → x ≡ y → m ≡ k
+held-same a b e =
+    map-is (a .depth ∙ ap (λ (x : ScopeMap ℕ). x .depth) e ∙ sym (b .depth)) (a .many ∙ ap (λ (x : ScopeMap ℕ). length (x .live)) e ∙ sym (b .many))
+
 -- so the pass is what it was, but for what they changed
 works-entered : {p q : Pass} {w w′ : List ℕ} {s t : State} → Works p w s → Works q w′ t → asideOf t ≡ asideOf s → Works (withEntered (enteredIn q) p) w′ t
 works-entered {p} {q} {t = t} a b e =
-    let d : p .captures .depth ≡ q .captures .depth = captures-depth a ∙ ap (λ (k : Aside). k .captures .depth) (sym e) ∙ sym (captures-depth b) in
-    let l : p .captures .length ≡ q .captures .length = captures-many a ∙ ap (λ (k : Aside). length (k .captures .live)) (sym e) ∙ sym (captures-many b) in
-    let c = map-is d l in
+    let depth = depth-is a ∙ ap (λ (k : Aside). k .depth) (sym e) ∙ sym (depth-is b) in
+    let captures = held-same (a .captures) (b .captures) (ap (λ (k : Aside). mapValues rowOf (k .captures)) (sym e)) in
     let ten : notedOf (p .ten) ≡ t .noted .ten = ap (λ (k : Beside). k .ten) (a .beside) ∙ ap (λ (k : Aside). k .ten) (sym e) in
     let context = context-is a ∙ ap (λ (k : Aside). k .context) (sym e) in
     let captured = captured-top a ∙ ap (λ (k : Aside). k .capturedTop) (sym e) in
     let arguments = arguments-top a ∙ ap (λ (k : Aside). k .argumentsTop) (sym e) in
     let nine = ap (λ (k : Beside). k .nine) (b .beside) in
     let second = ap (λ (k : Beside). k .second) (b .beside) in
-    record {
-      long = b .long;
-      names = record {
-        depth = depth-is a ∙ ap (λ (k : Aside). k .depth) (sym e);
-        many = b .names .many;
-        room = b .names .room;
-        live = b .names .live;
-        index = b .names .index;
-        sorted = b .names .sorted;
-      };
-      entries = b .entries;
-      captures = rw c (b .captures);
-      taken = b .taken;
-      binders = b .binders;
-      beside = rw (context, captured, arguments, nine, ten, second);
-    }
+    works-as b _ t (map-is depth refl) captures refl refl refl (rw (context, captured, arguments, nine, ten, second))
 
 -- the state of the loop: j names have entered, h of them on the heap
 pub record Coming (rs : List ℕ) (n : Names) (g : Entering) (p : Pass) (F A w : List ℕ) (j h : ℕ) (q : Pass) (F′ w′ : List ℕ) : Type 0 where

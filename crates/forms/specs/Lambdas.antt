@@ -1,12 +1,13 @@
 -- What the functions of a lambda promise.
 use Prim.Native.Nat.{ℕ, _+_, _-_, _≤_, _<_}
 use mathlib.Core.List.{List, map}
-use mathlib.Core.Bool.{Bool}
+use mathlib.Core.Bool.{Bool, cond}
 use mathlib.Core.Option.{Option, none, some}
 use mathlib.Core.Path.{_≡_}
 use lib.ListN.{length}
 use Rattle.tree.specs.Tree.{Ident, Tree}
 use Rattle.scope_map.specs.ScopeMap.{newestLayer}
+use Rattle.scope_map.specs.declared.ScopeMap.{ScopeMap}
 use Rattle.semantic.specs.Kinds.{functionFound}
 use Rattle.semantic.specs.Information.{NONE}
 use Rattle.semantic.specs.Rows.{Item}
@@ -14,19 +15,38 @@ use Rattle.semantic.specs.declared.Entries.{Entries}
 use Rattle.semantic.specs.declared.FoundFunction.{FoundFunction}
 use Rattle.semantic.specs.declared.FunctionInformation.{FunctionInformation}
 use Rattle.pass.specs.State.{State}
-use Rattle.pass.specs.Lists.{listIn, capturedVars, sortById, storeCaptured, storeArguments, rewriteCaptured}
+use Rattle.pass.specs.Lists.{listIn, capturedVars, sortById, storeCaptured, storeArguments, rewriteCaptured, numberList}
 use Rattle.pass.specs.Lambda.{enterNames, openCaptures, enterParameters, markLasts, closeScope, closeCaptures, endParameters, itemsOf, nameIn}
 use Rattle.pass.specs.Run.{rowsMost, itemsMost}
+use Rattle.work.specs.Passes.{inCaptures}
 use Rattle.work.specs.Tied.{raw, Tied}
 use Rattle.work.specs.declared.Pass.{Pass}
 use Rattle.walk.specs.declared.uses.Names.{Names}
-use Rattle.lists.specs.Contract.{Told, Inside, CapturesRoom, Body, amendedList}
+use Rattle.lists.specs.Contract.{Told, Inside, Becomes, CapturesRoom, Body, amendedList}
 use Rattle.lists.specs.declared.amend.Ending.{Ending}
 use Rattle.forms.specs.Contract.{Fits, FewHeaps, heapsIn}
 use Rattle.forms.specs.declared.bound.Entering.{Entering}
 use Rattle.forms.specs.declared.lambda.EndedLists.{EndedLists}
 
 -- On entering
+
+-- its list, where it has a fact, lies inside, and the captures have room for it
+abbrev pub ListRoom : FoundFunction → Pass → Type 0
+ListRoom v p = (i : FunctionInformation) → functionFound v ≡ some i → Inside (i .«captured_vars») × CapturesRoom p (i .«captured_vars»)
+
+-- the list is numbered
+abbrev pub numberFound : Option FunctionInformation → State → State
+numberFound none s = s
+numberFound (some i) s = numberList (i .«captured_vars») s
+
+-- of the pass, the captures alone change
+pub record NumbersCaptures (v : FoundFunction) (p : Pass) (C w : List ℕ) (m : ScopeMap) (C′ w′ : List ℕ) : Type 0 where
+  pub is : (rs : List ℕ) → Becomes rs p C w (numberFound (functionFound v)) (inCaptures m p) C′ w′
+
+-- one that escapes ends the context
+abbrev pub contextWithin : Option FunctionInformation → ℕ → ℕ
+contextWithin none context = context
+contextWithin (some i) context = cond (i .escapes) NONE context
 
 -- the captures' layer
 pub record ListOpens (v : FoundFunction) (p : Pass) (C w : List ℕ) : Type 0 where

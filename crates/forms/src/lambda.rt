@@ -12,6 +12,7 @@ use lists::amend::amend_list;
 use lists::captured::store_captured;
 use lists::number::heap_count;
 use lists::number::number_list;
+use scope_map::ScopeMap;
 use semantic::Entries;
 use semantic::FoundFunction;
 use semantic::FunctionInformation;
@@ -29,25 +30,48 @@ ghost use Prim.Native.Nat.{_≤_, _<_};
 ghost use lib.ListN.{length};
 ghost use Rattle.semantic.specs.Kinds.{functionFound};
 ghost use Rattle.pass.specs.Run.{itemsLength};
+ghost use Rattle.lists.specs.Contract.{SomeHeld};
 ghost use Rattle.forms.specs.Contract.{LambdaFits, EntersLambda, LambdaEnds, LeavesLambda};
 ghost use Rattle.forms.specs.Bound.{NamesEnd};
-ghost use Rattle.forms.specs.Lambdas.{ListOpens, OpensList, ListInside, EntersBy, Closes, entriesBetween, functionFact, ListsEnd, EndsLists};
+ghost use Rattle.forms.specs.Lambdas.{ListRoom, NumbersCaptures, contextWithin, ListOpens, OpensList, ListInside, EntersBy, Closes, entriesBetween, functionFact, ListsEnd, EndsLists};
 
-// The captures' layer opens, with the lambda's list where it has a fact; one that escapes ends the context.
+// The captures after the lambda's list is numbered, where it has a fact.
+fn number_captures(v: FoundFunction, p: Pass, captured: &mut [u32], work: &mut [u32]) -> ScopeMap
+    requires { ⌜ ListRoom v p × SomeHeld p (now captured) (now work) ⌝ }
+    ensures { λ r. ⌜ NumbersCaptures v p (now (captured .entry)) (now (work .entry)) r (now (captured .exit)) (now (work .exit)) ⌝ }
+{
+    let FoundFunction::Found(i) = v else {
+        return p.captures;
+    };
+    let list = i.captured_vars;
+    let q = number_list(list, p, captured, work);
+    q.captures
+}
+
+// A lambda that escapes ends the context.
+fn context_within(v: FoundFunction, context: u32) -> u32
+    ensures { λ r. ⌜ r ≡ contextWithin (functionFound v) context ⌝ }
+{
+    let FoundFunction::Found(i) = v else {
+        return context;
+    };
+    if i.escapes {
+        return NONE;
+    }
+    context
+}
+
+// The captures' layer opens, with the lambda's list where it has a fact; one that escapes ends the context. The pass is built in one
+// place: if each case returned one, it would be stored in narrow words and copied in wide ones, and such a copy waits for the stores.
 fn open_list(v: FoundFunction, p: Pass, captured: &mut [u32], work: &mut [u32]) -> Pass
     requires { ⌜ ListOpens v p (now captured) (now work) ⌝ }
     ensures { λ r. ⌜ OpensList v p (now (captured .entry)) (now (work .entry)) r (now (captured .exit)) (now (work .exit)) ⌝ }
 {
-    let q = open_captures(p);
-    let FoundFunction::Found(i) = v else {
-        return q;
-    };
-    let list = i.captured_vars;
-    let r = number_list(list, q, captured, work);
-    if i.escapes {
-        return r.with_context(NONE);
-    }
-    r
+    let o = open_captures(p);
+    let captures = number_captures(v, o, captured, work);
+    let mut q = o;
+    q.captures = captures;
+    q.with_context(context_within(v, p.context))
 }
 
 // What the parameters have in common.

@@ -21,11 +21,10 @@ use Rattle.pass.specs.Sound.{Property, Lawful, Each}
 use Rattle.pass.specs.Laws.Sound.Lists.{all-elements, all-take, all-drop, sets-each}
 use Rattle.pass.specs.Laws.Sound.Each.{Fine, fine, each-lists}
 use Rattle.pass.specs.Laws.Sound.Items.{kept-items, amended-items}
-use Rattle.pass.specs.Laws.Sound.Known.{knowing}
-use Rattle.pass.specs.Laws.Sound.Counted.{asking-nothing}
 use Rattle.work.specs.Works.{Works}
 use Rattle.work.specs.WorksLaws.{captured-many}
 use Rattle.work.specs.Tied.{raw, Tied, Good}
+use Rattle.work.specs.GoodLaws.{good-each}
 use Rattle.work.specs.declared.Pass.{Pass}
 use Rattle.walk.specs.Marks.{Unmarked}
 use Rattle.lists.specs.declared.amend.Ending.{Ending}
@@ -117,12 +116,7 @@ module _ {Q : Property} (lawful : Lawful Q) {F : ℕ → Type 0} where
 
 kept-good : {rs : List ℕ} (holds : Bool) (now : List Item) (m : ScopeMap Capture) (first k : ℕ) (s : State) → Good rs s
     → Good rs (withCaptured (sets (s .facts .captured) first (keptRows holds now m first k (s .facts .captured))) s)
-kept-good holds now m first k s g = record {
-  rows = g .rows;
-  arguments = g .arguments;
-  sound = each-kept (knowing (λ x q. q .few)) holds now m first k s (g .sound);
-  counted = each-kept asking-nothing holds now m first k s (g .counted);
-}
+kept-good holds now m first k s g = good-each g (record { rows = refl; arguments = refl }) (λ Q l F z h. each-kept l holds now m first k s h)
 
 captured-beside : (ps : List ℕ) (c : List Item) (s : State) (l : List (Live Ident)) → capturedIn ps (withCaptured c s) l ≡ capturedIn ps s l
 unfolding capturedIn

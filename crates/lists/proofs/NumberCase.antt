@@ -17,10 +17,9 @@ use Rattle.pass.specs.Lists.{near, isNear, captureOf, numberRow, numberRows, nu
 use Rattle.pass.specs.Run.{itemsMost}
 use Rattle.pass.specs.Laws.Sound.Each.{fine}
 use Rattle.pass.specs.Laws.Sound.Scopes.{KeepsUses, heap-uses, capture-uses, each-row}
-use Rattle.pass.specs.Laws.Sound.Known.{sound-row}
-use Rattle.pass.specs.Laws.Sound.Counted.{asking-nothing}
 use Rattle.work.specs.WorksLaws.{captures-many}
 use Rattle.work.specs.Tied.{raw, Tied, Good}
+use Rattle.work.specs.GoodLaws.{good-where}
 use Rattle.work.specs.declared.Pass.{Pass}
 use Rattle.lists.specs.declared.rows.Item.{Item as Coded}
 use Rattle.lists.specs.declared.number.Numbered.{Numbered}
@@ -35,12 +34,9 @@ keeps-uses false = capture-uses
 
 numbered-good : {rs : List ℕ} (heap : Bool) (r i : ℕ) (s : State) → r < itemsMost → Good rs s → Good rs (numberedRow heap r i s)
 unfolding numberRow
-numbered-good heap r i s h g = record {
-  rows = g .rows;
-  arguments = g .arguments;
-  sound = sound-row (λ x k. k .few) heap (numberedBy heap) (keeps-uses heap) r i h (g .sound);
-  counted = each-row asking-nothing (omega arith) heap (numberedBy heap) (keeps-uses heap) r i (itemAt s r) tt (fine (g .counted) r) (g .counted);
-}
+numbered-good heap r i s h g =
+    good-where (λ Q. Q .row r) h tt g (record { rows = refl; arguments = refl })
+    (λ Q l q F z k. each-row l z heap (numberedBy heap) (keeps-uses heap) r i (itemAt s r) q (fine k r) k)
 
 either-good : {rs : List ℕ} (b : Bool) {s t : State} → Good rs s → Good rs t → Good rs (cond b s t)
 either-good true g h = g
