@@ -42,7 +42,7 @@ module _ {F C A w : List ℕ} where
     facts = b .facts ∙ sym (no-rows rowsMost);
     captured = b .captured ∙ sym (no-items itemsMost);
     arguments = b .arguments ∙ sym (no-items itemsMost);
-    works = fresh-works w (b .long) (b .entries) (b .binders);
+    works = fresh-works (b .work);
   }
 
 -- the tables of another run, its names and captures cleared
@@ -68,7 +68,7 @@ tied-outcome (some r) t = refl
 
 module _ {classes rs F C A w : List ℕ} (b : Begins classes rs (tables F C A w)) where
   pub work-long : length w ≡ workLength
-  work-long = b .blank .long
+  work-long = b .blank .work .long
 
   -- what is held of its trees is held of any that the records are
   pub tied-as : (f : List ℕ → Trees → State) {z : Raw} (us : Trees) → Accepted (length classes) rs us → Tied z (f classes (b .ts)) → Tied z (f classes us)

@@ -20,7 +20,7 @@ use Rattle.work.specs.Works.{workLong, scopeLength, entriesFirst, entriesLength
 use Rattle.work.specs.WorksLaws.{part-length, captured-top, arguments-top}
 use Rattle.work.specs.Passes.{passNew}
 use Rattle.work.specs.declared.Pass.{Pass}
-use Rattle.analysis.specs.Steps.{zeroed, namesCleared}
+use Rattle.analysis.specs.Steps.{zeroed, namesCleared, Emptied}
 
 new-held : {A : Type 0} (f : A → ℕ) (t : List ℕ) → mapLength ≤ length t → Held (record { depth = 1; length = 0 }) t (mapValues f new)
 new-held f t h = rw (map-new f) (held-new t h)
@@ -48,10 +48,9 @@ start-works f w l z b = record {
 }
 
 -- with no facts
-pub fresh-works : (w : List ℕ) → length w ≡ workLong → region w entriesFirst entriesLength ≡ replicate entriesLength 0
-    → region w bindersFirst bindersLength ≡ replicate bindersLength 0 → Works (passNew 0 0) w (start noFacts)
+pub fresh-works : {w : List ℕ} → Emptied w → Works (passNew 0 0) w (start noFacts)
 unfolding noFacts
-fresh-works w l z b = start-works noFacts w l z (b ∙ sym (no-binders itemsMost))
+fresh-works {w} z = start-works noFacts w (z .long) (z .entries) (z .binders ∙ sym (no-binders itemsMost))
 
 -- A part made zero
 
@@ -82,11 +81,6 @@ cleared-names w l =
           ∙ j .after bindersFirst bindersLength (omega arith)
           ∙ i .after bindersFirst bindersLength (omega arith);
     }
-
-pub record Emptied (w : List ℕ) : Type 0 where
-  pub long : length w ≡ workLong
-  pub entries : region w entriesFirst entriesLength ≡ replicate entriesLength 0
-  pub binders : region w bindersFirst bindersLength ≡ replicate bindersLength 0
 
 -- and its binders too
 pub emptied : (w : List ℕ) → length w ≡ workLong → Emptied (zeroed bindersFirst bindersLength (namesCleared w))

@@ -8,9 +8,8 @@ use native.Mathlib.Omega.{arith}
 use borrow.Author.Tests.{eqb-true, eq-eqb}
 use lib.ListN.{length, replicate, length-replicate}
 use lib.Dec.{eqb}
-use Rattle.table.specs.Region.{region}
 use Rattle.pass.specs.Run.{Tables, factsLength, itemsLength, workLength, lengthsFit, zeros}
-use Rattle.work.specs.Works.{entriesFirst, entriesLength, bindersFirst, bindersLength}
+use Rattle.work.specs.Works.{bindersFirst, bindersLength}
 use Rattle.analysis.specs.Answer.{tables, refusalIn}
 use Rattle.analysis.specs.Steps.{left, zeroed, namesCleared, Blank}
 use Rattle.analysis.proofs.Start.{emptied}
@@ -67,15 +66,11 @@ module _ (F C A w : List ℕ) (F′ C′ A′ w′ : List ℕ) where
       → A′ ≡ replicate (length A) 0 → v ≡ namesCleared w → w′ ≡ zeroed bindersFirst bindersLength v → Blank (tables F′ C′ A′ w′)
   all-blank h f c a n z =
       let l = long (tables F C A w) h in
-      let e = emptied w (l .work) in
-      let u = z ∙ ap (zeroed bindersFirst bindersLength) n in
       record {
         facts = all f (l .facts);
         captured = all c (l .captured);
         arguments = all a (l .arguments);
-        long = ap length u ∙ e .long;
-        entries = ap (λ (t : List ℕ). region t entriesFirst entriesLength) u ∙ e .entries;
-        binders = ap (λ (t : List ℕ). region t bindersFirst bindersLength) u ∙ e .binders;
+        work = rw (z, n) (emptied w (l .work));
       }
 
   -- tables keep their lengths

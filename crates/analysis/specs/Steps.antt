@@ -39,14 +39,18 @@ zeroed a n w = replaced w a n (replicate n 0)
 abbrev pub namesCleared : List ℕ → List ℕ
 namesCleared w = zeroed (capturesFirst + rowsLength) hintsLength (zeroed entriesFirst entriesLength (zeroed rowsLength hintsLength w))
 
+-- a work table with no entries and no binders
+pub record Emptied (w : List ℕ) : Type 0 where
+  pub long : length w ≡ workLength
+  pub entries : region w entriesFirst entriesLength ≡ replicate entriesLength 0
+  pub binders : region w bindersFirst bindersLength ≡ replicate bindersLength 0
+
 -- tables without facts, with which a run can start
 pub record Blank (t : Tables) : Type 0 where
   pub facts : t .facts ≡ replicate factsLength 0
   pub captured : t .captured ≡ replicate itemsLength 0
   pub arguments : t .arguments ≡ replicate itemsLength 0
-  pub long : length (t .work) ≡ workLength
-  pub entries : region (t .work) entriesFirst entriesLength ≡ replicate entriesLength 0
-  pub binders : region (t .work) bindersFirst bindersLength ≡ replicate bindersLength 0
+  pub work : Emptied (t .work)
 
 -- the records are trees, and nothing is known of them yet
 pub record Begins (classes rs : List ℕ) (t : Tables) : Type 0 where
