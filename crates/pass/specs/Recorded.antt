@@ -10,7 +10,7 @@ use Rattle.r7rs.specs.Binding.{events, uses, top}
 use Rattle.pass.specs.Static.{Premises, Top}
 use Rattle.pass.specs.Run.{rowsMost, fresh}
 use Rattle.pass.specs.Laws.Says.{Presumes}
-use Rattle.pass.specs.Laws.Presumed.{anyUses, any-presumes, unshared, Unshared, presumes}
+use Rattle.pass.specs.Laws.Presumed.{unshared, Unshared, presumes}
 use Rattle.pass.specs.Laws.Script.{fresh-script, top-level, walk-top}
 
 pub recorded : (classes : List ℕ) (P : Premises) (ts : Trees) → Nums 0 ts → sizes ts ≤ rowsMost → innerDefines ts ≡ [] → fresh classes ts .noted .nine ≡ none
@@ -19,11 +19,6 @@ unfolding events
 recorded classes P ts n h d e u =
     top-level (fresh classes ts .facts .rows) P ts
     (fresh-script classes P ts n h d e .means (subst (Presumes P) (sym (walk-top ts top)) u))
-
--- presuming nothing
-pub recorded-any : (classes : List ℕ) (ts : Trees) → Nums 0 ts → sizes ts ≤ rowsMost → innerDefines ts ≡ [] → fresh classes ts .noted .nine ≡ none
-    → Top (fresh classes ts .facts .rows) anyUses ts
-recorded-any classes ts n h d e = recorded classes anyUses ts n h d e (any-presumes (events ts))
 
 -- presuming of each name whether it is set, where none is set that an inner lambda mentions: demand 3
 pub recorded-unshared : (classes : List ℕ) (ts : Trees) → Nums 0 ts → sizes ts ≤ rowsMost → innerDefines ts ≡ [] → fresh classes ts .noted .nine ≡ none

@@ -87,14 +87,6 @@ anything = record { ident = λ x. Unit {0}; item = λ x. Unit {0}; row = λ r. U
 abbrev pub Counted : ℕ → State → Type 0
 Counted k s = Each anything (λ n. n ≤ k) s
 
--- At most k names are live, and at most k layers stand above the bottom
-pub record Roomy (k : ℕ) (s : State) : Type 0 where
-  pub live : length (s .scope .names .live) ≤ k
-  pub bottom : 1 ≤ depth s
-  pub layers : depth s ≤ suc k
-  pub captureBottom : 1 ≤ s .captures .depth
-  pub captureLayers : s .captures .depth ≤ suc k
-
 -- From s to t: as many layers, and at most b - a live names more
 pub record Grows (a b : ℕ) (s t : State) : Type 0 where
   pub live : length (t .scope .names .live) + a ≤ length (s .scope .names .live) + b

@@ -6,7 +6,7 @@ use mathlib.Core.Option.{some, Option·map}
 use mathlib.Core.Path.{_≡_, refl, ap, _∙_}
 use lib.ListN.{length, getD}
 use lib.Dec.{eqb, ltb}
-use Rattle.scope_map.specs.ScopeMap.{Live, ScopeMap, isAt, hasIn, replaceIn, removeIn, layerIn, belowLayer, getIn, new, get, depthOf, pushLayer, hasAtTop, define, remove, newestLayer, popLayer}
+use Rattle.scope_map.specs.ScopeMap.{Live, ScopeMap, isAt, hasIn, replaceIn, removeIn, layerIn, belowLayer, getIn, new, get, pushLayer, hasAtTop, define, remove, newestLayer, popLayer}
 
 module _ {A : Type 0} {B : Type 0} (f : A → B) where
   abbrev pub mapValue : Live A → Live B
@@ -101,9 +101,6 @@ module _ {A : Type 0} {B : Type 0} (f : A → B) where
 
   pub map-get : (m : ScopeMap A) (x : ℕ) → get (mapValues m) x ≡ Option·map mapValue (get m x)
   map-get m x = map-getIn (m .live) x
-
-  pub map-depthOf : (m : ScopeMap A) (e : Live A) → depthOf (mapValues m) (mapValue e) ≡ depthOf m e
-  map-depthOf m e = refl
 
   pub map-pushLayer : (m : ScopeMap A) → mapValues (pushLayer m) ≡ pushLayer (mapValues m)
   map-pushLayer m = refl

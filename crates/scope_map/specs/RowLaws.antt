@@ -35,14 +35,6 @@ unfolding liveIn
 live-same t t′ zero h = refl
 live-same t t′ (suc n) h = rw (h n (omega arith), live-same t t′ n (λ k g. h k (omega arith)))
 
--- the first of some rows, and the last
-pub rows-first : (t : List ℕ) (i n : ℕ) → i < n → rowsFrom t i (n - i) ≡ rowAt t i ∷ rowsFrom t (i + 1) (n - (i + 1))
-unfolding rowsFrom
-rows-first t i n h =
-    let a : n - i ≡ suc (n - (i + 1)) = omega arith in
-    let b : suc i ≡ i + 1 = omega arith in
-    rw (a, b)
-
 rows-last : (t : List ℕ) (i n : ℕ) → rowsFrom t i (suc n) ≡ rowsFrom t i n ++ (rowAt t (i + n) ∷ [])
 unfolding rowsFrom
 rows-last t i zero = let z : i + 0 ≡ i = omega arith in rw z
@@ -61,28 +53,6 @@ found-get (e ∷ l) x = pick (eqb (e .name) x) refl (found-get l x)
         entryOf x (cond b (At (length l) (e .layer) (e .value)) (foundIn l x)) ≡ cond b (some e) (getIn l x)
     pick true q r = ap (λ (y : ℕ). some (record { name = y; layer = e .layer; value = e .value })) (sym (eqb-true _ _ q))
     pick false q r = r
-
--- the row that a lookup gives holds what it gives
-pub record FoundAt (t : List ℕ) (n x i d v : ℕ) : Type 0 where
-  pub below : i < n
-  pub row : rowAt t i ≡ record { name = x; layer = d; value = v }
-
-pub found-at : (t : List ℕ) (n : ℕ) {x i d v : ℕ} → At i d v ≡ foundIn (liveIn t n) x → FoundAt t n x i d v
-unfolding liveIn foundIn
-found-at t zero e = absurd (let z : _≡_ {A = ℕ} 0 1 = cc in omega arith)
-found-at t (suc n) {x} {i} {d} {v} e = pick (eqb (rowAt t n .name) x) refl e (found-at t n)
-  where
-    pick : (b : Bool) → eqb (rowAt t n .name) x ≡ b →
-        At i d v ≡ cond b (At (length (liveIn t n)) (rowAt t n .layer) (rowAt t n .value)) (foundIn (liveIn t n) x) →
-        (At i d v ≡ foundIn (liveIn t n) x → FoundAt t n x i d v) → FoundAt t (suc n) x i d v
-    pick true q e r =
-        let y = eqb-true (rowAt t n .name) x q in
-        let a : i ≡ length (liveIn t n) = cc in
-        let b : d ≡ rowAt t n .layer = cc in
-        let c : v ≡ rowAt t n .value = cc in
-        let z = a ∙ length-liveIn t n in
-        record { below = omega arith; row = ap (rowAt t) z ∙ rw (y, b, c) }
-    pick false q e r = let f = r e in record { below = omega (arith, f .below); row = f .row }
 
 -- The row of a name in the layer d, among n rows
 

@@ -1,10 +1,10 @@
 -- A table: a list of rows laid out in one list of numbers, W numbers a row. The laws are proved once, for every kind of row.
-use Prim.Native.Nat.{ℕ, zero, suc, _+_, _-_, _*_, _≤_, _<_}
+use Prim.Native.Nat.{ℕ, zero, suc, _+_, _-_, _*_, _<_}
 use mathlib.Core.List.{List, [], _∷_, _++_, append-assoc}
 use mathlib.Core.Path.{_≡_, refl, ap, sym, _∙_}
 use native.Mathlib.Omega.{arith}
 use lib.ListN.{length, getD, set, drop, take, replicate, length-append, replicate-append-replicate, List·getD-append}
-use lib.Seq.{sets, sets-eq, getD-append-add, set-append-left, drop-at, take-at, drop-nil, drop-append-add}
+use lib.Seq.{sets, sets-eq, getD-append-add, set-append-left, drop-at, take-at, drop-append-add}
 
 unfoldable pub layout : {A : Type 0} → (A → List ℕ) → List A → List ℕ
 layout put [] = []
@@ -89,15 +89,6 @@ module _ {A : Type 0} (W : ℕ) (put : A → List ℕ) (long : (a : A) → lengt
       ∙ ap (λ (r : List ℕ). replicate W 0 ++ r) (zeros-layout b e n)
       ∙ replicate-append-replicate W (W * n) 0
       ∙ ap (λ (k : ℕ). replicate k 0) z
-
-  -- the table from row i on
-  pub drop-layout : (l : List A) (i : ℕ) → drop (W * i) (layout put l) ≡ layout put (drop i l)
-  unfolding layout
-  drop-layout l zero = let z : W * 0 ≡ 0 = omega arith in ap (λ (k : ℕ). drop k (layout put l)) z
-  drop-layout [] (suc i) = drop-nil (W * suc i)
-  drop-layout (a ∷ l) (suc i) =
-      let z : W * suc i ≡ length (put a) + W * i = omega (arith, long a) in
-      ap (λ (k : ℕ). drop k (put a ++ layout put l)) z ∙ drop-append-add (put a) (layout put l) (W * i) ∙ drop-layout l i
 
   -- row i
   pub row-layout : (l : List A) (i : ℕ) (d : A) → i < length l → take W (drop (W * i) (layout put l)) ≡ put (getD l i d)

@@ -21,9 +21,6 @@ pub record Tells {A B : Type 0} (put : A → List ℕ) (none : A) (f : A → B) 
   pub is : (l : List A) → F ≡ layout put l → i < length l → r ≡ f (getD l i none)
 
 module _ {A : Type 0} (put : A → List ℕ) (none : A) {F : List ℕ} {i : ℕ} where
-  pub tells-of : {B C : Type 0} {f : A → B} (g : B → C) {r : B} → Tells put none f F i r → Tells put none (λ a. g (f a)) F i (g r)
-  tells-of g t = record { is = λ l e h. ap g (t .is l e h) }
-
   -- a change that the row at hand does not feel
   pub amends-none : (f : A → A) → ((l : List A) → F ≡ layout put l → i < length l → f (getD l i none) ≡ getD l i none) → Amends put none f F i F
   amends-none f k = record { is = λ l e h. e ∙ ap (layout put) (sym (ap (set l i) (k l e h) ∙ set-getD l i none)) }

@@ -3,7 +3,7 @@ use Prim.Native.Nat.{ℕ, _+_, _-_, _≤_, _<_}
 use mathlib.Core.List.{List, _++_, append-assoc}
 use mathlib.Core.Path.{_≡_, refl, ap, sym, _∙_}
 use native.Mathlib.Omega.{arith}
-use lib.ListN.{length, take, drop, set, replicate, length-append, length-drop, length-set, length-replicate, replicate-append-replicate, take-append-drop}
+use lib.ListN.{length, take, drop, set, length-append, length-drop, length-set, take-append-drop}
 use lib.Seq.{sets, sets-eq, length-take-le, take-at, drop-at, take-append-le, drop-append-le, drop-drop, take-set-le, take-set-lt, drop-set-lt, drop-set-add}
 use Rattle.table.specs.Region.{region, replaced}
 
@@ -71,18 +71,6 @@ sets-replaced w a ys h =
     sets-eq ys w a h
     ∙ append-assoc (take a w) ys (drop (a + length ys) w)
     ∙ ap (λ (l : List ℕ). take a w ++ (ys ++ l)) (sym (drop-drop (length ys) a w))
-
-pub region-replicate : (n a m x : ℕ) → a + m ≤ n → region (replicate n x) a m ≡ replicate m x
-region-replicate n a m x h =
-    let z : a + (m + (n - (a + m))) ≡ n = omega arith in
-    let b = replicate m x ++ replicate (n - (a + m)) x in
-    let e : replicate n x ≡ replicate a x ++ b =
-    ap (λ (k : ℕ). replicate k x) (sym z)
-    ∙ sym (replicate-append-replicate a (m + (n - (a + m))) x)
-    ∙ ap (λ (l : List ℕ). replicate a x ++ l) (sym (replicate-append-replicate m (n - (a + m)) x)) in
-    ap (λ (l : List ℕ). region l a m) e
-    ∙ ap (take m) (drop-at (replicate a x) b a (length-replicate a x))
-    ∙ take-at (replicate m x) (replicate (n - (a + m)) x) m (length-replicate m x)
 
 module _ {w : List ℕ} where
   pub elsewhere-same : {a n : ℕ} → Elsewhere a n w w

@@ -10,7 +10,7 @@ use Rattle.tree.specs.RecordLaws.{nth}
 use Rattle.tree.specs.Form.{fits}
 use Rattle.tree.specs.Tree.{Ident, Tree, Trees, cons, named, flat, flats, size, sizes, NumNames, Num}
 use Rattle.tree.specs.TreeLaws.{length-flat, length-flats}
-use Rattle.tree.specs.Parts.{own, at, flat-own, num-own}
+use Rattle.tree.specs.Parts.{own, at, flat-own}
 use Rattle.tree.specs.Accepted.{All, Accepted}
 use Rattle.tree.specs.Stands.{Within, Stands, StandAll, NamesStand}
 use Rattle.tree.specs.WithinLaws.{end-inside, front, following, first, first-inside, first-few, later, name-below}
@@ -43,9 +43,6 @@ module _ {N : ℕ} {rs : List ℕ} where
 
   pub root-count : {i : ℕ} {t : Tree} → Stands N rs i t → nth rs i .count ≡ own t .count
   root-count s = ap (λ (r : Record). r .count) (root s .is)
-
-  pub root-number : {i : ℕ} {t : Tree} → Stands N rs i t → at t ≡ i
-  root-number {i} {t} s = num-own i t (s .num) .here
 
   pub tree-inside : {i : ℕ} {t : Tree} → Stands N rs i t → i + size t ≤ length (records rs)
   tree-inside {i} {t} s = omega (arith, end-inside (s .within), length-flat t)

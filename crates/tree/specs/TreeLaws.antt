@@ -4,9 +4,8 @@ use mathlib.Core.List.{List, _++_, map, append-assoc}
 use mathlib.Core.Path.{_≡_, refl, ap, sym, subst, _∙_}
 use native.Mathlib.Omega.{arith}
 use native.Mathlib.Nat.{mul-mod-right}
-use lib.ListN.{length, drop, length-append, length-map}
-use lib.Seq.{drop-at}
-use Rattle.table.specs.Layout.{layout-append, length-layout, drop-layout}
+use lib.ListN.{length, length-append, length-map}
+use Rattle.table.specs.Layout.{layout-append, length-layout}
 use Rattle.tree.specs.Record.{Record, width, put, put-long, numbers}
 use Rattle.tree.specs.Tree.{Tree, Trees, ident, const, if, letin, define, lambda, begin, call, set!, nil, cons, many, named, flat, flats, size, sizes, nesting, nestings, Num, Nums}
 use Rattle.tree.specs.Define.{_⊕_}
@@ -75,38 +74,7 @@ length-numbers = length-layout width put put-long
 pub whole-numbers : (l : List Record) → length (numbers l) % width ≡ 0
 whole-numbers l = ap (λ (n : ℕ). n % width) (length-numbers l) ∙ mul-mod-right width (length l)
 
-pub drop-numbers : (l : List Record) (i : ℕ) → drop (width * i) (numbers l) ≡ numbers (drop i l)
-drop-numbers = drop-layout width put put-long
-
-numbers-after : (l r : List Record) {n : ℕ} → length l ≡ n → drop (width * n) (numbers (l ++ r)) ≡ numbers r
-numbers-after l r {n} e =
-    ap (λ (m : List ℕ). drop (width * n) m) (numbers-append l r)
-    ∙ drop-at (numbers l) (numbers r) (width * n) (omega (arith, length-numbers l))
-
-pub length-numbers-flat : (t : Tree) → length (numbers (flat t)) ≡ width * size t
-length-numbers-flat t = omega (arith, length-numbers (flat t), length-flat t)
-
-pub length-numbers-flats : (ts : Trees) → length (numbers (flats ts)) ≡ width * sizes ts
-length-numbers-flats ts = omega (arith, length-numbers (flats ts), length-flats ts)
-
--- the part after a tree, and after trees
-pub drop-flat : (t : Tree) (r : List Record) → drop (width * size t) (numbers (flat t ++ r)) ≡ numbers r
-drop-flat t r = numbers-after (flat t) r (length-flat t)
-
-pub drop-flats : (ts : Trees) (r : List Record) → drop (width * sizes ts) (numbers (flats ts ++ r)) ≡ numbers r
-drop-flats ts r = numbers-after (flats ts) r (length-flats ts)
-
 -- Lists of trees put together
-
-pub ⊕-nil : (ts : Trees) → ts ⊕ nil ≡ ts
-unfolding _⊕_
-⊕-nil nil = refl
-⊕-nil (cons t ts) = ap (cons t) (⊕-nil ts)
-
-pub ⊕-assoc : (ts us vs : Trees) → (ts ⊕ us) ⊕ vs ≡ ts ⊕ (us ⊕ vs)
-unfolding _⊕_
-⊕-assoc nil us vs = refl
-⊕-assoc (cons t ts) us vs = ap (cons t) (⊕-assoc ts us vs)
 
 pub flats-⊕ : (ts us : Trees) → flats (ts ⊕ us) ≡ flats ts ++ flats us
 unfolding flat _⊕_

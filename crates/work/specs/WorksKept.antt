@@ -1,25 +1,16 @@
 -- Changes of a state that the work table does not see.
-use Prim.Native.Nat.{ℕ, zero, suc}
-use mathlib.Core.List.{List, [], _∷_}
+use Prim.Native.Nat.{ℕ}
+use mathlib.Core.List.{List}
 use mathlib.Core.Option.{Option}
-use mathlib.Core.Path.{_≡_, refl, ap, sym, _∙_}
-use lib.ListN.{getD, set}
-use Rattle.table.specs.Layout.{layout}
+use mathlib.Core.Path.{_≡_, refl, ap, _∙_}
 use Rattle.tree.specs.Check.{Refusal}
-use Rattle.semantic.specs.Rows.{Row, Item, noItem}
-use Rattle.semantic.specs.declared.SemanticInformation.{SemanticInformation}
-use Rattle.pass.specs.State.{Facts, State, withFacts, withContext, withCaptured, insert, amend, orKept, noteSecond}
-use Rattle.work.specs.Coded.{putBinder, notedOf, secondOf, refusalAt}
+use Rattle.semantic.specs.Rows.{Row}
+use Rattle.pass.specs.State.{Facts, State, withFacts, withContext, insert, orKept, noteSecond}
+use Rattle.work.specs.Coded.{notedOf, secondOf, refusalAt}
 use Rattle.work.specs.Works.{Beside, besidePass, besideState, Works}
 use Rattle.work.specs.Passes.{inContext, withTops, withSecond}
 use Rattle.work.specs.declared.Pass.{Pass}
 use Rattle.work.specs.declared.Second.{Second}
-
-binder-same : (l : List Item) (r : ℕ) (x : Item) → x .binder .at ≡ getD l r noItem .binder .at → layout putBinder (set l r x) ≡ layout putBinder l
-unfolding layout
-binder-same [] r x e = refl
-binder-same (i ∷ l) zero x e = ap (λ (n : ℕ). n ∷ layout putBinder l) e
-binder-same (i ∷ l) (suc r) x e = ap (λ (m : List ℕ). i .binder .at ∷ m) (binder-same l r x e)
 
 -- other refusals noted
 abbrev pub noting : Option ℕ → Option ℕ → Option Refusal → Beside → Beside
@@ -50,10 +41,6 @@ module _ {p : Pass} {w : List ℕ} {s : State} (k : Works p w s) where
   unfolding insert
   insert-kept i r = works-as p (insert i r s) refl refl refl refl refl (k .beside)
 
-  pub amend-kept : (f : SemanticInformation → SemanticInformation) (i : ℕ) → Works p w (amend f i s)
-  unfolding insert amend
-  amend-kept f i = works-as p (amend f i s) refl refl refl refl refl (k .beside)
-
   pub context-kept : (c : ℕ) → Works (inContext c p) w (withContext c s)
   context-kept c = works-as (inContext c p) (withContext c s) refl refl refl refl refl (ap (λ (b : Beside). record {
     context = c;
@@ -69,18 +56,6 @@ module _ {p : Pass} {w : List ℕ} {s : State} (k : Works p w s) where
       works-as (withSecond r p) (noteSecond n i s) refl refl refl refl refl
       (ap (λ (o : Option Refusal). noting (notedOf (p .nine)) (notedOf (p .ten)) o (besidePass p)) q
       ∙ ap (λ (b : Beside). noting (b .nine) (b .ten) (orKept (b .second) (refusalAt n i)) b) (k .beside))
-
-  -- other captured entries, with the same binders
-  pub items-kept : (l : List Item) → layout putBinder l ≡ layout putBinder (s .facts .captured) → Works p w (withCaptured l s)
-  items-kept l e = record {
-    long = k .long;
-    names = k .names;
-    entries = k .entries;
-    captures = k .captures;
-    taken = k .taken;
-    binders = k .binders ∙ sym e;
-    beside = k .beside;
-  }
 
   -- other facts, with the same captured entries
   pub facts-kept : (f : Facts) → f .captured ≡ s .facts .captured → Works (withTops (f .capturedTop) (f .argumentsTop) p) w (withFacts f s)

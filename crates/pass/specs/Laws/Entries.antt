@@ -1,20 +1,15 @@
--- A visit of a tree that is numbered from i makes entries from i up to the tree's end alone: any other entry is at most used and set.
-use Prim.Native.Nat.{ℕ, _+_, _≤_, _<_}
+-- Steps make the entries of their own records alone: any other entry is at most used and set.
+use Prim.Native.Nat.{ℕ, _≤_, _<_}
 use mathlib.Core.List.{List}
 use mathlib.Core.Path.{_≡_, refl, ap, _∙_}
 use native.Mathlib.Decide.{ℕ-discrete, decLt}
 use native.Mathlib.Omega.{arith}
 use lib.ListN.{length, getD}
 use lib.Seq.{getD-set-same, getD-set-other, set-out}
-use Rattle.tree.specs.Tree.{Tree, size, Num}
-use Rattle.pass.specs.State.{Entry, State, noEntry, insert, amend, entryAt, putEntry, depth}
+use Rattle.pass.specs.State.{Entry, State, noEntry, insert, amend, entryAt, putEntry}
 use Rattle.pass.specs.Lambda.{openScope, closeScope}
-use Rattle.pass.specs.Visit.{Flags, visit}
 use Rattle.pass.specs.Laws.Changes.{Used, Steps, same, _⨾_, row, mark, entry, used, names, layer, lists, captures, context, note}
 use Rattle.pass.specs.Laws.Moves.{Moves, by, opens, closes, _⨟_}
-use Rattle.pass.specs.Laws.Visits.{visit-changes}
-use Rattle.pass.specs.Laws.Ranges.{tree-writes}
-use Rattle.pass.specs.Laws.Keeps.{Off, But, but}
 
 pub unused : {e : Entry} → Used e e
 unused = record { captured = λ h. h; mutated = λ h. h; kept = refl }
@@ -65,8 +60,3 @@ moves-entry (by c) x o = keeps-entry c x o
 moves-entry opens x o = unused
 moves-entry closes x o = unused
 moves-entry (c ⨟ d) x o = used-again (moves-entry c x o) (moves-entry d x o)
-
-pub keeps-entries : (classes : List ℕ) (i : ℕ) (t : Tree) → Num i t → (f : Flags) (s : State) → 1 ≤ depth s
-    → (x : ℕ) → Off i (i + size t) x → Used (entryAt s x) (entryAt (visit classes t f s) x)
-keeps-entries classes i t n f s h x o =
-    keeps-entry (visit-changes classes t f s (tree-writes (But x) i t n (but x o)) h) x (λ d. d refl)

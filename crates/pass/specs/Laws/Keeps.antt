@@ -50,10 +50,6 @@ module _ (classes : List ℕ) where
       → (x : ℕ) → Off i (i + sizes ts) x → key (rowAt (visitArguments classes ts f s) x) ≡ key (rowAt s x)
   keeps-arguments i ts n f s h x o = keeps-key (arguments-visited classes ts f s (trees-writes (But x) i ts n (but x o)) h) x (λ d. d refl)
 
-  pub keeps-children : (i : ℕ) (ts : Trees) → Nums i ts → (f : Flags) (s : State) → 1 ≤ depth s
-      → (x : ℕ) → Off i (i + sizes ts) x → key (rowAt (visitChildren classes ts f s) x) ≡ key (rowAt s x)
-  keeps-children i ts n f s h x o = keeps-key (children-visited classes ts f s (trees-writes (But x) i ts n (but x o)) h) x (λ d. d refl)
-
   pub keeps-run : (ts : Trees) → Nums 0 ts → (f : Facts) (x : ℕ) → Off 0 (sizes ts) x → key (rowAt (run classes ts f) x) ≡ key (rowAt (start f) x)
   keeps-run ts n f x o =
       let w = trees-writes (But x) 0 ts n (λ y l u e. o (omega arith) (omega arith)) in

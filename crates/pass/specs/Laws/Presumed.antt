@@ -16,16 +16,6 @@ use Rattle.pass.specs.Laws.Says.{usesIn, isSetUse, anyUse, isSetIn, Pres
 abbrev pub anyUses : Premises
 anyUses = record { readInside = λ b. Unit {0}; setOwn = λ b. Unit {0}; setInside = λ b. Unit {0} }
 
-any-presumed : (m : Mention) (o : Option Binder) → Presumed anyUses m o
-any-presumed m none = tt
-any-presumed m (some b) = record { readInside = λ s i. tt; setOwn = λ s i. tt; setInside = λ s i. tt }
-
-pub any-presumes : (l : List Event) → Presumes anyUses l
-any-presumes [] = tt
-any-presumes (enters b sc ∷ l) = any-presumes l
-any-presumes (mentions m ∷ l) = (any-presumed m (meant m), any-presumes l)
-any-presumes (ends i xs sc ∷ l) = any-presumes l
-
 -- Of the uses U: a name that an inner lambda reads is never set, one that its own body sets is, and none is set by an inner lambda
 
 abbrev pub unshared : List Use → Premises

@@ -2,19 +2,15 @@
 use Prim.Native.Nat.{ℕ, _+_, _≤_, _<_}
 use mathlib.Core.List.{List, _++_}
 use mathlib.Core.Bool.{Bool, true, false, true≢false}
-use mathlib.Core.Path.{_≡_, refl, sym, _∙_}
+use mathlib.Core.Path.{_≡_, sym, _∙_}
 use native.Mathlib.Omega.{arith}
 use lib.ListN.{length}
 use Rattle.tree.specs.Tree.{Tree, Trees, ident, const, if, letin, define, lambda, begin, call, set!, nil, cons, size, sizes, Num, Nums}
 use Rattle.tree.specs.Accepted.{All}
 use Rattle.r7rs.specs.Tail.{Call, calls, callsIn, callsLast}
-use Rattle.pass.specs.State.{State, rowAt, depth}
-use Rattle.pass.specs.Visit.{Flags, visit}
 use Rattle.pass.specs.TailPosition.{isConstant}
 use Rattle.pass.specs.Laws.All.{all-++, all-map}
-use Rattle.pass.specs.Laws.Rows.{key}
-use Rattle.pass.specs.Laws.Changes.{keeps-key}
-use Rattle.pass.specs.Laws.Visits.{Writes, WritesAll, visit-changes}
+use Rattle.pass.specs.Laws.Visits.{Writes, WritesAll}
 use Rattle.pass.specs.Laws.Ranges.{names-writes, tree-writes, trees-writes}
 use Rattle.pass.specs.Laws.Keeps.{But}
 
@@ -121,10 +117,3 @@ mutual
       (calls t false) (silent i t (n .0) false))
       (part (SparesAll (cons u us)) _ (omega arith) (omega arith) (λ x o h w. (tree-writes (But x) i t (n .0) (λ y p q e. omega arith), w))
       (callsLast (cons u us) b) (silent-last j (cons u us) (n .1) b))
-
--- a visit leaves the row of such a call as it was
-pub silent-visit : (classes : List ℕ) (i : ℕ) (t : Tree) → Num i t → (f : Flags) (s : State) → 1 ≤ depth s
-    → All (λ c. isConstant (c .head) ≡ true → key (rowAt (visit classes t f s) (c .at)) ≡ key (rowAt s (c .at))) (calls t (f .tail))
-silent-visit classes i t n f s h =
-    all-map (Silent i (i + size t) (Spares t)) _ (λ c p e. keeps-key (visit-changes classes t f s (p .apart e) h) (c .at) (λ d. d refl))
-    (calls t (f .tail)) (silent i t n (f .tail))

@@ -9,6 +9,5 @@ pub mod Known
 pub mod Counted
 pub mod Rooms
 pub mod Growth
-pub mod Roomy
 pub mod Visits
 pub mod Runs

@@ -11,10 +11,9 @@ use Rattle.tree.specs.Define.{topOf, topLevel}
 use Rattle.tree.specs.TreeLaws.{sizes-⊕}
 use Rattle.semantic.specs.Information.{NONE}
 use Rattle.semantic.specs.declared.IdentifierStatus.the-variants.{Global, Local, LocallyDefinedFunction}
-use Rattle.pass.specs.State.{Facts, State, withContext, depth}
+use Rattle.pass.specs.State.{State, withContext, depth}
 use Rattle.pass.specs.Lambda.{atBottom}
-use Rattle.pass.specs.Visit.{Flags, topFlags, notTail, sameTail, pushed, letBodyFlags, bodyFlags, argumentFlags, isLambda, headFlags, isNil, childFlags, defineFlags, beforeDefine, afterDefine, enterIfLambda, enterChild, enterChildren, visit, visitArguments, visitChildren, enterTopLambda, enterTop, enterTops, visitTopDefine, visitTop, visitTops}
-use Rattle.pass.specs.Run.{start, run}
+use Rattle.pass.specs.Visit.{Flags, topFlags, notTail, sameTail, pushed, letBodyFlags, bodyFlags, argumentFlags, isLambda, headFlags, isNil, childFlags, defineFlags, beforeDefine, afterDefine, enterIfLambda, enterChild, enterChildren, visit, visitArguments, visitChildren, enterTopLambda, enterTop, enterTops, visitTopDefine, visitTop}
 use Rattle.pass.specs.Sound.{Grows}
 use Rattle.pass.specs.Laws.Scopes.{Any, lambda-depth, let-stays}
 use Rattle.pass.specs.Laws.Visits.{call-changes, clear-changes}
@@ -160,15 +159,3 @@ module _ (classes : List ℕ) where
   top-grows (begin n es) s h = visit-grows (begin n es) topFlags s h
   top-grows (call n g es) s h = visit-grows (call n g es) topFlags s h
   top-grows (set! n x e) s h = visit-grows (set! n x e) topFlags s h
-
-  pub tops-grow : (ts : Trees) (s : State) → 1 ≤ depth s → Grows (many ts) (sizes ts) s (visitTops classes ts s)
-  unfolding visitTops size
-  tops-grow nil s h = grows-none
-  tops-grow (cons t ts) s h = grows-wide (omega arith) (next h (top-grows t s h) (λ k. tops-grow ts _ k))
-
-  -- a whole run has no more names than records
-  pub run-grows : (ts : Trees) (f : Facts) → Grows 0 (sizes ts) (start f) (run classes ts f)
-  unfolding run start
-  run-grows ts f =
-      let us = topLevel ts in
-      grows-wide (omega (arith, top-sizes ts)) (next (omega arith) (grows-tops us (start f)) (λ k. tops-grow us _ k))

@@ -22,7 +22,7 @@ use Rattle.pass.specs.State.{Entry, Capture, Scope, State, infoAt, itemA
 use Rattle.pass.specs.Read.{noteLive, enter, enterDefine, enterTopLevelValue, Rule, noEntry, depthOne, currentLayer, takenCapture, homeSlot, ruleOf, hasNumber, readBy, read, mutateAt, mutate}
 use Rattle.pass.specs.Lists.{isOf, numberedHeap, numberedCapture, numberRow, numberRows, numberList}
 use Rattle.pass.specs.Lambda.{isHeap, noteHeap, enterName, enterNames, functionIn, openCaptures, openScope, enterParameters, enterLambda, closeScope, closeCaptures, leaveLambda, openLet, closeLet, atBottom, enterLet, leaveNames, entered, leaveLet}
-use Rattle.pass.specs.Sound.{Roomy, Grows}
+use Rattle.pass.specs.Sound.{Grows}
 use Rattle.pass.specs.Laws.Changes.{Steps, quiet}
 use Rattle.pass.specs.Laws.Names.{shadow-changes}
 use Rattle.pass.specs.Laws.Scopes.{Any, last-changes, lambda-ends, make-changes}
@@ -60,18 +60,6 @@ grows-quiet {s = s} c =
       live = omega (arith, ap (λ (o : Scope). length (o .names .live)) (q .scope));
       layers = λ h. ap (λ (o : Scope). o .names .depth) (q .scope);
       captureLayers = λ h. ap (λ (m : ScopeMap Capture). m .depth) (q .captures);
-    }
-
-pub roomy : {a b k m : ℕ} {s t : State} → Grows a b s t → k + b ≤ m + a → k ≤ m → Roomy k s → Roomy m t
-roomy g e o r =
-    let d = g .layers (r .bottom) in
-    let c = g .captureLayers (r .captureBottom) in
-    record {
-      live = omega (arith, g .live, r .live);
-      bottom = omega (arith, r .bottom);
-      layers = omega (arith, r .layers);
-      captureBottom = omega (arith, r .captureBottom);
-      captureLayers = omega (arith, r .captureLayers);
     }
 
 -- A name is read, set, or enters

@@ -12,7 +12,7 @@ use Rattle.semantic.specs.Rows.{Row, Blank, noItem}
 use Rattle.semantic.specs.declared.FunctionInformation.{FunctionInformation}
 use Rattle.pass.specs.State.{Entry, Facts, State, noEntry}
 use Rattle.pass.specs.Visit.{Flags, isLambda, enterChildren, visit, visitArguments, visitChildren, enterTops, visitTop, visitTops}
-use Rattle.pass.specs.Run.{rowsMost, itemsMost, noFacts, start, run, fresh, settled}
+use Rattle.pass.specs.Run.{rowsMost, itemsMost, noFacts, start, run, fresh}
 use Rattle.pass.specs.Sound.{Property, Lawful, usesIn, Each, Sound, Counted, Holds, HoldsAll, Listed, Inside, Opens, OpensArguments, OpensChildren, OpensDefine, OpensTop, OpensTops}
 use Rattle.pass.specs.Laws.Sound.Lists.{same-each}
 use Rattle.pass.specs.Laws.Sound.Each.{Fine, fine}
@@ -143,10 +143,6 @@ pub fresh-counted : (classes : List ℕ) (ts : Trees) → Counted (sizes ts) (fr
 unfolding fresh
 fresh-counted classes ts = counted-grow (omega arith) (run-counted classes ts noFacts (each-first (counting .none 0) asking-nothing))
 
-pub settled-counted : (classes : List ℕ) (ts : Trees) → Counted (sizes ts + sizes ts) (settled classes ts)
-unfolding settled
-settled-counted classes ts = run-counted classes ts _ (each-next (counting .none (sizes ts)) (fresh-counted classes ts))
-
 -- Identifiers and rows: where each lambda entered finds its list inside the table
 
 pub sound-first : {P : Ident → Type 0} → ((x : Ident) → P x → x .at < rowsMost) → Sound P (start noFacts)
@@ -162,10 +158,6 @@ module _ {P : Ident → Type 0} (small : (x : Ident) → P x → x .at < rowsMos
   pub arguments-sound : (ts : Trees) (f : Flags) (s : State) → HoldsAll P ts → OpensArguments Inside classes ts f s → Sound P s
       → Sound P (visitArguments classes ts f s)
   arguments-sound ts f s p o h = visited-arguments (knowing small) uncounted Inside inside-listed classes ts f s 0 p o h
-
-  pub children-sound : (ts : Trees) (f : Flags) (s : State) → HoldsAll P ts → OpensChildren Inside classes ts f s → Sound P s
-      → Sound P (visitChildren classes ts f s)
-  children-sound ts f s p o h = visited-children (knowing small) uncounted Inside inside-listed classes ts f s 0 p o h
 
   pub enter-sound : (ts : Trees) (s : State) → HoldsAll P ts → Sound P s → Sound P (enterChildren classes ts s)
   enter-sound ts s p h = each-children tt classes ts s p h

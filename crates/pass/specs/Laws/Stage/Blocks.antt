@@ -10,8 +10,6 @@ use Rattle.pass.specs.State.{State, rowAt}
 use Rattle.pass.specs.Stage.{Blocks, BlocksAll, BlocksIn, BlocksAllIn, ListsWithin, FunctionWithin, NamesWithin, LetWithin, IsBlank}
 use Rattle.pass.specs.Laws.Rows.{key, key-blank}
 use Rattle.pass.specs.Laws.Changes.{Changes, keeps-key}
-use Rattle.pass.specs.Laws.Moves.{Moves, moves-key}
-use Rattle.pass.specs.Laws.Keeps.{Off}
 use Rattle.pass.specs.Laws.Stage.Lists.{function-key, Lasting}
 
 -- from one thing said of their records to another
@@ -82,15 +80,8 @@ within c a =
       letin = λ r q e h. subst (NamesWithin a) (sym (let-key q) ∙ ap letIn (sym e) ∙ let-key r) h;
     }
 
--- a tree whose records are not written
-pub moves-lasting : {j k : ℕ} {s t : State} → Moves (Off j k) s t → Lasting j k s t
-moves-lasting c = record { at = λ x l u. moves-key c x (λ o. o l u) }
-
 pub changes-lasting : {own : ℕ → Type 0} {j k : ℕ} {s t : State} → Changes own s t → ((x : ℕ) → j ≤ x → x < k → own x → ⊥) → Lasting j k s t
 changes-lasting c o = record { at = λ x l u. keeps-key c x (o x l u) }
-
-pub lasting-then : {j k : ℕ} {s t u : State} → Lasting j k s t → Lasting j k t u → Lasting j k s u
-lasting-then p q = record { at = λ x l h. q .at x l h ∙ p .at x l h }
 
 module _ {F L : Row → Type 0} (kind : Kind F L) where
   pub blocks-last : (i : ℕ) (t : Tree) → Num i t → {s u : State} → Lasting i (i + size t) s u → BlocksIn F L s t → BlocksIn F L u t

@@ -34,9 +34,6 @@ function-amended f (Function v) = refl
 function-amended f (CallSite v) = refl
 function-amended f (Let v) = refl
 
-held-key : (r : Row) → held (key r) ≡ held r
-held-key r = ap listLength (function-key r)
-
 pub held-amended : (f : SemanticInformation → SemanticInformation) (r : Row) → held (amended f r) ≡ held r
 held-amended f r = ap listLength (function-amended f r)
 
@@ -86,13 +83,6 @@ lists-first s i (suc n) k m h g = omega (arith, lists-within s (suc i) n k m h (
 -- rows that kept their keys
 pub record Lasting (i j : ℕ) (s t : State) : Type 0 where
   pub at : (x : ℕ) → i ≤ x → x < j → key (rowAt t x) ≡ key (rowAt s x)
-
-pub lists-lasting : (i n : ℕ) {s t : State} → Lasting i (i + n) s t → lists t i n ≡ lists s i n
-lists-lasting i zero a = refl
-lists-lasting i (suc n) {s} {t} a =
-    let k : held (key (rowAt t i)) ≡ held (key (rowAt s i)) = ap held (a .at i (omega arith) (omega arith)) in
-    let q : lists t (suc i) n ≡ lists s (suc i) n = lists-lasting (suc i) n (record { at = λ x l u. a .at x (omega arith) (omega arith) }) in
-    omega (arith, k, held-key (rowAt t i), held-key (rowAt s i))
 
 -- a row is written
 lists-after : (t : State) (i : ℕ) (r : Row) (j n : ℕ) → i < j → lists (insert i r t) j n ≡ lists t j n

@@ -10,7 +10,7 @@ use Rattle.tree.specs.Tree.{Ident, Node, Tree, Trees, size, sizes}
 use Rattle.pass.specs.State.{State, withContext, depth}
 use Rattle.pass.specs.Read.{enterTopLevelValue, mutate}
 use Rattle.pass.specs.Lambda.{enterLambda, enterLet}
-use Rattle.pass.specs.Visit.{Flags, beforeDefine, enterChildren, clearContext, visit, visitArguments, visitChildren, enterTops, visitTop}
+use Rattle.pass.specs.Visit.{Flags, beforeDefine, enterChildren, clearContext, visit, visitArguments, enterTops, visitTop}
 use Rattle.pass.specs.Sound.{Counted}
 use Rattle.pass.specs.Stage.{Layered}
 use Rattle.pass.specs.Static.{letDepth}
@@ -20,11 +20,11 @@ use Rattle.pass.specs.Laws.Scopes.{Any, names-any, lambda-depth, let-dep
 use Rattle.pass.specs.Laws.Visits.{before-changes, children-changes, clear-changes, tops-changes, top-visited}
 use Rattle.pass.specs.Laws.Ranges.{tree-any, trees-any}
 use Rattle.pass.specs.Laws.Moves.{moves-lengths, into-lambda, into-let}
-use Rattle.pass.specs.Laws.Keeps.{visited, visited-arguments, visited-children}
+use Rattle.pass.specs.Laws.Keeps.{visited, visited-arguments}
 use Rattle.pass.specs.Laws.Sound.Counted.{asking-nothing, counting, counted-grow, counted-context, counted-value, counted-mutate, counted-enter-lambda, counted-enter-let, counted-clear}
 use Rattle.pass.specs.Laws.Sound.Calls.{each-before}
-use Rattle.pass.specs.Laws.Sound.Growth.{visit-grows, arguments-grow, children-grow, top-grows}
-use Rattle.pass.specs.Laws.Sound.Runs.{visit-counted, arguments-counted, children-counted, enter-counted, enter-tops-counted, top-counted}
+use Rattle.pass.specs.Laws.Sound.Growth.{visit-grows, arguments-grow, top-grows}
+use Rattle.pass.specs.Laws.Sound.Runs.{visit-counted, arguments-counted, enter-counted, enter-tops-counted, top-counted}
 use Rattle.pass.specs.Laws.Stage.Still.{Apart, clear-still, mutate-still}
 use Rattle.pass.specs.Laws.Stage.Entering.{context-apart, value-apart, children-apart, tops-apart, before-apart, enter-let-apart}
 use Rattle.pass.specs.Laws.Stage.Captures.{lambda-opened}
@@ -144,16 +144,6 @@ module _ (classes : List ℕ) {s : State} (h : Layered s) where
       record {
         lengths = keeps-lengths (visited-arguments classes ts f s (h .scope));
         counted = λ k c. arguments-counted classes ts f s c;
-        layers = omega (arith, g .layers (h .scope));
-        captureLayers = omega (arith, g .captureLayers (h .captures));
-      }
-
-  pub further-children-visited : (ts : Trees) (f : Flags) → Further (sizes ts) s (visitChildren classes ts f s)
-  further-children-visited ts f =
-      let g = children-grow classes ts f s (h .scope) in
-      record {
-        lengths = keeps-lengths (visited-children classes ts f s (h .scope));
-        counted = λ k c. children-counted classes ts f s c;
         layers = omega (arith, g .layers (h .scope));
         captureLayers = omega (arith, g .captureLayers (h .captures));
       }

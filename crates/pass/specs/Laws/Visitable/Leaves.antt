@@ -13,11 +13,11 @@ use Rattle.semantic.specs.declared.LetInformation.{LetInformation}
 use Rattle.pass.specs.State.{State, rowAt, depth}
 use Rattle.pass.specs.Read.{mutate}
 use Rattle.pass.specs.Lambda.{enterLambda, enterLet}
-use Rattle.pass.specs.Visit.{Flags, notTail, letBodyFlags, bodyFlags, argumentFlags, isLambda, headFlags, defineFlags, beforeDefine, clearContext, visit, visitArguments, visitChildren}
+use Rattle.pass.specs.Visit.{Flags, notTail, letBodyFlags, bodyFlags, argumentFlags, isLambda, headFlags, defineFlags, beforeDefine, clearContext, visit, visitArguments}
 use Rattle.pass.specs.Run.{rowsMost, itemsMost}
 use Rattle.pass.specs.Sound.{Sound}
 use Rattle.pass.specs.Stage.{afterInitials, endOf, EntersWithin, LeavesWithin, LetEntersWithin, CapturedWithin, AroundWithin, IsBlank, FunctionWithin, Around, Unmade, Made, Run, first, second}
-use Rattle.pass.specs.Visitable.{Ample, Visitable, VisitableArguments, VisitableChildren, VisitableTops, CapturedFits, Reliable, LambdaBegins, LambdaEnds, LetBegins, LetEnds, NamesEnter}
+use Rattle.pass.specs.Visitable.{Ample, Visitable, CapturedFits, Reliable, LambdaBegins, LambdaEnds, LetBegins, LetEnds, NamesEnter}
 use Rattle.pass.specs.Laws.Visits.{stays}
 use Rattle.pass.specs.Laws.Keeps.{visited}
 use Rattle.pass.specs.Laws.Sound.Known.{sound-context, sound-mutate}
@@ -27,7 +27,7 @@ use Rattle.pass.specs.Laws.Stage.Second.{visit-stored}
 use Rattle.pass.specs.Laws.Stage.Lambdas.{lambda-enters, lambda-leaves, let-enters, let-leaves}
 use Rattle.pass.specs.Laws.Visitable.Live.{before-live}
 use Rattle.pass.specs.Laws.Visitable.Further.{Further, further-same, further-then, further-clear, further-mutate}
-use Rattle.pass.specs.Laws.Visitable.Visited.{visited-sound, visited-further, visited-live, arguments-visited-sound, arguments-visited-further, arguments-visited-live, children-visited-sound, children-visited-further}
+use Rattle.pass.specs.Laws.Visitable.Visited.{visited-sound, visited-further, visited-live, arguments-visited-sound, arguments-visited-live}
 use Rattle.pass.specs.Laws.Visitable.Parts.{let-initials, initials-further, let-body, define-body, lambda-body, call-head, set-expression}
 
 -- j records later
@@ -44,15 +44,6 @@ reliable-on p a e h = record {
 
 pub reliable : {P : Ident → Type 0} {i : ℕ} {t : Tree} {f : Flags} {s : State} → Visitable P i t f s → Reliable P s
 reliable w = reliable-on further-same (w .ample) (omega arith) (w .sound)
-
-pub arguments-reliable : {P : Ident → Type 0} {i : ℕ} {ts : Trees} {f : Flags} {s : State} → VisitableArguments P i ts f s → Reliable P s
-arguments-reliable w = reliable-on further-same (w .ample) (omega arith) (w .sound)
-
-pub children-reliable : {P : Ident → Type 0} {i : ℕ} {ts : Trees} {f : Flags} {s : State} → VisitableChildren P i ts f s → Reliable P s
-children-reliable w = reliable-on further-same (w .ample) (omega arith) (w .sound)
-
-pub tops-reliable : {P : Ident → Type 0} {i j : ℕ} {ts : Trees} {s : State} → VisitableTops P i j ts s → Reliable P s
-tops-reliable w = reliable-on further-same (w .ample) (omega arith) (w .sound)
 
 -- What a fact tells, if it is found
 
@@ -96,12 +87,6 @@ module _ {P : Ident → Type 0} (small : (x : Ident) → P x → x .at < rowsMos
 
   pub visited-reliable : {i : ℕ} {t : Tree} {f : Flags} {s : State} → Visitable P i t f s → Reliable P (visit classes t f s)
   visited-reliable w = reliable-on (visited-further small classes w) (w .ample) (omega arith) (visited-sound small classes w)
-
-  pub arguments-visited-reliable : {i : ℕ} {ts : Trees} {f : Flags} {s : State} → VisitableArguments P i ts f s → Reliable P (visitArguments classes ts f s)
-  arguments-visited-reliable w = reliable-on (arguments-visited-further small classes w) (w .ample) (omega arith) (arguments-visited-sound small classes w)
-
-  pub children-visited-reliable : {i : ℕ} {ts : Trees} {f : Flags} {s : State} → VisitableChildren P i ts f s → Reliable P (visitChildren classes ts f s)
-  children-visited-reliable w = reliable-on (children-visited-further small classes w) (w .ample) (omega arith) (children-visited-sound small classes w)
 
   module _ (i : ℕ) (f : Flags) (s : State) where
     -- begin

@@ -6,15 +6,15 @@ use native.Mathlib.Omega.{arith}
 use lib.ListN.{length}
 use Rattle.tree.specs.Tree.{Ident, Tree, Trees, many, size, sizes}
 use Rattle.pass.specs.State.{State}
-use Rattle.pass.specs.Visit.{Flags, visit, visitArguments, visitChildren}
+use Rattle.pass.specs.Visit.{Flags, visit, visitArguments}
 use Rattle.pass.specs.Run.{rowsMost}
 use Rattle.pass.specs.Sound.{Sound}
 use Rattle.pass.specs.Stage.{entering}
-use Rattle.pass.specs.Visitable.{Ample, Visitable, VisitableArguments, VisitableChildren}
-use Rattle.pass.specs.Laws.Sound.Runs.{visit-sound, arguments-sound, children-sound}
+use Rattle.pass.specs.Visitable.{Ample, Visitable, VisitableArguments}
+use Rattle.pass.specs.Laws.Sound.Runs.{visit-sound, arguments-sound}
 use Rattle.pass.specs.Laws.Visitable.Live.{visit-live, arguments-live}
-use Rattle.pass.specs.Laws.Visitable.Further.{Further, further-visit, further-arguments, further-children-visited}
-use Rattle.pass.specs.Laws.Visitable.Opens.{opens, opens-arguments, opens-children}
+use Rattle.pass.specs.Laws.Visitable.Further.{Further, further-visit, further-arguments}
+use Rattle.pass.specs.Laws.Visitable.Opens.{opens, opens-arguments}
 
 -- j of n records later m are left, of which q may enter a name
 pub record Remaining (j n m q : ℕ) (g : Flags) (t : State) : Type 0 where
@@ -58,10 +58,3 @@ module _ {P : Ident → Type 0} (small : (x : Ident) → P x → x .at < rowsMos
 
     pub arguments-visited-live : length (visitArguments classes ts f s .scope .names .live) + many ts ≤ length (s .scope .names .live) + sizes ts
     arguments-visited-live = arguments-live classes i ts (w .num) f s (w .stage .layered .scope)
-
-  module _ {i : ℕ} {ts : Trees} {f : Flags} {s : State} (w : VisitableChildren P i ts f s) where
-    pub children-visited-sound : Sound P (visitChildren classes ts f s)
-    children-visited-sound = children-sound small classes ts f s (w .holds) (opens-children classes i ts (w .num) f s (w .stage)) (w .sound)
-
-    pub children-visited-further : Further (sizes ts) s (visitChildren classes ts f s)
-    children-visited-further = further-children-visited classes (w .stage .layered) ts f
