@@ -3,7 +3,7 @@ use Prim.Native.Nat.{ℕ}
 use mathlib.Core.Bool.{true, and-eq-true-iff}
 use mathlib.Core.List.{List}
 use mathlib.Core.Option.{none, some}
-use mathlib.Core.Path.{_≡_, refl, ap, sym, _∙_}
+use mathlib.Core.Path.{_≡_, refl, ap, sym, subst, _∙_}
 use native.Mathlib.Omega.{arith}
 use borrow.Author.Tests.{eqb-true, eq-eqb}
 use lib.ListN.{length, replicate, length-replicate}
@@ -11,7 +11,7 @@ use lib.Dec.{eqb}
 use Rattle.pass.specs.Run.{Tables, factsLength, itemsLength, workLength, lengthsFit, zeros}
 use Rattle.work.specs.Works.{bindersFirst, bindersLength}
 use Rattle.analysis.specs.Answer.{tables, refusalIn}
-use Rattle.analysis.specs.Steps.{left, zeroed, namesCleared, Blank}
+use Rattle.analysis.specs.Steps.{left, zeroed, namesCleared, Emptied, Blank}
 use Rattle.analysis.proofs.Start.{emptied}
 use Rattle.analysis.specs.declared.Answer.{Answer}
 use Rattle.analysis.specs.declared.Answer.the-variants as answer
@@ -70,7 +70,7 @@ module _ (F C A w : List ℕ) (F′ C′ A′ w′ : List ℕ) where
         facts = all f (l .facts);
         captured = all c (l .captured);
         arguments = all a (l .arguments);
-        work = rw (z, n) (emptied w (l .work));
+        work = subst Emptied (sym (z ∙ ap (zeroed bindersFirst bindersLength) n)) (emptied w (l .work));
       }
 
   -- tables keep their lengths
