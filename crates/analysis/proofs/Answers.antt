@@ -25,13 +25,14 @@ module _ {classes rs : List ℕ} {a : Answer} (e : refusalIn a ≡ refusal (leng
     accepted-begins z = let (ts, k) = accepted (length classes) rs (none-found e h) in record { ts = ts; accepted = k; blank = z }
 
     pub accepted-checks : {f : List ℕ → Trees → Outcome} {o : Outcome} → Ends f classes rs o → Checks f classes rs o
-    accepted-checks x = record { unsound = λ r g. absurd (Option·some-ne-none r (sym g ∙ none-found e h)); sound = x .sound }
+    accepted-checks x = record { unsound = λ r g. absurd (Option·some-ne-none r (sym g ∙ none-found e h)); sound = x .sound; rest = λ _. x .rest }
 
   pub refused-checks : {f : List ℕ → Trees → Outcome} {m i : ℕ} {t : Tables} → a ≡ answer.Refused m i
       → Checks f classes rs (record { refused = refusalIn a; tables = t })
   refused-checks {t = t} h = record {
     unsound = λ r g. ap (λ (o : Option Refusal). cleared (record { refused = o; tables = t })) (e ∙ g);
     sound = λ ts k. absurd (Option·some-ne-none _ (sym (ap refusalIn h) ∙ e ∙ only (length classes) rs ts k));
+    rest = λ g. absurd (Option·some-ne-none _ (sym (ap refusalIn h) ∙ g));
   }
 
 -- Check 1

@@ -1,4 +1,5 @@
 pub mod Tables
+pub mod Zeroed
 pub mod Start
 pub mod Runs
 pub mod Noted

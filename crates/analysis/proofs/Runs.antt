@@ -5,6 +5,7 @@ use mathlib.Core.Option.{Option, none, some}
 use mathlib.Core.Path.{_≡_, refl, ap, sym, subst, _∙_}
 use lib.ListN.{length, replicate}
 use Rattle.table.specs.Layout.{layout, zeros-layout}
+use Rattle.tree.specs.Record.{records}
 use Rattle.tree.specs.Tree.{Trees}
 use Rattle.tree.specs.Check.{Refusal}
 use Rattle.tree.specs.Accepted.{Accepted}
@@ -20,11 +21,11 @@ use Rattle.work.specs.Works.{Works, Beside}
 use Rattle.work.specs.Tied.{Raw, raw, Tied}
 use Rattle.work.specs.declared.Pass.{Pass}
 use Rattle.visits.specs.Runs.{anew, again, Ready, Runs}
-use Rattle.analysis.proofs.Start.{fresh-works, again-works}
+use Rattle.analysis.proofs.Start.{fresh-works, again-works, run-rested}
 use Rattle.analysis.specs.Answer.{tables, refusalIn, outcomeOf}
 use Rattle.analysis.specs.declared.Answer.{Answer}
 use Rattle.analysis.specs.declared.Answer.the-variants as answer
-use Rattle.analysis.specs.Steps.{firstIn, cleared, namesCleared, Blank, Begins, Ends}
+use Rattle.analysis.specs.Steps.{firstIn, cleared, namesCleared, Rested, Blank, Begins, Ends}
 
 -- blank tables hold no facts
 no-rows : (n : ℕ) → layout putRow (replicate n rows.Blank) ≡ replicate (rowWidth * n) 0
@@ -88,12 +89,16 @@ module _ {classes rs F C A w : List ℕ} (b : Begins classes rs (tables F C A w)
     unfolding fresh
     first-tied = r .is (first-ready e)
 
+    pub first-rested : Rested (length (records rs)) w′
+    first-rested = run-rested classes noFacts (b .accepted) (r .is (first-ready e) .works)
+
     pub fresh-ends : (a : Answer) → refusalIn a ≡ firstIn q → Ends freshOutcome classes rs (outcomeOf a F′ C′ A′ w′)
     unfolding freshOutcome
     fresh-ends a g = record {
       sound = λ us k.
           let t = tied-as fresh us k first-tied in
           rw (g ∙ refused-as (t .works)) (tied-outcome (refusedFirst (fresh classes us .noted)) t);
+      rest = first-rested;
     }
 
     -- a refusal of the first run ends the second
@@ -104,6 +109,7 @@ module _ {classes rs F C A w : List ℕ} (b : Begins classes rs (tables F C A w)
       sound = λ us k.
           let t = tied-as fresh us k first-tied in
           rw (← (g ∙ refused-as (t .works)), h);
+      rest = first-rested;
     }
 
     module _ {a : Answer} (h : a ≡ answer.Accepted) (g : refusalIn a ≡ firstIn q) where
@@ -129,4 +135,5 @@ module _ {classes rs F C A w : List ℕ} (b : Begins classes rs (tables F C A w)
         sound = λ us k.
             let u = tied-as settled us k (r′ .is (second-ready e′ z)) in
             rw (g′ ∙ second-as (u .works), unnoted us k) (tied-outcome (settled classes us .noted .second) u);
+        rest = run-rested classes (fresh classes (b .ts) .facts) (b .accepted) (r′ .is (second-ready e′ z) .works);
       }

@@ -1,26 +1,35 @@
--- What a run starts with: a work table whose entries are zero, and whose binders are the captured entries'.
-use Prim.Native.Nat.{ℕ, _+_, _*_, _≤_}
+-- What a run starts with: a work table whose entries are zero, and whose binders are the captured entries'; and what it leaves of the entries.
+use Prim.Native.Nat.{ℕ, _+_, _-_, _*_, _≤_}
 use mathlib.Core.List.{List}
-use mathlib.Core.Path.{_≡_, refl, sym, _∙_}
+use mathlib.Core.Path.{_≡_, refl, ap, sym, _∙_}
 use native.Mathlib.Omega.{arith}
-use lib.ListN.{length, replicate, length-replicate}
-use Rattle.table.specs.Layout.{layout, zeros-layout}
+use lib.ListN.{length, getD, drop, replicate, length-replicate, length-drop}
+use lib.Seq.{getD-drop, ext-getD}
+use Rattle.table.specs.Layout.{layout, drop-layout, zeros-layout}
 use Rattle.table.specs.Region.{region}
 use Rattle.table.specs.RegionLaws.{Elsewhere, replaced-region, replaced-elsewhere}
+use Rattle.tree.specs.Record.{records}
+use Rattle.tree.specs.RecordLaws.{records-numbers}
+use Rattle.tree.specs.Tree.{Trees, flats, sizes}
+use Rattle.tree.specs.TreeLaws.{length-flats}
+use Rattle.tree.specs.Accepted.{Accepted}
 use Rattle.scope_map.specs.ScopeMap.{new}
 use Rattle.scope_map.specs.MapLaws.{mapValues, map-new}
 use Rattle.scope_map.specs.Hints.{rowsLength, hintsLength, mapLength}
 use Rattle.scope_map.specs.Held.{Held}
 use Rattle.scope_map.specs.HeldLaws.{held-new}
 use Rattle.semantic.specs.Rows.{noItem}
-use Rattle.pass.specs.State.{Facts, State, noEntry}
-use Rattle.pass.specs.Run.{rowsMost, itemsMost, noFacts, start}
+use Rattle.pass.specs.State.{Entry, Facts, State, noEntry, entryAt}
+use Rattle.pass.specs.Run.{rowsMost, itemsMost, noFacts, start, run}
+use Rattle.pass.specs.Laws.Sound.Lists.{same-each}
+use Rattle.pass.specs.Laws.Sound.Runs.{run-owned}
 use Rattle.work.specs.Coded.{entryWidth, putCoded, putEntryRow, entry-long, putBinder}
 use Rattle.work.specs.Works.{workLong, scopeLength, entriesFirst, entriesLength, capturesFirst, capturesLength, bindersFirst, bindersLength, recordAt, rowOf, TakenIn, Works}
-use Rattle.work.specs.WorksLaws.{part-length, captured-top, arguments-top}
+use Rattle.work.specs.WorksLaws.{part-length, entries-many, captured-top, arguments-top}
 use Rattle.work.specs.Passes.{passNew}
 use Rattle.work.specs.declared.Pass.{Pass}
-use Rattle.analysis.specs.Steps.{zeroed, namesCleared, Emptied}
+use Rattle.analysis.specs.Steps.{zeroed, namesCleared, Rested, Emptied}
+use Rattle.analysis.proofs.Zeroed.{last-region, zeroed-further, zeroed-both}
 
 new-held : {A : Type 0} (f : A → ℕ) (t : List ℕ) → mapLength ≤ length t → Held (record { depth = 1; length = 0 }) t (mapValues f new)
 new-held f t h = rw (map-new f) (held-new t h)
@@ -99,3 +108,58 @@ pub again-works : {p : Pass} {w : List ℕ} {s : State} → Works p w s
 again-works {w = w} {s} k =
     let c = cleared-names w (k .long) in
     rw (captured-top k, arguments-top k) (start-works (s .facts) (namesCleared w) (c .long) (c .entries) (c .binders ∙ k .binders))
+
+-- What a run leaves of the entries: those of the tree's records alone
+
+blank-rest : (l : List Entry) (n : ℕ) → ((i : ℕ) → n ≤ i → getD l i noEntry ≡ noEntry) → drop n l ≡ replicate (length l - n) noEntry
+blank-rest l n z =
+    ext-getD noEntry (drop n l) (replicate (length l - n) noEntry) (length-drop n l ∙ sym (length-replicate {A = Entry} (length l - n) noEntry))
+    (λ i h. getD-drop n l i noEntry ∙ z (n + i) (omega arith) ∙ sym (same-each (λ (e : Entry). e ≡ noEntry) noEntry (length l - n) refl i))
+
+works-rested : {p : Pass} {w : List ℕ} {s : State} (n : ℕ) → Works p w s → n ≤ rowsMost → ((i : ℕ) → n ≤ i → entryAt s i ≡ noEntry) → Rested n w
+works-rested {w = w} {s} n k h z =
+    let l = s .scope .entries in
+    let m = entriesLength - entryWidth * n in
+    let whole : entryWidth * n + m ≡ entriesLength = omega arith in
+    let many : entryWidth * (length l - n) ≡ m = omega (arith, entries-many k) in
+    record {
+      few = h;
+      tail = last-region w entriesFirst (entryWidth * n) m (omega (arith, k .long))
+          ∙ ap (drop (entryWidth * n)) (ap (region w entriesFirst) whole ∙ k .entries)
+          ∙ drop-layout entryWidth putEntryRow entry-long l n
+          ∙ ap (layout putEntryRow) (blank-rest l n z)
+          ∙ no-entries (length l - n)
+          ∙ ap (λ (j : ℕ). replicate j 0) many;
+    }
+
+pub run-rested : (classes : List ℕ) (f : Facts) {N : ℕ} {rs : List ℕ} {ts : Trees} {p : Pass} {w : List ℕ} → Accepted N rs ts
+    → Works p w (run classes ts f) → Rested (length (records rs)) w
+run-rested classes f {rs = rs} {ts} a k =
+    let many : length (records rs) ≡ sizes ts = ap length (ap records (a .flat) ∙ records-numbers (flats ts)) ∙ length-flats ts in
+    works-rested (length (records rs)) k (omega (arith, a .few)) (λ i h. run-owned classes a f i (omega arith))
+
+-- all entries are made zero where those of n records are
+pub names-cleared : (w : List ℕ) (n : ℕ) → length w ≡ workLong → Rested n w
+    → zeroed (capturesFirst + rowsLength) hintsLength (zeroed entriesFirst (entryWidth * n) (zeroed rowsLength hintsLength w)) ≡ namesCleared w
+names-cleared w n l r =
+    let u = zeroed rowsLength hintsLength w in
+    let m = entriesLength - entryWidth * n in
+    let whole : entryWidth * n + m ≡ entriesLength = omega (arith, r .few) in
+    let i = zeroed-elsewhere rowsLength hintsLength w (omega (arith, l)) in
+    ap (zeroed (capturesFirst + rowsLength) hintsLength)
+    (zeroed-further u entriesFirst (entryWidth * n) m (i .after (entriesFirst + entryWidth * n) m (omega arith) ∙ r .tail)
+    ∙ ap (λ (j : ℕ). zeroed entriesFirst j u) whole)
+
+pub work-cleared : (w : List ℕ) (n : ℕ) → length w ≡ workLong → Rested n w
+    → zeroed capturesFirst (workLong - capturesFirst) (zeroed 0 (entriesFirst + entryWidth * n) w) ≡ replicate workLong 0
+work-cleared w n l r =
+    let m = entriesLength - entryWidth * n in
+    let whole : entriesFirst + entryWidth * n + m ≡ capturesFirst = omega (arith, r .few) in
+    let here : 0 + (entriesFirst + entryWidth * n) ≡ entriesFirst + entryWidth * n = omega arith in
+    ap (zeroed capturesFirst (workLong - capturesFirst))
+    (zeroed-further w 0 (entriesFirst + entryWidth * n) m (ap (λ (j : ℕ). region w j m) here ∙ r .tail) ∙ ap (λ (j : ℕ). zeroed 0 j w) whole)
+    ∙ zeroed-both w capturesFirst (workLong - capturesFirst) (omega (arith, l))
+
+-- of all records there may be, nothing is left
+pub all-rested : (w : List ℕ) → Rested rowsMost w
+all-rested w = record { few = omega arith; tail = refl }

@@ -2,11 +2,9 @@
 use Prim.Native.Nat.{ℕ}
 use mathlib.Core.Bool.{true, and-eq-true-iff}
 use mathlib.Core.List.{List}
-use mathlib.Core.Option.{none, some}
-use mathlib.Core.Path.{_≡_, refl, ap, sym, subst, _∙_}
-use native.Mathlib.Omega.{arith}
+use mathlib.Core.Path.{_≡_, ap, sym, subst, _∙_}
 use borrow.Author.Tests.{eqb-true, eq-eqb}
-use lib.ListN.{length, replicate, length-replicate}
+use lib.ListN.{length, replicate}
 use lib.Dec.{eqb}
 use Rattle.pass.specs.Run.{Tables, factsLength, itemsLength, workLength, lengthsFit, zeros}
 use Rattle.work.specs.Works.{bindersFirst, bindersLength}
@@ -39,15 +37,6 @@ long-fits {t} l =
       eq-eqb (length (t .arguments)) itemsLength (l .arguments),
       eq-eqb (length (t .work)) workLength (l .work),
     )
-
-zeros-long : Long zeros
-unfolding zeros
-zeros-long = record {
-  facts = length-replicate {A = ℕ} factsLength 0;
-  captured = length-replicate {A = ℕ} itemsLength 0;
-  arguments = length-replicate {A = ℕ} itemsLength 0;
-  work = length-replicate {A = ℕ} workLength 0;
-}
 
 all : {m k : ℕ} {v : List ℕ} → v ≡ replicate m 0 → m ≡ k → v ≡ replicate k 0
 all g e = g ∙ ap (λ (i : ℕ). replicate i 0) e
@@ -82,9 +71,9 @@ module _ (F C A w : List ℕ) (F′ C′ A′ w′ : List ℕ) where
 
 -- What an answer leaves
 
-pub left-facts : (F C A w : List ℕ) {w′ : List ℕ} {a : Answer} → lengthsFit (tables F C A w) ≡ true → a ≡ answer.Accepted → w′ ≡ replicate (length w) 0
+pub left-facts : (F C A w : List ℕ) {w′ : List ℕ} {a : Answer} → a ≡ answer.Accepted → w′ ≡ replicate workLength 0
     → tables F C A w′ ≡ left (refusalIn a) (tables F C A w)
-left-facts F C A w h e z = rw (e, z, long (tables F C A w) h .work)
+left-facts F C A w e z = rw (e, z)
 
 pub left-zeros : (t : Tables) {u : Tables} {a : Answer} {m i : ℕ} → a ≡ answer.Refused m i → u ≡ zeros → u ≡ left (refusalIn a) t
 left-zeros t e z = rw e z

@@ -1,17 +1,18 @@
 -- What the steps of an operation promise: each of every tree that the records are.
-use Prim.Native.Nat.{ℕ, _+_}
+use Prim.Native.Nat.{ℕ, _+_, _-_, _*_, _≤_}
 use mathlib.Core.Bool.{Bool, true, false}
 use mathlib.Core.List.{List}
 use mathlib.Core.Option.{Option, none, some}
 use mathlib.Core.Path.{_≡_}
 use lib.ListN.{length, replicate}
 use Rattle.table.specs.Region.{region, replaced}
+use Rattle.tree.specs.Record.{records}
 use Rattle.tree.specs.Tree.{Trees}
 use Rattle.tree.specs.Check.{Refusal, refusal}
 use Rattle.tree.specs.Accepted.{Accepted}
 use Rattle.scope_map.specs.Hints.{rowsLength, hintsLength}
-use Rattle.pass.specs.Run.{Tables, Outcome, factsLength, itemsLength, workLength, zeros, freshOutcome, settledOutcome, nineIn, tenIn}
-use Rattle.work.specs.Coded.{notedOf}
+use Rattle.pass.specs.Run.{rowsMost, Tables, Outcome, factsLength, itemsLength, workLength, zeros, freshOutcome, settledOutcome, nineIn, tenIn}
+use Rattle.work.specs.Coded.{notedOf, entryWidth}
 use Rattle.work.specs.Works.{entriesFirst, entriesLength, capturesFirst, bindersFirst, bindersLength}
 use Rattle.work.specs.declared.Pass.{Pass}
 
@@ -39,6 +40,11 @@ zeroed a n w = replaced w a n (replicate n 0)
 abbrev pub namesCleared : List ℕ → List ℕ
 namesCleared w = zeroed (capturesFirst + rowsLength) hintsLength (zeroed entriesFirst entriesLength (zeroed rowsLength hintsLength w))
 
+-- the entries from record n on are zero
+pub record Rested (n : ℕ) (w : List ℕ) : Type 0 where
+  pub few : n ≤ rowsMost
+  pub tail : region w (entriesFirst + entryWidth * n) (entriesLength - entryWidth * n) ≡ replicate (entriesLength - entryWidth * n) 0
+
 -- a work table with no entries and no binders
 pub record Emptied (w : List ℕ) : Type 0 where
   pub long : length w ≡ workLength
@@ -61,8 +67,10 @@ pub record Begins (classes rs : List ℕ) (t : Tables) : Type 0 where
 -- what is left of o is the outcome for the trees that the records are
 pub record Ends (outcomeOf : List ℕ → Trees → Outcome) (classes rs : List ℕ) (o : Outcome) : Type 0 where
   pub sound : (ts : Trees) → Accepted (length classes) rs ts → cleared o ≡ outcomeOf classes ts
+  pub rest : Rested (length (records rs)) (o .tables .work)
 
 -- the same of any records: the checks say whether they are trees
 pub record Checks (outcomeOf : List ℕ → Trees → Outcome) (classes rs : List ℕ) (o : Outcome) : Type 0 where
   pub unsound : (r : Refusal) → refusal (length classes) rs ≡ some r → cleared o ≡ record { refused = some r; tables = zeros }
   pub sound : (ts : Trees) → Accepted (length classes) rs ts → cleared o ≡ outcomeOf classes ts
+  pub rest : o .refused ≡ none → Rested (length (records rs)) (o .tables .work)

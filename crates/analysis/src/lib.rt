@@ -12,16 +12,22 @@ use work::WORK;
 ghost use mathlib.Core.Path.{_≡_};
 ghost use mathlib.Core.Bool.{true};
 ghost use Prim.Native.Nat.{_-_, _≤_};
-ghost use lib.ListN.{length};
+ghost use mathlib.Core.Option.{none};
+ghost use lib.ListN.{length, replicate};
 ghost use Rattle.tree.specs.Answer.{refusalOf};
 ghost use Rattle.pass.specs.Run.{Fresh, Settled, Answers, workLength, zeros, lengthsFit, fitting, freshOutcome, settledOutcome};
 ghost use Rattle.work.specs.Coded.{secondOf};
 ghost use Rattle.analysis.specs.Answer.{tables, refusalIn, outcomeOf};
-ghost use Rattle.analysis.specs.Steps.{firstIn, outcomeBy, left, zeroed, namesCleared, Blank, Begins, Ends, Checks};
+ghost use Rattle.analysis.specs.Steps.{firstIn, outcomeBy, left, zeroed, namesCleared, Rested, Blank, Begins, Ends, Checks};
 
 pub const FACTS: usize = 81920;
 
 pub const ITEMS: usize = 53248;
+
+// Room for so many records' entries, and the numbers of one.
+const RECORDS: usize = 4096;
+
+const ENTRY: usize = 5;
 
 // What an operation answers: that the tables hold the facts, or a refusal's number and record.
 pub enum Answer {
@@ -105,24 +111,6 @@ fn clear_all(facts: &mut [u32], captured: &mut [u32], arguments: &mut [u32], wor
     table::clear(work);
 }
 
-// The work table holds no answer, and a refusal leaves none.
-fn clear_after(
-    a: Answer,
-    facts: &mut [u32],
-    captured: &mut [u32],
-    arguments: &mut [u32],
-    work: &mut [u32],
-)
-    requires { ⌜ lengthsFit (tables (now facts) (now captured) (now arguments) (now work)) ≡ true ⌝ }
-    ensures { λ _. ⌜ tables (now (facts .exit)) (now (captured .exit)) (now (arguments .exit)) (now (work .exit)) ≡ left (refusalIn a) (tables (now (facts .entry)) (now (captured .entry)) (now (arguments .entry)) (now (work .entry))) ⌝ }
-{
-    if let Answer::Accepted = a {
-        table::clear(work);
-    } else {
-        clear_all(facts, captured, arguments, work);
-    }
-}
-
 // The numbers from `start` up to `end` become zeros.
 fn clear_part(work: &mut [u32], start: usize, end: usize)
     requires { ⌜ (start ≤ end) × (end ≤ length (now work)) ⌝ }
@@ -131,13 +119,42 @@ fn clear_part(work: &mut [u32], start: usize, end: usize)
     table::clear(&mut work[start..end]);
 }
 
-// What a run starts without: the hints of both maps, and the entries. Rows and captures of an empty map are not looked at.
-fn clear_names(work: &mut [u32])
-    requires { ⌜ length (now work) ≡ workLength ⌝ }
+// The work table with n records' entries, all of it. The entries of other records are zero already.
+fn clear_work(work: &mut [u32], n: usize)
+    requires { ⌜ (length (now work) ≡ workLength) × Rested n (now work) ⌝ }
+    ensures { λ _. ⌜ now (work .exit) ≡ replicate workLength 0 ⌝ }
+{
+    clear_part(work, 0, ENTRIES + ENTRY * n);
+    clear_part(work, CAPTURES, WORK);
+}
+
+// The work table holds no answer, and a refusal leaves none. There are n records.
+fn clear_after(
+    a: Answer,
+    n: usize,
+    facts: &mut [u32],
+    captured: &mut [u32],
+    arguments: &mut [u32],
+    work: &mut [u32],
+)
+    requires { ⌜ (lengthsFit (tables (now facts) (now captured) (now arguments) (now work)) ≡ true) × (refusalIn a ≡ none → Rested n (now work)) ⌝ }
+    ensures { λ _. ⌜ tables (now (facts .exit)) (now (captured .exit)) (now (arguments .exit)) (now (work .exit)) ≡ left (refusalIn a) (tables (now (facts .entry)) (now (captured .entry)) (now (arguments .entry)) (now (work .entry))) ⌝ }
+{
+    if let Answer::Accepted = a {
+        clear_work(work, n);
+    } else {
+        clear_all(facts, captured, arguments, work);
+    }
+}
+
+// What a run starts without: the hints of both maps, and the entries of n records. Those of other records are zero already. Rows and captures of
+// an empty map are not looked at.
+fn clear_names(work: &mut [u32], n: usize)
+    requires { ⌜ (length (now work) ≡ workLength) × Rested n (now work) ⌝ }
     ensures { λ _. ⌜ now (work .exit) ≡ namesCleared (now (work .entry)) ⌝ }
 {
     clear_part(work, SCOPE_HINTS, ENTRIES);
-    clear_part(work, ENTRIES, CAPTURES);
+    clear_part(work, ENTRIES, ENTRIES + ENTRY * n);
     clear_part(work, CAPTURES_HINTS, TAKEN);
 }
 
@@ -149,7 +166,7 @@ fn clear_start(facts: &mut [u32], captured: &mut [u32], arguments: &mut [u32], w
     table::clear(facts);
     table::clear(captured);
     table::clear(arguments);
-    clear_names(work);
+    clear_names(work, RECORDS);
     clear_part(work, BINDERS, WORK);
 }
 
@@ -200,7 +217,7 @@ fn run_twice(
     let Answer::Accepted = a else {
         return a;
     };
-    clear_names(work);
+    clear_names(work, tree::record::len(records));
     let q = run_with_scope(
         classes,
         records,
@@ -251,7 +268,14 @@ fn run(
     }
     clear_start(facts, captured, arguments, work);
     let a = run_checked(records, classes, twice, facts, captured, arguments, work);
-    clear_after(a, facts, captured, arguments, work);
+    clear_after(
+        a,
+        tree::record::len(records),
+        facts,
+        captured,
+        arguments,
+        work,
+    );
     a
 }
 

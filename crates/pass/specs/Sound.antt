@@ -14,7 +14,7 @@ use Rattle.semantic.specs.Rows.{Row, Blank, Variable, Function, CallSite, Let, 
 use Rattle.semantic.specs.declared.Entries.{Entries}
 use Rattle.semantic.specs.declared.FunctionInformation.{FunctionInformation}
 use Rattle.semantic.specs.declared.ScopeInfo.{ScopeInfo}
-use Rattle.pass.specs.State.{Entry, State, withContext, itemAt, infoAt, rowAt, entryAt, itemOf, depth}
+use Rattle.pass.specs.State.{Entry, State, noEntry, withContext, itemAt, infoAt, rowAt, entryAt, itemOf, depth}
 use Rattle.pass.specs.Read.{enterTopLevelValue}
 use Rattle.pass.specs.Lists.{capturedMost}
 use Rattle.pass.specs.Lambda.{functionIn, enterLambda, enterLet}
@@ -65,6 +65,8 @@ pub record Each (Q : Property) (F : ℕ → Type 0) (s : State) : Type 0 where
   pub rowUses : (i : ℕ) → F (usesIn (rowAt s i))
   pub itemUses : (i : ℕ) → F (infoAt s i .«usage_count»)
   pub captureUses : All (λ c. F (c .value .usageCount)) (s .captures .live)
+  -- entries are made for binders alone
+  pub owned : (i : ℕ) → ((b : Ident) → Q .ident b → b .at ≡ i → ⊥) → entryAt s i ≡ noEntry
 
 -- Identifiers have P, and the rows of captures lie inside the table
 

@@ -4,7 +4,7 @@ use mathlib.Core.List.{List, [], _∷_, _++_, append-assoc}
 use mathlib.Core.Path.{_≡_, refl, ap, sym, _∙_}
 use native.Mathlib.Omega.{arith}
 use lib.ListN.{length, getD, set, drop, take, replicate, length-append, replicate-append-replicate, List·getD-append}
-use lib.Seq.{sets, sets-eq, getD-append-add, set-append-left, drop-at, take-at, drop-append-add}
+use lib.Seq.{sets, sets-eq, getD-append-add, set-append-left, drop-at, take-at, drop-append-add, drop-nil}
 
 unfoldable pub layout : {A : Type 0} → (A → List ℕ) → List A → List ℕ
 layout put [] = []
@@ -78,6 +78,15 @@ module _ {A : Type 0} (W : ℕ) (put : A → List ℕ) (long : (a : A) → lengt
       ap (λ (k : ℕ). sets (put a ++ layout put l) k (put b)) z
       ∙ sets-append-add (put b) (put a) (layout put l) (W * i)
       ∙ ap (λ (r : List ℕ). put a ++ r) (sets-layout l i b (omega arith))
+
+  -- the table from row i on
+  pub drop-layout : (l : List A) (i : ℕ) → drop (W * i) (layout put l) ≡ layout put (drop i l)
+  unfolding layout
+  drop-layout l zero = let z : W * 0 ≡ 0 = omega arith in ap (λ (k : ℕ). drop k (layout put l)) z
+  drop-layout [] (suc i) = drop-nil (W * suc i)
+  drop-layout (a ∷ l) (suc i) =
+      let z : W * suc i ≡ length (put a) + W * i = omega (arith, long a) in
+      ap (λ (k : ℕ). drop k (put a ++ layout put l)) z ∙ drop-append-add (put a) (layout put l) (W * i) ∙ drop-layout l i
 
   -- a table of zeros is a table of blank rows
   pub zeros-layout : (b : A) → put b ≡ replicate W 0 → (n : ℕ) → layout put (replicate n b) ≡ replicate (W * n) 0

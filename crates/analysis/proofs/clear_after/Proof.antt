@@ -1,5 +1,7 @@
 -- `clear_after`: facts stay where nothing is refused.
-use Rattle.analysis.proofs.Tables.{left-facts, left-zeros}
+use mathlib.Core.Path.{ap}
+use Rattle.analysis.specs.Answer.{refusalIn}
+use Rattle.analysis.proofs.Tables.{long, left-facts, left-zeros}
 use borrow.Author.Needs.{needs}
 use Rattle.analysis.proofs.clear_after.Statement.{statement}
 use Rattle.analysis.proofs.clear_after.Tie as tie
@@ -7,8 +9,11 @@ use Rattle.analysis.proofs.clear_after.Tie as tie
 enum-told : tie.Need-enum-told
 enum-told c = search needs
 
-clear-requires : tie.Need-clear-requires
-clear-requires c κs = search needs
+clear-work-requires : tie.Need-clear-work-requires
+clear-work-requires c κs =
+    let e = c .before in
+    let o = e .before .before .before .before .before .before in
+    (long _ (o .pre .0) .work, o .pre .1 (ap refusalIn (e .enum-told .given .1)))
 
 enum-told-2 : tie.Need-enum-told-2
 enum-told-2 c = search needs
@@ -25,7 +30,7 @@ returns c =
     let e = k .before .before in
     let o = e .before .before .before .before .before .before in
     let a = o .args in
-    left-facts (a .facts .now) (a .captured .now) (a .arguments .now) (a .work .now) (o .pre) (e .enum-told .given .1) (k .clear .ensures)
+    left-facts (a .facts .now) (a .captured .now) (a .arguments .now) (a .work .now) (e .enum-told .given .1) (k .clear-work .ensures)
 
 same-length-2 : tie.Need-same-length-2
 same-length-2 c = search needs
@@ -49,7 +54,7 @@ clear-after-spec =
     tie.close
     (tie.spec
     enum-told
-    clear-requires
+    clear-work-requires
     enum-told-2
     clear-all-requires
     same-length

@@ -1,14 +1,24 @@
 -- `clear_names`: the hints and the entries become zeros.
-use mathlib.Core.Path.{ap, _∙_}
+use mathlib.Core.Path.{_≡_, ap, _∙_}
+use native.Mathlib.Omega.{arith}
+use Prim.Native.Nat.{ℕ, _+_, _-_, _*_}
 use Rattle.scope_map.specs.Hints.{rowsLength, hintsLength}
-use Rattle.work.specs.Works.{entriesFirst, entriesLength, capturesFirst}
+use Rattle.work.specs.Works.{entriesFirst}
+use Rattle.work.specs.Coded.{entryWidth}
 use Rattle.analysis.specs.Steps.{zeroed}
+use Rattle.analysis.proofs.Start.{names-cleared}
 use borrow.Author.Needs.{needs}
 use Rattle.analysis.proofs.clear_names.Statement.{statement}
 use Rattle.analysis.proofs.clear_names.Tie as tie
 
 clear-part-requires : tie.Need-clear-part-requires
 clear-part-requires c κs = search needs
+
+mul-clear-part : tie.Need-mul-clear-part
+mul-clear-part c = search needs
+
+add-clear-part : tie.Need-add-clear-part
+add-clear-part c = search needs
 
 clear-part-requires-2 : tie.Need-clear-part-requires-2
 clear-part-requires-2 c κs = search needs
@@ -24,10 +34,18 @@ returns c =
     let k3 = c .before .before in
     let k2 = k3 .before .before .before .before in
     let k1 = k2 .before .before .before .before in
+    let o = k1 .before .before .before in
+    let n = o .args .n in
+    let many : entriesFirst + entryWidth * n - entriesFirst ≡ entryWidth * n = omega arith in
+    let w = o .args .work .now in
     k3 .clear-part3 .ensures
-    ∙ ap (zeroed 46080 hintsLength) (k2 .clear-part2 .ensures ∙ ap (zeroed entriesFirst entriesLength) (k1 .clear-part .ensures))
+    ∙ ap (zeroed 46080 hintsLength)
+    (k2 .clear-part2 .ensures
+    ∙ ap (zeroed entriesFirst (entriesFirst + entryWidth * n - entriesFirst)) (k1 .clear-part .ensures)
+    ∙ ap (λ (j : ℕ). zeroed entriesFirst j (zeroed rowsLength hintsLength w)) many)
+    ∙ names-cleared w n (o .pre .0) (o .pre .1)
 
 pub clear-names-spec : {M : Type 1} → statement M
 clear-names-spec =
     tie.close
-    (tie.spec clear-part-requires clear-part-requires-2 clear-part-requires-3 same-length returns)
+    (tie.spec clear-part-requires mul-clear-part add-clear-part clear-part-requires-2 clear-part-requires-3 same-length returns)

@@ -1,5 +1,6 @@
 -- `clear_start`: tables of their set lengths become blank.
 use native.Mathlib.Omega.{arith}
+use Rattle.analysis.proofs.Start.{all-rested}
 use Rattle.analysis.proofs.Tables.{long, all-blank}
 use borrow.Author.Needs.{needs}
 use Rattle.analysis.proofs.clear_start.Statement.{statement}
@@ -17,7 +18,7 @@ clear-requires-3 c κs = search needs
 clear-names-requires : tie.Need-clear-names-requires
 clear-names-requires c κs =
     let o = c .before .before .before .before .before .before .before .before .before .before .before .before .before .before .before .before .before in
-    long _ (o .pre) .work
+    (long _ (o .pre) .work, all-rested _)
 
 clear-part-requires : tie.Need-clear-part-requires
 clear-part-requires c κs =

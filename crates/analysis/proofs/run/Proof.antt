@@ -33,18 +33,23 @@ clear-start-requires c κs =
 run-checked-requires : tie.Need-run-checked-requires
 run-checked-requires c κs = search needs
 
+len-requires : tie.Need-len-requires
+len-requires c κs = search needs
+
 clear-after-requires : tie.Need-clear-after-requires
 clear-after-requires c κs =
-    let r = c .before .before .before .before .before .before .before .before .before .before .before .before in
+    let r = c .before .before .before .before .before .before .before .before .before .before .before .before .before in
     let k = r .before .before .before .before .before .before .before .before .before .before .before .before .before in
     let i = k .before .before .before .before .before in
-    let a = i .before .before .before .before .before .before .before .before .before .before .before .before .args in
-    still-fits (a .facts .now) (a .captured .now) (a .arguments .now) (a .work .now) _ _ _ _
-    (fit-lengths _ _ (sym (i .before .fit .ensures) ∙ not-false _ (i .if1 .left)))
-    (r .run-checked .kept .1 .1 .1 .0 ∙ k .clear-start .kept .0)
-    (r .run-checked .kept .1 .1 .1 .1 .0 ∙ k .clear-start .kept .1 .0)
-    (r .run-checked .kept .1 .1 .1 .1 .1 .0 ∙ k .clear-start .kept .1 .1 .0)
-    (r .run-checked .kept .1 .1 .1 .1 .1 .1 .0 ∙ k .clear-start .kept .1 .1 .1 .0)
+    let a = i .before .before .before .before .before .before .before .before .before .before .before .before .args in (
+      still-fits (a .facts .now) (a .captured .now) (a .arguments .now) (a .work .now) _ _ _ _
+          (fit-lengths _ _ (sym (i .before .fit .ensures) ∙ not-false _ (i .if1 .left)))
+          (r .run-checked .kept .1 .1 .1 .0 ∙ k .clear-start .kept .0)
+          (r .run-checked .kept .1 .1 .1 .1 .0 ∙ k .clear-start .kept .1 .0)
+          (r .run-checked .kept .1 .1 .1 .1 .1 .0 ∙ k .clear-start .kept .1 .1 .0)
+          (r .run-checked .kept .1 .1 .1 .1 .1 .1 .0 ∙ k .clear-start .kept .1 .1 .1 .0),
+      λ g. rw (c .before .before .before .before .len .ensures) (r .run-checked .ensures .rest g),
+    )
 
 same-length-5 : tie.Need-same-length-5
 same-length-5 c = search needs
@@ -61,7 +66,7 @@ same-length-8 c = search needs
 returns-2 : tie.Need-returns-2
 returns-2 c =
     let l = c .before .before .before .before .before .before .before .before in
-    let r = l .before .before .before .before .before .before .before .before .before .before .before .before .before in
+    let r = l .before .before .before .before .before .before .before .before .before .before .before .before .before .before in
     let i = r .before .before .before .before .before .before .before .before .before .before .before .before .before .before .before .before .before .before in
     fit-answers (sym (i .before .fit .ensures) ∙ not-false _ (i .if1 .left)) (r .run-checked .ensures) (l .clear-after .ensures)
 
@@ -77,6 +82,7 @@ run-spec =
     returns
     clear-start-requires
     run-checked-requires
+    len-requires
     clear-after-requires
     same-length-5
     same-length-6

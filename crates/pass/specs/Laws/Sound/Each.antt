@@ -1,18 +1,20 @@
 -- The small changes of a state, each with what must hold of what it writes.
 use Prim.Native.Nat.{ℕ}
 use mathlib.Core.Bool.{Bool, true, false, cond}
-use mathlib.Core.Option.{some}
-use mathlib.Core.Path.{_≡_}
-use lib.ListN.{getD}
+use mathlib.Core.Option.{Option, none, some}
+use mathlib.Core.Path.{_≡_, sym, _∙_}
+use native.Mathlib.Decide.{ℕ-discrete}
+use lib.ListN.{getD, set}
+use lib.Seq.{getD-set-other}
 use Rattle.tree.specs.Tree.{Ident}
-use Rattle.scope_map.specs.ScopeMap.{ScopeMap}
+use Rattle.scope_map.specs.ScopeMap.{ScopeMap, Live, get}
 use Rattle.semantic.specs.Rows.{Row, Blank, Variable, Function, CallSite, Let, Item, noItem}
 use Rattle.semantic.specs.declared.SemanticInformation.{SemanticInformation}
 use Rattle.tree.specs.Accepted.{All}
-use Rattle.pass.specs.State.{Entry, Facts, Capture, Noted, State, noEntry, withFacts, withNames, withCaptures, withContext, withNoted, itemAt, rowAt, insert, amended, amend, putEntry}
+use Rattle.pass.specs.State.{Entry, Facts, Capture, Noted, State, noEntry, withFacts, withNames, withCaptures, withContext, withNoted, binderIn, newest, itemAt, rowAt, insert, amended, amend, putEntry}
 use Rattle.pass.specs.Sound.{Property, usesIn, Each, IsNamed}
 use Rattle.pass.specs.Laws.All.{all-map}
-use Rattle.pass.specs.Laws.Sound.Lists.{set-each, Values}
+use Rattle.pass.specs.Laws.Sound.Lists.{set-each, Maybe, Values, get-value}
 
 -- a captured entry with its count
 abbrev pub Fine : Property → (ℕ → Type 0) → Item → Type 0
@@ -26,6 +28,10 @@ amended-uses F G f z p (Variable v) q = p v q
 amended-uses F G f z p (Function v) q = z
 amended-uses F G f z p (CallSite v) q = z
 amended-uses F G f z p (Let v) q = z
+
+binder-held : (P : Ident → Type 0) (o : Option (Live Ident)) → Maybe (λ e. P (e .value)) o → Maybe P (binderIn o)
+binder-held P none p = tt
+binder-held P (some e) p = p
 
 module _ {Q : Property} {F : ℕ → Type 0} where
   -- by a test
@@ -45,6 +51,7 @@ module _ {Q : Property} {F : ℕ → Type 0} where
     rowUses = h .rowUses;
     itemUses = h .itemUses;
     captureUses = h .captureUses;
+    owned = h .owned;
   }
 
   pub each-context : (c : ℕ) {s : State} → Each Q F s → Each Q F (withContext c s)
@@ -64,6 +71,7 @@ module _ {Q : Property} {F : ℕ → Type 0} where
     rowUses = h .rowUses;
     itemUses = h .itemUses;
     captureUses = h .captureUses;
+    owned = h .owned;
   }
 
   pub each-captures : (m : ScopeMap Capture) {s : State} → Values (λ c. Q .capture (c .row) (c .binder)) (m .live) → Values (λ c. F (c .usageCount)) (m .live)
@@ -78,6 +86,7 @@ module _ {Q : Property} {F : ℕ → Type 0} where
     rowUses = h .rowUses;
     itemUses = h .itemUses;
     captureUses = q;
+    owned = h .owned;
   }
 
   pub fine : {s : State} → Each Q F s → (i : ℕ) → Fine Q F (itemAt s i)
@@ -96,6 +105,7 @@ module _ {Q : Property} {F : ℕ → Type 0} where
     rowUses = rw e (h .rowUses);
     itemUses = λ i. p i .1;
     captureUses = h .captureUses;
+    owned = h .owned;
   }
 
   pub each-insert : (i : ℕ) (r : Row) {s : State} → F (usesIn r) → Each Q F s → Each Q F (insert i r s)
@@ -110,22 +120,33 @@ module _ {Q : Property} {F : ℕ → Type 0} where
     rowUses = set-each (λ (r : Row). F (usesIn r)) Blank (s .facts .rows) i r p (h .rowUses);
     itemUses = h .itemUses;
     captureUses = h .captureUses;
+    owned = h .owned;
   }
 
-  pub each-put : (i : ℕ) (e : Entry) {s : State} → ((y : Ident) → e .lastUsed ≡ some y → Q .ident y) → F (e .usageCount) → Each Q F s
-      → Each Q F (putEntry i e s)
+  -- the binder of a name's newest entry
+  pub newest-held : (x : ℕ) {s : State} → Each Q F s → Maybe (Q .ident) (newest s x)
+  newest-held x {s} h = binder-held (Q .ident) (get (s .scope .names) x) (get-value (Q .ident) (s .scope .names .live) x (h .binders))
+
+  -- a binder's entry
+  pub each-put : (b : Ident) (e : Entry) {s : State} → Q .ident b → ((y : Ident) → e .lastUsed ≡ some y → Q .ident y) → F (e .usageCount) → Each Q F s
+      → Each Q F (putEntry (b .at) e s)
   unfolding putEntry
-  each-put i e {s} p q h = record {
+  each-put b e {s} o p q h = record {
     named = h .named;
     binders = h .binders;
-    lasts = set-each (λ (d : Entry). (y : Ident) → d .lastUsed ≡ some y → Q .ident y) noEntry (s .scope .entries) i e p (h .lasts);
+    lasts = set-each (λ (d : Entry). (y : Ident) → d .lastUsed ≡ some y → Q .ident y) noEntry (s .scope .entries) (b .at) e p (h .lasts);
     items = h .items;
     taken = h .taken;
-    entryUses = set-each (λ (d : Entry). F (d .usageCount)) noEntry (s .scope .entries) i e q (h .entryUses);
+    entryUses = set-each (λ (d : Entry). F (d .usageCount)) noEntry (s .scope .entries) (b .at) e q (h .entryUses);
     rowUses = h .rowUses;
     itemUses = h .itemUses;
     captureUses = h .captureUses;
+    owned = λ i n. other i n (ℕ-discrete i (b .at));
   }
+    where
+      other : (i : ℕ) → ((b : Ident) → Q .ident b → b .at ≡ i → ⊥) → Dec (i ≡ b .at) → getD (set (s .scope .entries) (b .at) e) i noEntry ≡ noEntry
+      other i n (yes z) = absurd (n b o (sym z))
+      other i n (no z) = getD-set-other (s .scope .entries) (b .at) i e noEntry z ∙ h .owned i n
 
   -- what the fact at i counted before is G
   pub each-amend : (G : ℕ → Type 0) (f : SemanticInformation → SemanticInformation) (i : ℕ) {s : State} → F 0
@@ -149,4 +170,5 @@ each-more {Q} {F} {G} {s} w h = record {
   rowUses = λ i. w _ (h .rowUses i);
   itemUses = λ i. w _ (h .itemUses i);
   captureUses = all-map _ _ (λ c p. w _ p) (s .captures .live) (h .captureUses);
+  owned = h .owned;
 }

@@ -9,16 +9,16 @@ use lib.Dec.{ltb}
 use Rattle.tree.specs.Tree.{Ident}
 use Rattle.tree.specs.Check.{member}
 use Rattle.tree.specs.Accepted.{All}
-use Rattle.scope_map.specs.ScopeMap.{ScopeMap, Live, get}
+use Rattle.scope_map.specs.ScopeMap.{ScopeMap, Live}
 use Rattle.semantic.specs.Rows.{Item, noItem}
 use Rattle.semantic.specs.declared.Entries.{Entries}
 use Rattle.semantic.specs.declared.ScopeInfo.{ScopeInfo}
-use Rattle.pass.specs.State.{Capture, State, binderIn, entryAt, itemOf, newest}
+use Rattle.pass.specs.State.{Capture, State, entryAt, itemOf, newest}
 use Rattle.pass.specs.Lists.{addCaptured, capturedIn, capturedVars, itemId, insertById, sortById, listIn, nameOf, keep, find, keptItem, amendList}
 use Rattle.pass.specs.Sound.{Property, Lawful, Each}
 use Rattle.pass.specs.Laws.Order.{insert-all}
-use Rattle.pass.specs.Laws.Sound.Lists.{all-elements, all-take, all-drop, all-either, Maybe, get-value}
-use Rattle.pass.specs.Laws.Sound.Each.{Fine}
+use Rattle.pass.specs.Laws.Sound.Lists.{all-elements, all-take, all-drop, all-either, Maybe}
+use Rattle.pass.specs.Laws.Sound.Each.{Fine, newest-held}
 
 module _ (P : Item → Type 0) where
   pub sorted-items : (l : List Item) → All P l → All P (sortById l)
@@ -53,15 +53,7 @@ module _ (P : Item → Type 0) where
 
 -- the list of a lambda that ends
 
-binder-held : (P : Ident → Type 0) (o : Option (Live Ident)) → Maybe (λ e. P (e .value)) o → Maybe P (binderIn o)
-binder-held P none p = tt
-binder-held P (some e) p = p
-
 module _ {Q : Property} (lawful : Lawful Q) {F : ℕ → Type 0} where
-  -- the binder of a name's newest entry
-  pub newest-held : (x : ℕ) {s : State} → Each Q F s → Maybe (Q .ident) (newest s x)
-  newest-held x {s} h = binder-held (Q .ident) (get (s .scope .names) x) (get-value (Q .ident) (s .scope .names .live) x (h .binders))
-
   added-items : (b : Bool) {s : State} → Each Q F s → (o : Option Ident) (l : List Item) → Maybe (Q .ident) o → All (Fine Q F) l
       → All (Fine Q F) (addCaptured b s o l)
   added-items false h o l p q = q

@@ -18,8 +18,7 @@ use Rattle.pass.specs.Visit.{clearContext}
 use Rattle.pass.specs.Run.{rowsMost}
 use Rattle.pass.specs.Sound.{Lawful, Counting, known, Sound, OverRows, Listed, Inside}
 use Rattle.pass.specs.Laws.Sound.Lists.{maybe-some, get-value}
-use Rattle.pass.specs.Laws.Sound.Each.{each-context}
-use Rattle.pass.specs.Laws.Sound.Items.{newest-held}
+use Rattle.pass.specs.Laws.Sound.Each.{newest-held, each-context}
 use Rattle.pass.specs.Laws.Sound.Names.{each-value, each-mutate}
 use Rattle.pass.specs.Laws.Sound.Scopes.{each-enter-lambda, each-enter-let}
 use Rattle.pass.specs.Laws.Sound.Calls.{each-clear}
@@ -49,7 +48,7 @@ module _ {P : Ident → Type 0} (small : (x : Ident) → P x → x .at < rowsMos
   -- What is found
 
   pub sound-newest : (x : ℕ) (b : Ident) {s : State} → Sound P s → newest s x ≡ some b → P b
-  sound-newest x b h e = maybe-some P (newest-held knowing x h) e
+  sound-newest x b h e = maybe-some P (newest-held x h) e
 
   pub sound-capture : (x : ℕ) (c : Live Capture) {s : State} → Sound P s → get (s .captures) x ≡ some c
       → (c .value .row < capturedMost) × (c .value .binder .at < rowsMost)

@@ -19,7 +19,7 @@ use Rattle.pass.specs.Read.{isBuiltin, isRequired, isPrelude, markIf, no
 use Rattle.pass.specs.Sound.{Property, Counting, usesIn, Each, IsNamed}
 use Rattle.pass.specs.Laws.All.{all-map}
 use Rattle.pass.specs.Laws.Sound.Lists.{all-either, Maybe, Values, get-value, defined-values, defined-live}
-use Rattle.pass.specs.Laws.Sound.Each.{each-either, each-noted, each-live, each-captures, each-insert, each-put, each-amend, each-mark, each-more}
+use Rattle.pass.specs.Laws.Sound.Each.{newest-held, each-either, each-noted, each-live, each-captures, each-insert, each-put, each-amend, each-mark, each-more}
 
 -- a mark leaves a fact's count
 pub marked-uses : (b : Bool) (f : SemanticInformation → SemanticInformation) (v : SemanticInformation) → f v .«usage_count» ≡ v .«usage_count»
@@ -48,7 +48,7 @@ module _ {Q : Property} {F : ℕ → Type 0} (unused : F 0) where
   pub each-enter : (x : Ident) (e : Entry) {s : State} → Q .ident x → e .lastUsed ≡ none → F (e .usageCount) → Each Q F s → Each Q F (enter x e s)
   unfolding enter
   each-enter x e {s} p n u h =
-      each-put (x .at) e (last-none (Q .ident) n) u
+      each-put x e p (last-none (Q .ident) n) u
       (each-live _ (defined-live IsNamed (x .name) x (s .scope .names) refl (h .named)) (defined-values (Q .ident) (x .name) x (s .scope .names) p (h .binders))
       (live-noted (ltb 1 (depth s) && hasAtTop (s .scope .names) (x .name)) (x .at) h))
 
@@ -103,32 +103,32 @@ unfolding useIn
 taken-values P x [] p = tt
 taken-values P x (e ∷ l) p = all-either _ (eqb (e .name) x) _ _ p (p .0, taken-values P x l (p .1))
 
--- what a rule finds
-abbrev pub Found : (Capture → Type 0) → Rule → Type 0
-Found P noEntry = Unit {0}
-Found P (depthOne b) = Unit {0}
-Found P (currentLayer b) = Unit {0}
-Found P (takenCapture b c) = P c
-Found P (homeSlot b) = Unit {0}
+-- what a rule finds: a binder, and a capture
+abbrev pub Found : (Ident → Type 0) → (Capture → Type 0) → Rule → Type 0
+Found R P noEntry = Unit {0}
+Found R P (depthOne b) = R b
+Found R P (currentLayer b) = R b
+Found R P (takenCapture b c) = R b × P c
+Found R P (homeSlot b) = R b
 
-module _ (P : Capture → Type 0) where
-  found-either : (b : Bool) (q r : Rule) → Found P q → Found P r → Found P (cond b q r)
+module _ (R : Ident → Type 0) (P : Capture → Type 0) where
+  found-either : (b : Bool) (q r : Rule) → Found R P q → Found R P r → Found R P (cond b q r)
   found-either true q r f g = f
   found-either false q r f g = g
 
-  found-capture : (b : Ident) (o : Option (Live Capture)) → Maybe (λ e. P (e .value)) o → Found P (captureRule b o)
-  found-capture b none p = tt
-  found-capture b (some c) p = p
+  found-capture : (b : Ident) (o : Option (Live Capture)) → R b → Maybe (λ e. P (e .value)) o → Found R P (captureRule b o)
+  found-capture b none r p = r
+  found-capture b (some c) r p = (r, p)
 
-  found-entry : (s : State) (x : ℕ) (o : Option Ident) → Values P (s .captures .live) → Found P (entryRule s x o)
-  found-entry s x none p = tt
-  found-entry s x (some b) p =
-      found-either (eqb (entryAt s (b .at) .depth) 1) _ _ tt
-      (found-either (eqb (entryAt s (b .at) .depth) (depth s)) _ _ tt (found-capture b (get (s .captures) x) (get-value P (s .captures .live) x p)))
+  found-entry : (s : State) (x : ℕ) (o : Option Ident) → Maybe R o → Values P (s .captures .live) → Found R P (entryRule s x o)
+  found-entry s x none r p = tt
+  found-entry s x (some b) r p =
+      found-either (eqb (entryAt s (b .at) .depth) 1) _ _ r
+      (found-either (eqb (entryAt s (b .at) .depth) (depth s)) _ _ r (found-capture b (get (s .captures) x) r (get-value P (s .captures .live) x p)))
 
-  pub found : (s : State) (x : ℕ) → Values P (s .captures .live) → Found P (ruleOf s x)
+  pub found : (s : State) (x : ℕ) → Maybe R (newest s x) → Values P (s .captures .live) → Found R P (ruleOf s x)
   unfolding ruleOf
-  found s x p = found-entry s x (newest s x) p
+  found s x r p = found-entry s x (newest s x) r p
 
 module _ {Q : Property} {F : ℕ → ℕ → Type 0} (counting : Counting F) (k : ℕ) where
   each-used : (x : ℕ) {s : State} → Each Q (F k) s → Each Q (F (suc k)) (useCapture x s)
@@ -141,7 +141,7 @@ module _ {Q : Property} {F : ℕ → ℕ → Type 0} (counting : Counting F) (k 
   each-count n b p h = each-mark (withUsageCount n) (b .at) (counting .none (suc k)) (λ v q. p) h
 
   module _ (classes : List ℕ) where
-    each-by : (r : Rule) (x : Ident) (s : State) → Q .ident x → Found (λ c. F k (c .usageCount)) r → Each Q (F k) s → Each Q (F (suc k)) (readBy classes r x s)
+    each-by : (r : Rule) (x : Ident) (s : State) → Q .ident x → Found (Q .ident) (λ c. F k (c .usageCount)) r → Each Q (F k) s → Each Q (F (suc k)) (readBy classes r x s)
     unfolding putEntry
     each-by noEntry x s p f h =
         let none-yet = free-uses (isPrelude classes (x .name)) (depth s) x in
@@ -149,32 +149,32 @@ module _ {Q : Property} {F : ℕ → ℕ → Type 0} (counting : Counting F) (k 
     each-by (depthOne b) x s p f h =
         each-insert (x .at) _ (once counting k (marked-uses (isPrelude classes (x .name)) markBuiltin _ refl))
         (each-amend (F k) oneUseMore (b .at) (counting .none (suc k)) (λ v q. counting .more k _ q) (h .rowUses (b .at))
-        (each-put (b .at) _ (h .lasts (b .at)) (counting .more k _ (h .entryUses (b .at))) (up counting k h)))
+        (each-put b _ f (h .lasts (b .at)) (counting .more k _ (h .entryUses (b .at))) (up counting k h)))
     each-by (currentLayer b) x s p f h =
         let e = lastEntry x (usedEntry (entryAt s (b .at))) in
         let u = counting .more k _ (h .entryUses (b .at)) in
         each-insert (x .at) _ (once counting k (marked-uses (e .captured && e .mutated) (heapFact e) _ refl))
-        (each-count _ b u (each-put (b .at) e (last-some (Q .ident) x p) u (up counting k h)))
+        (each-count _ b u (each-put b e f (last-some (Q .ident) x p) u (up counting k h)))
     each-by (takenCapture b c) x s p f h =
         let v = infoAt s (c .row) in
         let read = each-insert (x .at) _ (once counting k (marked-uses (hasNumber (v .«read_capture_offset»)) (captureOffsets v) _ refl))
-        (each-count _ (c .binder) (counting .more k _ f)
-        (each-put (b .at) _ (last-some (Q .ident) x p) (counting .keep k (suc k) _ (omega arith) (h .entryUses (b .at))) (each-used (x .name) h))) in
+        (each-count _ (c .binder) (counting .more k _ (f .1))
+        (each-put b _ (f .0) (last-some (Q .ident) x p) (counting .keep k (suc k) _ (omega arith) (h .entryUses (b .at))) (each-used (x .name) h))) in
         each-either (hasNumber (v .«read_capture_offset») && eqb (v .«capture_offset») NONE) (each-noted _ read) read
     each-by (homeSlot b) x s p f h =
         let u = counting .more k _ (h .entryUses (b .at)) in
-        each-insert (x .at) _ (once counting k refl) (each-count _ b u (each-put (b .at) _ (last-some (Q .ident) x p) u (up counting k h)))
+        each-insert (x .at) _ (once counting k refl) (each-count _ b u (each-put b _ f (last-some (Q .ident) x p) u (up counting k h)))
 
     pub each-read : (x : Ident) {s : State} → Q .ident x → Each Q (F k) s → Each Q (F (suc k)) (read classes x s)
     unfolding read
-    each-read x {s} p h = each-by (ruleOf s (x .name)) x s p (found (λ c. F k (c .usageCount)) s (x .name) (h .captureUses)) h
+    each-read x {s} p h = each-by (ruleOf s (x .name)) x s p (found (Q .ident) (λ c. F k (c .usageCount)) s (x .name) (newest-held (x .name) h) (h .captureUses)) h
 
-  each-set : (o : Option Ident) {s : State} → Each Q (F k) s → Each Q (F (suc k)) (mutateAt o s)
-  each-set none h = up counting k h
-  each-set (some b) h =
+  each-set : (o : Option Ident) {s : State} → Maybe (Q .ident) o → Each Q (F k) s → Each Q (F (suc k)) (mutateAt o s)
+  each-set none o h = up counting k h
+  each-set (some b) o h =
       each-mark markSet (b .at) (counting .none (suc k)) (λ v q. q)
-      (each-put (b .at) _ (h .lasts (b .at)) (counting .more k _ (h .entryUses (b .at))) (up counting k h))
+      (each-put b _ o (h .lasts (b .at)) (counting .more k _ (h .entryUses (b .at))) (up counting k h))
 
   pub each-mutate : (x : ℕ) {s : State} → Each Q (F k) s → Each Q (F (suc k)) (mutate x s)
   unfolding mutate
-  each-mutate x {s} h = each-set (newest s x) h
+  each-mutate x {s} h = each-set (newest s x) (newest-held x h) h

@@ -1,23 +1,25 @@
--- `Sound` and `Counted` from the start of a run to its end.
-use Prim.Native.Nat.{ℕ, _+_, _<_}
+-- `Sound` and `Counted` from the start of a run to its end, and which entries a run makes.
+use Prim.Native.Nat.{ℕ, _+_, _≤_, _<_}
 use mathlib.Core.List.{List}
 use mathlib.Core.Bool.{Bool, true, false}
 use mathlib.Core.Option.{Option, none, some}
 use mathlib.Core.Path.{_≡_, refl}
 use native.Mathlib.Omega.{arith}
 use lib.ListN.{getD}
-use Rattle.tree.specs.Tree.{Ident, Tree, Trees, ident, const, if, letin, define, lambda, begin, call, set!, nil, cons, size, sizes}
+use Rattle.tree.specs.Tree.{Ident, Tree, Trees, ident, const, if, letin, define, lambda, begin, call, set!, nil, cons, flats, size, sizes}
+use Rattle.tree.specs.TreeLaws.{length-flats}
+use Rattle.tree.specs.Accepted.{Accepted}
 use Rattle.tree.specs.Define.{topLevel}
 use Rattle.semantic.specs.Rows.{Row, Blank, noItem}
 use Rattle.semantic.specs.declared.FunctionInformation.{FunctionInformation}
-use Rattle.pass.specs.State.{Entry, Facts, State, noEntry}
+use Rattle.pass.specs.State.{Entry, Facts, State, noEntry, entryAt}
 use Rattle.pass.specs.Visit.{Flags, isLambda, enterChildren, visit, visitArguments, visitChildren, enterTops, visitTop, visitTops}
 use Rattle.pass.specs.Run.{rowsMost, itemsMost, noFacts, start, run, fresh}
 use Rattle.pass.specs.Sound.{Property, Lawful, usesIn, Each, Sound, Counted, Holds, HoldsAll, Listed, Inside, Opens, OpensArguments, OpensChildren, OpensDefine, OpensTop, OpensTops}
 use Rattle.pass.specs.Laws.Sound.Lists.{same-each}
 use Rattle.pass.specs.Laws.Sound.Each.{Fine, fine}
 use Rattle.pass.specs.Laws.Sound.Names.{last-none}
-use Rattle.pass.specs.Laws.Sound.Holds.{holds-any, hold-any, tops-hold}
+use Rattle.pass.specs.Laws.Sound.Holds.{holds-any, hold-any, tops-hold, hold-map, Recorded, accepted-recorded}
 use Rattle.pass.specs.Laws.Sound.Growth.{top-sizes}
 use Rattle.pass.specs.Laws.Sound.Known.{uncounted, knowing, inside-listed}
 use Rattle.pass.specs.Laws.Sound.Counted.{asking-nothing, counting, any-listed, counted-grow}
@@ -38,6 +40,7 @@ module _ {Q : Property} {F : ℕ → Type 0} (unused : F 0) where
     rowUses = q;
     itemUses = λ i. p i .1;
     captureUses = tt;
+    owned = λ i n. same-each (λ (e : Entry). e ≡ noEntry) noEntry rowsMost refl i;
   }
 
   -- the first one
@@ -142,6 +145,25 @@ module _ (classes : List ℕ) {k : ℕ} where
 pub fresh-counted : (classes : List ℕ) (ts : Trees) → Counted (sizes ts) (fresh classes ts)
 unfolding fresh
 fresh-counted classes ts = counted-grow (omega arith) (run-counted classes ts noFacts (each-first (counting .none 0) asking-nothing))
+
+-- Entries: a run makes none but for identifiers, which stand at records of the tree
+
+abbrev placed : ℕ → Property
+placed n = record { ident = λ x. x .at < n; item = λ x. Unit {0}; row = λ r. Unit {0}; capture = λ r b. Unit {0} }
+
+placing : (n : ℕ) → Lawful (placed n)
+placing n = record { absent = tt; made = λ b e p. tt; changed = λ x v e p. tt; taken = λ r x q p. tt }
+
+pub run-owned : (classes : List ℕ) {N : ℕ} {rs : List ℕ} {ts : Trees} → Accepted N rs ts → (f : Facts) (i : ℕ) → sizes ts ≤ i
+    → entryAt (run classes ts f) i ≡ noEntry
+unfolding run
+run-owned classes {ts = ts} a f i h =
+    let us = topLevel ts in
+    let inside : (x : Ident) → Recorded (flats ts) x → x .at < sizes ts = λ x r. omega (arith, r .inside, length-flats ts) in
+    let p = tops-hold (λ x. x .at < sizes ts) ts (hold-map (Recorded (flats ts)) (λ x. x .at < sizes ts) inside ts (accepted-recorded a)) in
+    let entered = each-tops tt classes us (start f) p (each-start tt f (λ j. (tt, tt)) (λ j. tt)) in
+    each-visit-tops (placing (sizes ts)) uncounted Unlisted (λ v o. o) classes us _ 0 p (tops-any Unlisted any-listed classes us _) entered .owned i
+    (λ b l e. omega (arith, l, e))
 
 -- Identifiers and rows: where each lambda entered finds its list inside the table
 

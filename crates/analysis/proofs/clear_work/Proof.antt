@@ -1,0 +1,43 @@
+-- `clear_work`: two parts, and between them entries that are zero.
+use mathlib.Core.Path.{_≡_, ap, _∙_}
+use native.Mathlib.Omega.{arith}
+use Prim.Native.Nat.{ℕ, _+_, _-_, _*_}
+use Rattle.work.specs.Works.{workLong, entriesFirst, capturesFirst}
+use Rattle.work.specs.Coded.{entryWidth}
+use Rattle.analysis.specs.Steps.{zeroed}
+use Rattle.analysis.proofs.Start.{work-cleared}
+use borrow.Author.Needs.{needs}
+use Rattle.analysis.proofs.clear_work.Statement.{statement}
+use Rattle.analysis.proofs.clear_work.Tie as tie
+
+mul-clear-part : tie.Need-mul-clear-part
+mul-clear-part c = search needs
+
+add-clear-part : tie.Need-add-clear-part
+add-clear-part c = search needs
+
+clear-part-requires : tie.Need-clear-part-requires
+clear-part-requires c κs = search needs
+
+clear-part-requires-2 : tie.Need-clear-part-requires-2
+clear-part-requires-2 c κs = search needs
+
+same-length : tie.Need-same-length
+same-length c = search needs
+
+returns : tie.Need-returns
+returns c =
+    let k2 = c .before .before in
+    let k1 = k2 .before .before .before .before in
+    let o = k1 .before .before .before in
+    let n = o .args .n in
+    let w = o .args .work .now in
+    let many : entriesFirst + entryWidth * n - 0 ≡ entriesFirst + entryWidth * n = omega arith in
+    k2 .clear-part2 .ensures
+    ∙ ap (zeroed capturesFirst (workLong - capturesFirst)) (k1 .clear-part .ensures ∙ ap (λ (j : ℕ). zeroed 0 j w) many)
+    ∙ work-cleared w n (o .pre .0) (o .pre .1)
+
+pub clear-work-spec : {M : Type 1} → statement M
+clear-work-spec =
+    tie.close
+    (tie.spec mul-clear-part add-clear-part clear-part-requires clear-part-requires-2 same-length returns)
