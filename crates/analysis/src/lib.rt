@@ -24,7 +24,7 @@ pub const FACTS: usize = 81920;
 
 pub const ITEMS: usize = 53248;
 
-// Room for so many records' entries, and the numbers of one.
+// The work table has room for the entries of so many records, and an entry is so many numbers.
 const RECORDS: usize = 4096;
 
 const ENTRY: usize = 5;
@@ -119,7 +119,7 @@ fn clear_part(work: &mut [u32], start: usize, end: usize)
     table::clear(&mut work[start..end]);
 }
 
-// The work table with n records' entries, all of it. The entries of other records are zero already.
+// All of a work table in which n records have entries. Those of other records are zero already.
 fn clear_work(work: &mut [u32], n: usize)
     requires { ⌜ (length (now work) ≡ workLength) × Rested n (now work) ⌝ }
     ensures { λ _. ⌜ now (work .exit) ≡ replicate workLength 0 ⌝ }
@@ -147,8 +147,8 @@ fn clear_after(
     }
 }
 
-// What a run starts without: the hints of both maps, and the entries of n records. Those of other records are zero already. Rows and captures of
-// an empty map are not looked at.
+// What a run starts without: the hints of both maps, and the entries, of which n records have some. Those of other records are zero already. Rows and
+// captures of an empty map are not looked at.
 fn clear_names(work: &mut [u32], n: usize)
     requires { ⌜ (length (now work) ≡ workLength) × Rested n (now work) ⌝ }
     ensures { λ _. ⌜ now (work .exit) ≡ namesCleared (now (work .entry)) ⌝ }
