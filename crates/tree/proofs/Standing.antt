@@ -1,9 +1,9 @@
 -- Checks 4 and 5 in one pass: the open records are held, none nested too deep so far.
-use Prim.Native.Nat.{ℕ, suc, _+_, _≤_, _<_}
+use Prim.Native.Nat.{ℕ, suc, _+_, _*_, _%_, _≤_, _<_}
 use mathlib.Core.List.{List, [], _∷_}
 use mathlib.Core.Bool.{Bool, true, false}
 use mathlib.Core.Option.{none}
-use mathlib.Core.Path.{_≡_, refl, ap, sym, _∙_}
+use mathlib.Core.Path.{_≡_, refl, ap, sym, subst, _∙_}
 use native.Mathlib.Omega.{arith}
 use borrow.Author.Tests.{ltb-false, eqb-true, not-false, eq-eqb, le-ltb}
 use lib.ListN.{length, drop, replicate}
@@ -15,27 +15,33 @@ use Rattle.tree.specs.First.{on, first}
 use Rattle.tree.specs.FirstLaws.{on-zero, first-next, first-none}
 use Rattle.tree.specs.Walked.{isDeep, firstDeep}
 use Rattle.tree.specs.declared.sweep.Innermost.{Innermost}
-use Rattle.tree.specs.Held.{Live, toComeIn, Inner, Grounded, Steps}
+use Rattle.tree.specs.Held.{Live, inScript, Inner, Steps}
 use Rattle.tree.specs.Check.{when, check4, check5}
 use Rattle.tree.proofs.Places.{opened, after-live, closed-few, taken-length, placedAt, left-next, left-end, placed-next, placed-end}
-use Rattle.tree.proofs.Holding.{inner-few}
+use Rattle.tree.proofs.Holding.{script-length, script-below, script-some, later, later-some, script-after, inner-few, inner-some}
 
--- the loop has come to record i, where s is open and a is the innermost
-pub record Standing (rs lefts levels : List ℕ) (a : Innermost) (i : ℕ) : Type 0 where
+-- the loop has come to record i, where s is open and a is the innermost; the script has more to come than there are records left
+pub record Standing (rs kept : List ℕ) (a : Innermost) (i : ℕ) : Type 0 where
   pub s : List Open
+  pub m : ℕ
   pub live : Live s
-  pub ground : Grounded lefts levels
-  pub held : Inner lefts levels s a
-  pub few : a .level ≤ 64
+  pub long : length kept ≡ 65
+  pub more : length (records rs) < m + i
+  pub held : Inner kept (inScript m s) a
+  pub near : length s ≤ 64
+  pub few : a .word ≤ 4294967295
   pub deep : firstDeep [] (records rs) ≡ on i (firstDeep s (drop i (records rs)))
   pub rest : left [] (records rs) ≡ left s (drop i (records rs))
 
-pub stand-begin : (rs : List ℕ) → Standing rs (replicate 65 0) (replicate 65 0) (record { left = 0; level = 0; under = 0 }) 0
-stand-begin rs = record {
+pub stand-begin : (rs : List ℕ) → length (records rs) ≤ 4096 → {n : ℕ} → n ≡ length (records rs) → Standing rs (replicate 65 0) (record { word = 128 * (n + 1); under = 0 }) 0
+stand-begin rs h {n} e = record {
   s = [];
+  m = n + 1;
   live = tt;
-  ground = record { long = refl; high = refl; none = refl; top = refl };
-  held = record { toCome = refl; at = refl; under = refl };
+  long = refl;
+  more = omega arith;
+  held = record { is = omega arith; under = refl };
+  near = omega arith;
   few = omega arith;
   deep = sym (on-zero _);
   rest = refl;
@@ -45,49 +51,54 @@ when-none : (b : Bool) (i : ℕ) → when b i ≡ none → b ≡ false
 when-none true i e = let z : _≡_ {A = ℕ} 0 1 = cc in absurd (omega arith)
 when-none false i e = refl
 
-live-none : (s : List Open) → Live s → toComeIn s ≡ 0 → length s ≡ 0
-live-none [] h e = refl
-live-none (o ∷ s) h e = absurd (omega arith)
-
-none-live : (s : List Open) → length s ≡ 0 → toComeIn s ≡ 0
-none-live [] e = refl
-none-live (o ∷ s) e = absurd (omega arith)
-
-module _ {rs lefts levels : List ℕ} {b : Innermost} {i : ℕ} (a : Standing rs lefts levels b i) where
-  pub stand-under : b .under ≤ b .level
-  stand-under = omega (arith, inner-few lefts levels (a .s) (a .held), a .held .at)
+module _ {rs kept : List ℕ} {b : Innermost} {i : ℕ} (a : Standing rs kept b i) where
+  pub stand-nesting : b .word % 128 ≡ length (a .s)
+  stand-nesting = omega (arith, a .held .is, script-below (a .m) (a .s), a .near)
 
   after-few : (r : Record) → length (after (a .s) r) ≤ suc (length (a .s))
   unfolding after
   after-few r = omega (arith, closed-few (opened r ∷ taken (a .s)), taken-length (a .s))
 
   module _ (h : i < length (records rs)) where
+    -- the innermost has a child to come, and where that is the last another is kept
+    pub stand-some : 128 ≤ b .word
+    stand-some = omega (arith, a .held .is, script-some (a .m) (a .s) (omega (arith, a .more)) (a .live))
+
+    pub stand-last : b .word < 256 → 0 < b .under
+    stand-last = inner-some kept (a .m) (omega (arith, a .more)) (a .s) (a .held)
+
     at-record : firstDeep [] (records rs) ≡ on i (first isDeep (placedAt (a .s) (nth rs i) ∷ placed (after (a .s) (nth rs i)) (drop (i + 1) (records rs))))
     at-record = a .deep ∙ ap (λ (m : List Placed). on i (first isDeep m)) (placed-next (records rs) blank i (a .s) h)
 
-    pub stand-near : (N : ℕ) → check5 N rs ≡ none → b .level + 1 ≤ 64
+    pub stand-near : (N : ℕ) → check5 N rs ≡ none → b .word % 128 < 64
     unfolding check5
-    stand-near N e =
-        omega (arith, ltb-false 64 (suc (length (a .s))) (first-none isDeep i (placedAt (a .s) (nth rs i)) _ (sym at-record ∙ e)), a .held .at)
+    stand-near N e = omega (arith, ltb-false 64 (suc (length (a .s))) (first-none isDeep i (placedAt (a .s) (nth rs i)) _ (sym at-record ∙ e)), stand-nesting)
 
-  module _ (h : i < length (records rs)) {nesting : ℕ} (en : nesting ≡ b .level + 1) (small : nesting ≤ 64) where
+  module _ (h : i < length (records rs)) (small : b .word % 128 < 64) where
+    pub stand-under : b .under + 1 < length kept
+    stand-under = omega (arith, a .long, inner-few kept (inScript (a .m) (a .s)) (a .held), script-below (a .m) (a .s), stand-nesting)
+
     not-deep : firstDeep [] (records rs) ≡ on (i + 1) (firstDeep (after (a .s) (nth rs i)) (drop (i + 1) (records rs)))
-    not-deep =
-        at-record h
-        ∙ first-next isDeep i (placedAt (a .s) (nth rs i)) _ (le-ltb 64 (suc (length (a .s))) (omega (arith, a .held .at)))
+    not-deep = at-record h ∙ first-next isDeep i (placedAt (a .s) (nth rs i)) _ (le-ltb 64 (suc (length (a .s))) (omega (arith, stand-nesting)))
 
-    module _ {lefts′ levels′ : List ℕ} {children : ℕ} {d : Innermost} (t : Steps lefts levels b nesting children lefts′ levels′ d) (ec : children ≡ childrenOf (nth rs i .form) (nth rs i .count)) where
-      inner-next : Inner lefts′ levels′ (after (a .s) (nth rs i)) d
+    module _ {kept′ : List ℕ} {children : ℕ} {d : Innermost} (t : Steps kept b children kept′ d) (ec : children ≡ childrenOf (nth rs i .form) (nth rs i .count)) where
+      inner-next : Inner kept′ (inScript (later (a .m) (a .s)) (after (a .s) (nth rs i))) d
       unfolding after childrenOf
-      inner-next = t .is (a .s) (opened (nth rs i)) (a .held) (omega (arith, en, a .held .at)) ec
+      inner-next =
+          let o = opened (nth rs i) in
+          subst (λ (l : List Open). Inner kept′ l d) (script-after (a .m) (a .s) o (omega (arith, a .more)))
+          (t .is (inScript (a .m) (a .s)) o (omega (arith, script-length (a .m) (a .s), stand-nesting)) (a .held) ec)
 
-      pub stand-next : Standing rs lefts′ levels′ d (i + 1)
+      pub stand-next : Standing rs kept′ d (i + 1)
       stand-next = record {
         s = after (a .s) (nth rs i);
+        m = later (a .m) (a .s);
         live = after-live (a .s) (nth rs i);
-        ground = t .ground;
+        long = t .long ∙ a .long;
+        more = omega (arith, a .more, later-some (a .m) (a .s));
         held = inner-next;
-        few = omega (arith, after-few (nth rs i), inner-next .at, a .held .at);
+        near = omega (arith, after-few (nth rs i), stand-nesting);
+        few = t .few;
         deep = not-deep;
         rest = a .rest ∙ left-next (records rs) blank i (a .s) h;
       }
@@ -100,10 +111,10 @@ module _ {rs lefts levels : List ℕ} {b : Innermost} {i : ℕ} (a : Standing rs
     at-end : left [] (records rs) ≡ a .s
     at-end = a .rest ∙ left-end (records rs) blank i (a .s) h
 
-    pub stand-none : check4 N rs ≡ none → b .left ≡ 0
+    pub stand-none : check4 N rs ≡ none → b .word % 128 ≡ 0
     unfolding check4
-    stand-none e = a .held .toCome ∙ none-live (a .s) (eqb-true (length (a .s)) 0 (not-false _ (when-none _ _ (rw at-end at e))))
+    stand-none e = stand-nesting ∙ eqb-true (length (a .s)) 0 (not-false _ (when-none _ _ (rw at-end at e)))
 
-    pub stand-whole : b .left ≡ 0 → check4 N rs ≡ none
+    pub stand-whole : b .word % 128 ≡ 0 → check4 N rs ≡ none
     unfolding check4
-    stand-whole z = rw (at-end, eq-eqb (length (a .s)) 0 (live-none (a .s) (a .live) (sym (a .held .toCome) ∙ z)))
+    stand-whole z = rw (at-end, eq-eqb (length (a .s)) 0 (sym stand-nesting ∙ z))

@@ -1,5 +1,5 @@
 -- Checks 3 to 7 in one pass: none of them applies so far.
-use Prim.Native.Nat.{ℕ, _+_, _-_, _≤_, _<_}
+use Prim.Native.Nat.{ℕ, _+_, _-_, _*_, _%_, _≤_, _<_}
 use mathlib.Core.List.{List}
 use mathlib.Core.Bool.{not}
 use mathlib.Core.Path.{_≡_, ap, sym}
@@ -25,28 +25,28 @@ few-after N r due u h (yes z) = omega (arith, no-children r (u .named z))
 few-after N r due u h (no z) = omega (arith, fit-names N r (u .fit))
 
 -- the loop has come to record i
-pub record Sweeping (N : ℕ) (rs lefts levels : List ℕ) (inner : Innermost) (due i : ℕ) : Type 0 where
+pub record Sweeping (N : ℕ) (rs kept : List ℕ) (inner : Innermost) (due i : ℕ) : Type 0 where
   pub fields : At (outside N) rs i
   pub calls : At emptyCall rs i
   pub names : Naming rs i due
   pub few : due ≤ 255
-  pub places : Standing rs lefts levels inner i
+  pub places : Standing rs kept inner i
 
-pub sweep-begin : (N : ℕ) (rs : List ℕ) → Sweeping N rs (replicate 65 0) (replicate 65 0) (record { left = 0; level = 0; under = 0 }) 0 0
-sweep-begin N rs = record { fields = begin (outside N) rs; calls = begin emptyCall rs; names = naming-begin rs; few = omega arith; places = stand-begin rs }
+pub sweep-begin : (N : ℕ) (rs : List ℕ) → length (records rs) ≤ 4096 → {n : ℕ} → n ≡ length (records rs) → Sweeping N rs (replicate 65 0) (record { word = 128 * (n + 1); under = 0 }) 0 0
+sweep-begin N rs h e = record { fields = begin (outside N) rs; calls = begin emptyCall rs; names = naming-begin rs; few = omega arith; places = stand-begin rs h e }
 
-module _ {N : ℕ} {rs lefts levels : List ℕ} {b : Innermost} {due i : ℕ} (a : Sweeping N rs lefts levels b due i) where
+module _ {N : ℕ} {rs kept : List ℕ} {b : Innermost} {due i : ℕ} (a : Sweeping N rs kept b due i) where
   module _ (h : i < length (records rs)) (u : Sound N (nth rs i) due) {due′ : ℕ} (ed : due′ ≡ due - 1 + namesOf (nth rs i .form) (nth rs i .count)) where
-    pub sweep-next : {nesting children : ℕ} {lefts′ levels′ : List ℕ} {d : Innermost} → nesting ≡ b .level + 1 → nesting ≤ 64 → Steps lefts levels b nesting children lefts′ levels′ d → children ≡ childrenOf (nth rs i .form) (nth rs i .count) → Sweeping N rs lefts′ levels′ d due′ (i + 1)
-    sweep-next en small t ec = record {
+    pub sweep-next : {children : ℕ} {kept′ : List ℕ} {d : Innermost} → b .word % 128 < 64 → Steps kept b children kept′ d → children ≡ childrenOf (nth rs i .form) (nth rs i .count) → Sweeping N rs kept′ d due′ (i + 1)
+    sweep-next small t ec = record {
       fields = next (outside N) rs (a .fields) h (ap not (u .fit));
       calls = next emptyCall rs (a .calls) h (u .called);
       names = naming-next (a .names) h due′ (u .named) ed;
       few = omega (arith, ed, few-after N (nth rs i) due u (a .few) (decLt 0 due));
-      places = stand-next (a .places) h en small t ec;
+      places = stand-next (a .places) h small t ec;
     }
 
-  pub sweep-end : length (records rs) ≤ i → b .left ≡ 0 → Clear N rs
+  pub sweep-end : length (records rs) ≤ i → b .word % 128 ≡ 0 → Clear N rs
   unfolding check3 check7
   sweep-end h z = record {
     fields = sym (end (outside N) rs (a .fields) h);
@@ -66,8 +66,8 @@ module _ {N : ℕ} {rs lefts levels : List ℕ} {b : Innermost} {due i : ℕ} (a
       named = λ z. none-due (a .names) h z N (k .names);
     }
 
-    pub clear-near : i < length (records rs) → b .level + 1 ≤ 64
+    pub clear-near : i < length (records rs) → b .word % 128 < 64
     clear-near h = stand-near (a .places) h N (k .nesting)
 
-    pub clear-none : length (records rs) ≤ i → b .left ≡ 0
+    pub clear-none : length (records rs) ≤ i → b .word % 128 ≡ 0
     clear-none h = stand-none (a .places) h N (k .children)

@@ -1,7 +1,6 @@
--- The open records: the innermost by itself, the others in two tables. Kept in these are those alone that have a child to come, the next
--- one at p, the outermost at 1: how many are to come, and the record's nesting. So a record that takes the last place of several closes
--- them all in one step.
-use Prim.Native.Nat.{ℕ, suc, _+_, _-_, _<_}
+-- The open records, the script as the outermost: the innermost by itself, the others in a table. Kept in it are those alone that have a
+-- child to come, the next one out at p, the outermost at 1. So a record that takes the last place of several closes them all in one step.
+use Prim.Native.Nat.{ℕ, _+_, _-_, _*_, _≤_, _<_}
 use mathlib.Core.List.{List, [], _∷_}
 use mathlib.Core.Path.{_≡_}
 use lib.ListN.{length, getD}
@@ -26,30 +25,31 @@ abbrev pub below : List Open → List Open
 below [] = []
 below (o ∷ s) = s
 
--- a record of so many children to come and this nesting is kept at p
-pub record Kept (lefts levels : List ℕ) (many nesting p : ℕ) : Type 0 where
-  pub some : 0 < p
-  pub toCome : getD lefts p 0 ≡ many
-  pub at : getD levels p 0 ≡ nesting
+-- the script holds the records that no other does: one more open record, with m to come
+abbrev pub inScript : ℕ → List Open → List Open
+inScript m [] = record { names = 0; others = m } ∷ []
+inScript m (o ∷ s) = o ∷ inScript m s
 
-abbrev pub Held : List ℕ → List ℕ → List Open → ℕ → Type 0
-Held lefts levels [] p = p ≡ 0
-Held lefts levels (o ∷ s) p = (toCome o ≡ 0 → Held lefts levels s p) × (0 < toCome o → Kept lefts levels (toCome o) (suc (length s)) p × Held lefts levels s (p - 1))
+-- an open record as one number: so many children to come, and its nesting, which is below 128
+abbrev pub word : ℕ → ℕ → ℕ
+word many nesting = 128 * many + nesting
+
+-- the record w is kept at p
+pub record Kept (kept : List ℕ) (w p : ℕ) : Type 0 where
+  pub some : 0 < p
+  pub is : getD kept p 0 ≡ w
+
+abbrev pub Held : List ℕ → List Open → ℕ → Type 0
+Held kept [] p = p ≡ 0
+Held kept (o ∷ s) p = (toCome o ≡ 0 → Held kept s p) × (0 < toCome o → Kept kept (word (toCome o) (length s)) p × Held kept s (p - 1))
 
 -- the innermost of the open records is a
-pub record Inner (lefts levels : List ℕ) (s : List Open) (a : Innermost) : Type 0 where
-  pub toCome : a .left ≡ toComeIn s
-  pub at : a .level ≡ length s
-  pub under : Held lefts levels (below s) (a .under)
-
--- the tables have 65 places; at place 0 no record is kept
-pub record Grounded (lefts levels : List ℕ) : Type 0 where
-  pub long : length lefts ≡ 65
-  pub high : length levels ≡ 65
-  pub none : getD lefts 0 0 ≡ 0
-  pub top : getD levels 0 0 ≡ 0
+pub record Inner (kept : List ℕ) (s : List Open) (a : Innermost) : Type 0 where
+  pub is : a .word ≡ word (toComeIn s) (length (below s))
+  pub under : Held kept (below s) (a .under)
 
 -- a record takes a place, and is open, unless it has no children
-pub record Steps (lefts levels : List ℕ) (a : Innermost) (nesting children : ℕ) (lefts′ levels′ : List ℕ) (b : Innermost) : Type 0 where
-  pub ground : Grounded lefts′ levels′
-  pub is : (s : List Open) (o : Open) → Inner lefts levels s a → nesting ≡ suc (length s) → children ≡ toCome o → Inner lefts′ levels′ (closed (o ∷ taken s)) b
+pub record Steps (kept : List ℕ) (a : Innermost) (children : ℕ) (kept′ : List ℕ) (b : Innermost) : Type 0 where
+  pub long : length kept′ ≡ length kept
+  pub few : b .word ≤ 4294967295
+  pub is : (s : List Open) (o : Open) → length s ≤ 64 → Inner kept s a → children ≡ toCome o → Inner kept′ (closed (o ∷ taken s)) b

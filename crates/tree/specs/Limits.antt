@@ -1,36 +1,31 @@
--- The table of forms as rows of ten numbers, for the forms 0 to 9: the least and the most id, the least and the most count, what the name
--- stays below, how many names may be due; the names among the children, how many of every record and for each one counted; the children
--- alike. No id is within the limits of form 0.
-use Prim.Native.Nat.{ℕ, _+_, _-_, _*_, _≤_, _<_}
+-- The limits by form as ten columns, each with an entry for the forms 0 to 9.
+use Prim.Native.Nat.{ℕ, _+_, _*_, _≤_, _<_}
 use mathlib.Core.List.{List, [], _∷_}
 use lib.ListN.{getD}
 use Rattle.tree.specs.Record.{Record}
-use Rattle.tree.specs.Form.{namesOf, childrenOf}
-
--- the row of form f, with the limits l of its fields
-unfoldable pub rowOf : ℕ → List ℕ → List ℕ
-rowOf f l =
-    getD l 0 0 ∷ getD l 1 0 ∷ getD l 2 0 ∷ getD l 3 0 ∷ getD l 4 0 ∷ getD l 5 0
-    ∷ namesOf f 0 ∷ (namesOf f 1 - namesOf f 0) ∷ childrenOf f 0 ∷ (childrenOf f 1 - childrenOf f 0) ∷ []
 
 -- N is the number of names
 unfoldable pub limits : ℕ → List (List ℕ)
 limits N =
-    (1 ∷ 0 ∷ 0 ∷ 0 ∷ 1 ∷ 0 ∷ 0 ∷ 0 ∷ 0 ∷ 0 ∷ [])  -- none
-    ∷ (1 ∷ 4294967294 ∷ 0 ∷ 0 ∷ N ∷ 255 ∷ 0 ∷ 0 ∷ 0 ∷ 0 ∷ [])  -- identifier
-    ∷ (1 ∷ 4294967294 ∷ 0 ∷ 0 ∷ 2 ∷ 0 ∷ 0 ∷ 0 ∷ 0 ∷ 0 ∷ [])  -- constant
-    ∷ (0 ∷ 0 ∷ 0 ∷ 0 ∷ 1 ∷ 0 ∷ 0 ∷ 0 ∷ 3 ∷ 0 ∷ [])  -- if
-    ∷ (1 ∷ 4294967294 ∷ 0 ∷ 255 ∷ 1 ∷ 0 ∷ 0 ∷ 1 ∷ 1 ∷ 2 ∷ [])  -- let
-    ∷ (0 ∷ 0 ∷ 0 ∷ 0 ∷ 1 ∷ 0 ∷ 1 ∷ 0 ∷ 2 ∷ 0 ∷ [])  -- define
-    ∷ (1 ∷ 4294967294 ∷ 0 ∷ 255 ∷ 1 ∷ 0 ∷ 0 ∷ 1 ∷ 1 ∷ 1 ∷ [])  -- lambda
-    ∷ (0 ∷ 0 ∷ 0 ∷ 255 ∷ 1 ∷ 0 ∷ 0 ∷ 0 ∷ 0 ∷ 1 ∷ [])  -- begin
-    ∷ (1 ∷ 4294967294 ∷ 1 ∷ 255 ∷ 1 ∷ 0 ∷ 0 ∷ 0 ∷ 0 ∷ 1 ∷ [])  -- call
-    ∷ (0 ∷ 0 ∷ 0 ∷ 0 ∷ 1 ∷ 0 ∷ 1 ∷ 0 ∷ 2 ∷ 0 ∷ [])  -- set!
+    (1 ∷ 1 ∷ 1 ∷ 0 ∷ 1 ∷ 0 ∷ 1 ∷ 0 ∷ 1 ∷ 0 ∷ [])  -- the least id
+    ∷ (0 ∷ 4294967294 ∷ 4294967294 ∷ 0 ∷ 4294967294 ∷ 0 ∷ 4294967294 ∷ 0 ∷ 4294967294 ∷ 0 ∷ [])  -- the most; no id is within the limits of form 0
+    ∷ (0 ∷ 0 ∷ 0 ∷ 0 ∷ 0 ∷ 0 ∷ 0 ∷ 0 ∷ 1 ∷ 0 ∷ [])  -- the least count
+    ∷ (0 ∷ 0 ∷ 0 ∷ 0 ∷ 255 ∷ 0 ∷ 255 ∷ 255 ∷ 255 ∷ 0 ∷ [])  -- the most
+    ∷ (1 ∷ N ∷ 2 ∷ 1 ∷ 1 ∷ 1 ∷ 1 ∷ 1 ∷ 1 ∷ 1 ∷ [])  -- what the name stays below
+    ∷ (0 ∷ 255 ∷ 0 ∷ 0 ∷ 0 ∷ 0 ∷ 0 ∷ 0 ∷ 0 ∷ 0 ∷ [])  -- how many names may be due
+    ∷ (0 ∷ 0 ∷ 0 ∷ 0 ∷ 0 ∷ 1 ∷ 0 ∷ 0 ∷ 0 ∷ 1 ∷ [])  -- the names among the children: of every record
+    ∷ (0 ∷ 0 ∷ 0 ∷ 0 ∷ 1 ∷ 0 ∷ 1 ∷ 0 ∷ 0 ∷ 0 ∷ [])  -- for each one counted
+    ∷ (0 ∷ 0 ∷ 0 ∷ 3 ∷ 1 ∷ 2 ∷ 1 ∷ 0 ∷ 0 ∷ 2 ∷ [])  -- the children: of every record
+    ∷ (0 ∷ 0 ∷ 0 ∷ 0 ∷ 2 ∷ 0 ∷ 1 ∷ 1 ∷ 1 ∷ 0 ∷ [])  -- for each one counted
     ∷ []
+
+-- a column
+abbrev pub byForm : (ℕ → ℕ) → List ℕ
+byForm g = g 0 ∷ g 1 ∷ g 2 ∷ g 3 ∷ g 4 ∷ g 5 ∷ g 6 ∷ g 7 ∷ g 8 ∷ g 9 ∷ []
 
 -- number j of form f
 abbrev pub limitOf : List (List ℕ) → ℕ → ℕ → ℕ
-limitOf t f j = getD (getD t f []) j 0
+limitOf t f j = getD (getD t j []) f 0
 
 -- x is between the numbers j and j + 1 of form f
 abbrev pub Between : List (List ℕ) → ℕ → ℕ → ℕ → Type 0

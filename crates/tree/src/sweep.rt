@@ -1,21 +1,26 @@
 // Checks 3 to 7 in one pass: whether none of them applies. Which one does, and where, the checks in order say.
 ghost use mathlib.Core.Path.{_≡_};
 ghost use mathlib.Core.Bool.{cond};
-ghost use Prim.Native.Nat.{_<_};
-ghost use Rattle.tree.specs.Held.{Grounded, Steps};
+ghost use Prim.Native.Nat.{_+_, _<_, _≤_};
+ghost use lib.ListN.{length};
+ghost use Rattle.tree.specs.Record.{records};
+ghost use Rattle.tree.specs.Held.{Steps};
 ghost use Rattle.tree.specs.Clear.{Tells, Clear};
 use crate::limits;
 use crate::nest::DEEPEST;
 use crate::record;
 use crate::scan::taken;
+use table::wide;
 
-// The tables of the open records but for the innermost: one place for each nesting, and place 0, where none is kept.
+// An open record is one word: its nesting, and this for each child to come. The script is the outermost, of nesting 0.
+const CHILD: usize = 128;
+
+// The table of the open records but for the innermost: one place for each nesting below 64, and place 0, where none is kept.
 const PLACES: usize = 65;
 
-// The innermost open record: its children to come, its nesting, and the place where the next one is kept.
+// The innermost open record, and the place where the next one out is kept.
 struct Innermost {
-    left: usize,
-    level: usize,
+    word: usize,
     under: usize,
 }
 
@@ -26,49 +31,43 @@ fn pick(first: bool, a: usize, b: usize) -> usize
 }
 
 // A record with so many children takes a place of the innermost. Answers the innermost then: the record itself, the one before, or the next
-// one out. Which it is comes mixed, as the forms do: each number is picked, and a branch on it would be mispredicted.
-fn step(
-    lefts: &mut [usize; PLACES],
-    levels: &mut [usize; PLACES],
-    a: Innermost,
-    nesting: usize,
-    children: usize,
-) -> Innermost
-    requires { ⌜ a .under < 64 ⌝ }
-    requires { ⌜ Grounded (now lefts) (now levels) ⌝ }
-    ensures { λ r. ⌜ Steps (now (lefts .entry)) (now (levels .entry)) a nesting children (now (lefts .exit)) (now (levels .exit)) r ⌝ }
+// one out. Which it is comes mixed, as the forms do: each number is picked, and a branch on it would be mispredicted. The table is of u32
+// since the compiler would fold the load of a usize into the pick, and then make a branch of it.
+fn step(kept: &mut [u32], a: Innermost, children: usize) -> Innermost
+    requires { ⌜ 128 ≤ a .word ⌝ }
+    requires { ⌜ a .word ≤ 4294967295 ⌝ }
+    requires { ⌜ (a .word < 256 → 0 < a .under) ⌝ }
+    requires { ⌜ a .under + 1 < length (now kept) ⌝ }
+    requires { ⌜ children ≤ 513 ⌝ }
+    ensures { λ r. ⌜ Steps (now (kept .entry)) a children (now (kept .exit)) r ⌝ }
 {
     let under = a.under;
-    let rest = taken(a.left);
-    let outer_left = lefts[under];
-    let outer_level = levels[under];
-    lefts[under + 1] = rest;
-    levels[under + 1] = a.level;
+    let rest = a.word - CHILD;
+    let outer = wide(kept[under]);
+    kept[under + 1] = rest as u32;
     let leaf = children == 0;
-    let done = rest == 0;
+    let done = rest < CHILD;
     Innermost {
-        left: pick(leaf, pick(done, outer_left, rest), children),
-        level: pick(leaf, pick(done, outer_level, a.level), nesting),
-        under: pick(
+        word: pick(
             leaf,
-            pick(done, taken(under), under),
-            pick(done, under, under + 1),
+            pick(done, outer, rest),
+            CHILD * children + a.word % CHILD + 1,
         ),
+        under: under + pick(leaf, 0, 1) - pick(done, 1, 0),
     }
 }
 
-// Kept are the open records that have a child to come: those that a record closes are then one at the most.
+// Kept are the open records that have a child to come: those that a record closes are then one at the most. The script has more to come than
+// there are records, so it is never closed.
 pub fn clear(rs: &[u32], names: usize) -> bool
+    requires { ⌜ length (records (now rs)) ≤ 4096 ⌝ }
     ensures { λ r. ⌜ Tells r (Clear names (now (rs .entry))) ⌝ }
 {
     let n = record::len(rs);
     let t = limits::all(names);
-    // by place: the children to come, and the nesting
-    let mut lefts = [0usize; PLACES];
-    let mut levels = [0usize; PLACES];
+    let mut kept = [0u32; PLACES];
     let mut inner = Innermost {
-        left: 0,
-        level: 0,
+        word: CHILD * (n + 1),
         under: 0,
     };
     let mut due = 0;
@@ -78,18 +77,11 @@ pub fn clear(rs: &[u32], names: usize) -> bool
             return false;
         }
         due = taken(due) + limits::parts(&t, rs, i, limits::NAMES);
-        let nesting = inner.level + 1;
-        if DEEPEST < nesting {
+        if DEEPEST <= inner.word % CHILD {
             return false;
         }
-        inner = step(
-            &mut lefts,
-            &mut levels,
-            inner,
-            nesting,
-            limits::parts(&t, rs, i, limits::CHILDREN),
-        );
+        inner = step(&mut kept, inner, limits::parts(&t, rs, i, limits::CHILDREN));
         i += 1;
     }
-    inner.left == 0
+    inner.word % CHILD == 0
 }

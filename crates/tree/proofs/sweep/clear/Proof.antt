@@ -3,26 +3,32 @@ use borrow.Author.Needs.{needs}
 use borrow.Author.Tests.{not-true, not-false, eqb-true, eq-eqb}
 use native.Mathlib.Omega.{arith}
 use Prim.Native.Nat.{_-_}
-use mathlib.Core.Path.{refl}
 use lib.ListN.{length}
 use Rattle.tree.specs.Record.{records}
 use Rattle.tree.specs.RecordLaws.{nth}
 use Rattle.tree.specs.Limits.{Within}
 use Rattle.tree.proofs.Telling.{tells-no, tells-without}
 use Rattle.tree.proofs.Limiting.{tells-sound, names-at, children-at, names-few, children-few}
-use Rattle.tree.proofs.Standing.{stand-under}
+use Rattle.tree.proofs.Standing.{stand-some, stand-last, stand-under}
 use Rattle.tree.proofs.Sweeping.{Sweeping, sweep-begin, sweep-next, sweep-end, clear-sound, clear-near, clear-none}
 use Rattle.tree.proofs.sweep.clear.Statement.{statement}
 use Rattle.tree.proofs.sweep.clear.Tie as tie
 
 abbrev Inv-loop : tie.InvT-loop
-Inv-loop rs names n t lefts₀ levels₀ inner₀ due₀ i₀ lefts levels inner due i = Sweeping names rs lefts levels inner due i
+Inv-loop rs names n t kept₀ inner₀ due₀ i₀ kept inner due i = Sweeping names rs kept inner due i
 
 abbrev μ-loop : tie.MeasureT-loop
-μ-loop rs names n t lefts₀ levels₀ inner₀ due₀ i₀ lefts levels inner due i = length (records rs) - i
+μ-loop rs names n t kept₀ inner₀ due₀ i₀ kept inner due i = length (records rs) - i
+
+-- the loop's turn
+abbrev loop : tie.Else1 Inv-loop μ-loop → tie.At-loop Inv-loop μ-loop
+loop c = c .before .before .before .before
+
+abbrev passed : tie.After-t3 Inv-loop μ-loop → tie.Else1 Inv-loop μ-loop
+passed c = c .before .before .before .before .before .before .before
 
 -- the record is within its form's limits
-fit : (c : tie.Else1 Inv-loop μ-loop) → let l = c .before .before .before .before in Within (l .before .all .result) (nth (l .before .before .before .before .args .rs .now) (l .loop .i)) (l .loop .due)
+fit : (c : tie.Else1 Inv-loop μ-loop) → let l = loop c in Within (l .before .all .result) (nth (l .before .before .before .before .args .rs .now) (l .loop .i)) (l .loop .due)
 fit c = c .before .within .ensures .yes (not-false _ (c .if1 .left))
 
 len-requires : tie.Need-len-requires Inv-loop μ-loop
@@ -31,8 +37,14 @@ len-requires c κs = search needs
 all-requires : tie.Need-all-requires Inv-loop μ-loop
 all-requires c κs = search needs
 
+add-t10 : tie.Need-add-t10 Inv-loop μ-loop
+add-t10 c = search needs
+
+mul-t11 : tie.Need-mul-t11 Inv-loop μ-loop
+mul-t11 c = search needs
+
 loop-holds : tie.Need-loop-holds Inv-loop μ-loop
-loop-holds c = sweep-begin _ _
+loop-holds c = sweep-begin _ _ (c .before .before .before .pre) (c .before .len .ensures)
 
 within-requires : tie.Need-within-requires Inv-loop μ-loop
 within-requires c κs = omega arith
@@ -50,31 +62,40 @@ parts-requires : tie.Need-parts-requires Inv-loop μ-loop
 parts-requires c κs =
     let e = c .before .before in
     let f = fit e in
-    (omega arith, (f .fields .known, (omega arith, omega (arith, names-few _ (e .before .before .before .before .before .all .ensures) _ f))))
+    (omega arith, (f .fields .known, (omega arith, omega (arith, names-few _ (loop e .before .all .ensures) _ f))))
 
 add-due : tie.Need-add-due Inv-loop μ-loop
 add-due c =
     let e = c .before .before .before in
-    let l = e .before .before .before .before in
+    let l = loop e in
     omega (arith, c .parts .ensures, names-few _ (l .before .all .ensures) _ (fit e), c .before .before .taken .ensures, l .loop .inv .few)
 
-add-nesting : tie.Need-add-nesting Inv-loop μ-loop
-add-nesting c = omega (arith, c .before .before .before .before .before .before .before .before .loop .inv .places .few)
-
 returns-2 : tie.Need-returns-2 Inv-loop μ-loop
-returns-2 c = tells-no (λ k. let h = clear-near (c .before .before .before .before .before .before .before .before .before .loop .inv) k (omega arith) in omega arith)
+returns-2 c = tells-no (λ k. let h = clear-near (loop (c .before .before .before .before .before) .loop .inv) k (omega arith) in omega arith)
+
+slice-aggregate-step : tie.Need-slice-aggregate-step Inv-loop μ-loop
+slice-aggregate-step c = search needs
 
 parts-requires-2 : tie.Need-parts-requires-2 Inv-loop μ-loop
 parts-requires-2 c κs =
-    let e = c .before .before .before .before .before .before .before .before in
+    let e = passed c in
     let f = fit e in
-    (omega arith, (f .fields .known, (omega arith, omega (arith, children-few _ (e .before .before .before .before .before .all .ensures) _ f))))
+    (omega arith, (f .fields .known, (omega arith, omega (arith, children-few _ (loop e .before .all .ensures) _ f))))
 
 step-requires : tie.Need-step-requires Inv-loop μ-loop
 step-requires c κs =
-    let l = c .before .before .before .before .before .before .before .before .before .before .before .before .before in
-    let a = l .loop .inv .places in
-    (omega (arith, stand-under a), a .ground)
+    let e = passed (c .before) in
+    let l = loop e in
+    let a = l .loop .inv .places in (
+      stand-some a (omega arith),
+      (
+        a .few,
+        (
+          stand-last a (omega arith),
+          (stand-under a (omega arith) (c .before .before .before .if2 .left), omega (arith, c .parts2 .ensures, children-few _ (l .before .all .ensures) _ (fit e))),
+        ),
+      ),
+    )
 
 add-i : tie.Need-add-i Inv-loop μ-loop
 add-i c = omega arith
@@ -84,14 +105,14 @@ loop-less c = omega arith
 
 loop-again : tie.Need-loop-again Inv-loop μ-loop
 loop-again c =
-    let d = c .before .before .before .before .before in
-    let p = d .before .before in
-    let e = p .before .before .before in
-    let l = e .before .before .before .before in
+    let d = c .before .before in
+    let p = d .before .before .before .before .before in
+    let e = passed (d .before) in
+    let l = loop e in
     let k = l .before .all .ensures in
     let f = fit e in
     sweep-next (l .loop .inv) (omega arith) (tells-sound _ k _ (l .loop .inv .few) (e .before .within .ensures) .yes (not-false _ (e .if1 .left)))
-    (rw (p .before .before .taken .ensures, p .parts .ensures, names-at _ k _ f)) refl (d .if2 .left) (c .step .ensures) (rw (c .before .parts2 .ensures) (children-at _ k _ f))
+    (rw (p .before .before .taken .ensures, p .parts .ensures, names-at _ k _ f)) (d .before .before .before .if2 .left) (c .before .step .ensures) (rw (d .parts2 .ensures) (children-at _ k _ f))
 
 returns-3 : tie.Need-returns-3 Inv-loop μ-loop
 returns-3 c =
@@ -106,14 +127,16 @@ clear-spec =
     μ-loop
     len-requires
     all-requires
+    add-t10
+    mul-t11
     loop-holds
     within-requires
     returns
     taken-requires
     parts-requires
     add-due
-    add-nesting
     returns-2
+    slice-aggregate-step
     parts-requires-2
     step-requires
     add-i

@@ -1,45 +1,50 @@
 -- `step`: the innermost then is picked by two tests.
 use borrow.Author.Needs.{needs}
-use mathlib.Core.Path.{_∙_}
-use Rattle.tree.proofs.Holding.{steps}
+use mathlib.Core.Path.{refl, _∙_}
+use native.Mathlib.Omega.{arith}
+use lib.Dec.{eqb}
+use Rattle.tree.proofs.Holding.{one-more, no-less, steps}
 use Rattle.tree.proofs.sweep.step.Statement.{statement}
 use Rattle.tree.proofs.sweep.step.Tie as tie
 
-taken-requires : tie.Need-taken-requires
-taken-requires c κs = search needs
+abbrev start : tie.After-pick3 → tie.Start
+start c = c .before .before .before .before .before .before .before .before
 
-mul-outer-left : tie.Need-mul-outer-left
-mul-outer-left c = search needs
+sub-rest : tie.Need-sub-rest
+sub-rest c = search needs
 
-element-copy-out-outer-left : tie.Need-element-copy-out-outer-left
-element-copy-out-outer-left c = search needs
+mul-wide : tie.Need-mul-wide
+mul-wide c = search needs
 
-mul-outer-level : tie.Need-mul-outer-level
-mul-outer-level c = search needs
+slice-read-wide : tie.Need-slice-read-wide
+slice-read-wide c = search needs
 
-element-copy-out-outer-level : tie.Need-element-copy-out-outer-level
-element-copy-out-outer-level c = search needs
+wide-requires : tie.Need-wide-requires
+wide-requires c κs = search needs
 
-add-lefts : tie.Need-add-lefts
-add-lefts c = search needs
+cast-kept : tie.Need-cast-kept
+cast-kept c = search needs
 
-mul-lefts : tie.Need-mul-lefts
-mul-lefts c = search needs
+add-kept : tie.Need-add-kept
+add-kept c = search needs
 
-element-write-lefts : tie.Need-element-write-lefts
-element-write-lefts c = search needs
+mul-kept : tie.Need-mul-kept
+mul-kept c = search needs
 
-add-levels : tie.Need-add-levels
-add-levels c = search needs
-
-mul-levels : tie.Need-mul-levels
-mul-levels c = search needs
-
-element-write-levels : tie.Need-element-write-levels
-element-write-levels c = search needs
+slice-write-kept : tie.Need-slice-write-kept
+slice-write-kept c = search needs
 
 pick-requires : tie.Need-pick-requires
 pick-requires c κs = search needs
+
+mul-pick : tie.Need-mul-pick
+mul-pick c = search needs
+
+add-pick : tie.Need-add-pick
+add-pick c = search needs
+
+add-pick-2 : tie.Need-add-pick-2
+add-pick-2 c = search needs
 
 pick-requires-2 : tie.Need-pick-requires-2
 pick-requires-2 c κs = search needs
@@ -47,59 +52,52 @@ pick-requires-2 c κs = search needs
 pick-requires-3 : tie.Need-pick-requires-3
 pick-requires-3 c κs = search needs
 
+add-t19 : tie.Need-add-t19
+add-t19 c = omega (arith, c .pick3 .ensures, one-more (eqb (start c .args .children) 0))
+
 pick-requires-4 : tie.Need-pick-requires-4
 pick-requires-4 c κs = search needs
 
-taken-requires-2 : tie.Need-taken-requires-2
-taken-requires-2 c κs = search needs
+sub-t21 : tie.Need-sub-t21
+sub-t21 c =
+    let s = start (c .before) in
+    omega (arith, c .before .pick3 .ensures, c .pick4 .ensures, no-less _ _ refl (s .pre .0) (s .pre .1 .1 .0) (eqb (s .args .children) 0) _ refl)
 
-pick-requires-5 : tie.Need-pick-requires-5
-pick-requires-5 c κs = search needs
-
-add-pick : tie.Need-add-pick
-add-pick c = search needs
-
-pick-requires-6 : tie.Need-pick-requires-6
-pick-requires-6 c κs = search needs
-
-pick-requires-7 : tie.Need-pick-requires-7
-pick-requires-7 c κs = search needs
+same-length : tie.Need-same-length
+same-length c = search needs
 
 returns : tie.Need-returns
 returns c =
     let p = c .before .before in
-    let v = p .before .before in
-    let l = v .before .before in
-    let t = l .before .before .before .before in
-    let s = t .before in
-    steps _ _ _ _ (t .taken .ensures) (s .pre .1) (s .pre .0) _ _ _ (record {
-      left = l .pick2 .ensures ∙ rw (l .before .pick .ensures);
-      level = v .pick4 .ensures ∙ rw (v .before .pick3 .ensures);
-      under = c .pick7 .ensures ∙ rw (p .pick5 .ensures, c .before .pick6 .ensures, p .before .taken2 .ensures);
+    let t = p .before .before in
+    let w = t .before in
+    let s = start (c .before) in
+    let q = s .pre .1 .1 in
+    steps _ _ refl (s .pre .0) (q .0) _ (q .1 .0) _ _ (s .pre .1 .0) (omega (arith, w .before .slice-known2 .given (s .args .a .under))) (q .1 .1) (record {
+      word = p .pick2 .ensures ∙ rw (t .pick .ensures, w .wide .ensures);
+      under = rw (c .before .pick3 .ensures, c .pick4 .ensures);
     })
 
 pub step-spec : {M : Type 1} → statement M
 step-spec =
     tie.close
     (tie.spec
-    taken-requires
-    mul-outer-left
-    element-copy-out-outer-left
-    mul-outer-level
-    element-copy-out-outer-level
-    add-lefts
-    mul-lefts
-    element-write-lefts
-    add-levels
-    mul-levels
-    element-write-levels
+    sub-rest
+    mul-wide
+    slice-read-wide
+    wide-requires
+    cast-kept
+    add-kept
+    mul-kept
+    slice-write-kept
     pick-requires
+    mul-pick
+    add-pick
+    add-pick-2
     pick-requires-2
     pick-requires-3
+    add-t19
     pick-requires-4
-    taken-requires-2
-    pick-requires-5
-    add-pick
-    pick-requires-6
-    pick-requires-7
+    sub-t21
+    same-length
     returns)
