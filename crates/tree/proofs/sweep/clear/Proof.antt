@@ -92,7 +92,7 @@ step-requires c κs =
         a .few,
         (
           stand-last a (omega arith),
-          (stand-under a (omega arith) (c .before .before .before .if2 .left), omega (arith, c .parts2 .ensures, children-few _ (l .before .all .ensures) _ (fit e))),
+          (stand-under a (omega arith) (omega (arith, c .before .before .before .if2 .left)), omega (arith, c .parts2 .ensures, children-few _ (l .before .all .ensures) _ (fit e))),
         ),
       ),
     )
