@@ -57,6 +57,10 @@ pub few-children : (f c : ℕ) → childrenOf f c ≤ 2 * c + 3
 unfolding formOf namesOf othersOf childrenOf
 few-children f c = by-form (λ n. childrenOf n c ≤ 2 * c + 3) (omega arith) (λ n h. rw (unknown n h) (omega arith)) f
 
+pub more-children : (f : ℕ) → childrenOf f 0 ≤ childrenOf f 1
+unfolding formOf namesOf othersOf childrenOf
+more-children f = by-form (λ n. childrenOf n 0 ≤ childrenOf n 1) (omega arith) (λ n h. rw (unknown n h) (omega arith)) f
+
 -- a count of 32 bits gives no more
 pub children-at : {n f c g d : ℕ} → n ≡ childrenOf f c → f ≡ g → c ≡ d → c < 4294967296 → (n ≡ childrenOf g d) × (n ≤ 8589934593)
 children-at {f = f} {c} e p q h = (e ∙ rw (p, q), omega (arith, e, few-children f c))
@@ -64,6 +68,10 @@ children-at {f = f} {c} e p q h = (e ∙ rw (p, q), omega (arith, e, few-childre
 pub few-names : (f c : ℕ) → namesOf f c ≤ c + 1
 unfolding formOf namesOf
 few-names f c = by-form (λ n. namesOf n c ≤ c + 1) (omega arith) (λ n h. rw (unknown n h) (omega arith)) f
+
+pub more-names : (f : ℕ) → namesOf f 0 ≤ namesOf f 1
+unfolding formOf namesOf
+more-names f = by-form (λ n. namesOf n 0 ≤ namesOf n 1) (omega arith) (λ n h. rw (unknown n h) (omega arith)) f
 
 counted-names : (f c : ℕ) → c ≤ mostIn (formOf f) → namesOf f c ≤ 255
 unfolding formOf namesOf

@@ -1,8 +1,11 @@
 -- The limits by form as ten columns, each with an entry for the forms 0 to 9.
-use Prim.Native.Nat.{ℕ, _+_, _*_, _≤_, _<_}
+use Prim.Native.Nat.{ℕ, _+_, _-_, _*_, _≤_, _<_}
 use mathlib.Core.List.{List, [], _∷_}
+use mathlib.Core.Bool.{cond}
 use lib.ListN.{getD}
+use lib.Dec.{eqb}
 use Rattle.tree.specs.Record.{Record}
+use Rattle.tree.specs.Form.{namesOf, childrenOf}
 
 -- N is the number of names
 unfoldable pub limits : ℕ → List (List ℕ)
@@ -18,6 +21,10 @@ limits N =
     ∷ (0 ∷ 0 ∷ 0 ∷ 3 ∷ 1 ∷ 2 ∷ 1 ∷ 0 ∷ 0 ∷ 2 ∷ [])  -- the children: of every record
     ∷ (0 ∷ 0 ∷ 0 ∷ 0 ∷ 2 ∷ 0 ∷ 1 ∷ 1 ∷ 1 ∷ 0 ∷ [])  -- for each one counted
     ∷ []
+
+-- the last four: the names at a count of 0, and how many more there are at 1; the children alike
+abbrev pub partIn : ℕ → ℕ → ℕ
+partIn j f = cond (eqb j 6) (namesOf f 0) (cond (eqb j 7) (namesOf f 1 - namesOf f 0) (cond (eqb j 8) (childrenOf f 0) (childrenOf f 1 - childrenOf f 0)))
 
 -- a column
 abbrev pub byForm : (ℕ → ℕ) → List ℕ

@@ -1,7 +1,7 @@
 // The nine forms: how many children a record has, and how many of them are names.
 ghost use mathlib.Core.Path.{_≡_};
 ghost use mathlib.Core.Bool.{true};
-ghost use Prim.Native.Nat.{_/_, _%_, _≤_};
+ghost use Prim.Native.Nat.{_≤_};
 ghost use Rattle.tree.specs.Form.{formOf, namesOf, childrenOf};
 ghost use Rattle.tree.specs.Entry.{entryOf, partsOf, entriesOf};
 ghost use Rattle.tree.specs.Field.{isForm};
@@ -13,10 +13,10 @@ pub const FORMS: u32 = 9;
 // The f, of no form, keeps the compiler from making a branch of a part of an entry that is 0 or 1 elsewhere.
 
 // The children of every record, and four times those for each one counted.
-pub const CHILDREN: u64 = 0xf2445293000;
+const CHILDREN: u64 = 0xf2445293000;
 
 // The names among them, alike.
-pub const NAMES: u64 = 0xf1004140000;
+const NAMES: u64 = 0xf1004140000;
 
 // A form's entry of a table.
 fn digit(table: u64, form: u32) -> usize
@@ -34,19 +34,6 @@ fn entry(table: u64, form: u32) -> usize
         return (table % 16) as usize;
     }
     digit(table, form)
-}
-
-// The two parts of a form's entry: how many of every record, and how many for each one counted.
-pub fn always(table: u64, form: u32) -> usize
-    ensures { λ r. ⌜ r ≡ entryOf table form % 4 ⌝ }
-{
-    entry(table, form) % 4
-}
-
-pub fn each(table: u64, form: u32) -> usize
-    ensures { λ r. ⌜ r ≡ entryOf table form / 4 ⌝ }
-{
-    entry(table, form) / 4
 }
 
 // The two parts of an entry together, the upper one for each of `many`.

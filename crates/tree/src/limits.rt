@@ -1,11 +1,10 @@
 // The table of forms as an array, made once for many records: a limit is then one load, and no branch on the form.
 ghost use mathlib.Core.Path.{_≡_};
-ghost use Prim.Native.Nat.{_/_, _%_, _<_, _≤_};
+ghost use Prim.Native.Nat.{_<_, _≤_};
 ghost use lib.ListN.{length};
 ghost use Rattle.tree.specs.Record.{records};
 ghost use Rattle.tree.specs.RecordLaws.{nth};
-ghost use Rattle.tree.specs.Entry.{entryOf};
-ghost use Rattle.tree.specs.Limits.{byForm, limits, limitOf, Between, partsAt, Fields, Within};
+ghost use Rattle.tree.specs.Limits.{byForm, partIn, limits, limitOf, Between, partsAt, Fields, Within};
 ghost use Rattle.tree.specs.Clear.{Tells};
 use crate::form;
 use crate::record;
@@ -35,39 +34,37 @@ pub const NAMES: usize = 6;
 
 pub const CHILDREN: usize = 8;
 
-// By form, how many of every record. The table is a constant at each call, and so is each number.
-fn always(table: u64) -> [usize; 10]
-    ensures { λ r. ⌜ r ≡ byForm (λ f. entryOf table f % 4) ⌝ }
+// A form's number in one of the last four columns. Both are constants at each call, and so is the number.
+fn part(j: usize, form: u32) -> usize
+    ensures { λ r. ⌜ r ≡ partIn j form ⌝ }
 {
-    [
-        form::always(table, 0),
-        form::always(table, 1),
-        form::always(table, 2),
-        form::always(table, 3),
-        form::always(table, 4),
-        form::always(table, 5),
-        form::always(table, 6),
-        form::always(table, 7),
-        form::always(table, 8),
-        form::always(table, 9),
-    ]
+    if j == NAMES {
+        return form::names(form, 0);
+    }
+    if j == NAMES + 1 {
+        return form::names(form, 1) - form::names(form, 0);
+    }
+    if j == CHILDREN {
+        return form::children(form, 0);
+    }
+    form::children(form, 1) - form::children(form, 0)
 }
 
-// By form, how many for each one counted.
-fn each(table: u64) -> [usize; 10]
-    ensures { λ r. ⌜ r ≡ byForm (λ f. entryOf table f / 4) ⌝ }
+// One of these columns.
+fn column(j: usize) -> [usize; 10]
+    ensures { λ r. ⌜ r ≡ byForm (partIn j) ⌝ }
 {
     [
-        form::each(table, 0),
-        form::each(table, 1),
-        form::each(table, 2),
-        form::each(table, 3),
-        form::each(table, 4),
-        form::each(table, 5),
-        form::each(table, 6),
-        form::each(table, 7),
-        form::each(table, 8),
-        form::each(table, 9),
+        part(j, 0),
+        part(j, 1),
+        part(j, 2),
+        part(j, 3),
+        part(j, 4),
+        part(j, 5),
+        part(j, 6),
+        part(j, 7),
+        part(j, 8),
+        part(j, 9),
     ]
 }
 
@@ -82,10 +79,10 @@ pub fn all(names: usize) -> Columns
         [0, 0, 0, 0, COUNTED, 0, COUNTED, COUNTED, COUNTED, 0],
         [1, names, 2, 1, 1, 1, 1, 1, 1, 1],
         [0, COUNTED, 0, 0, 0, 0, 0, 0, 0, 0],
-        always(form::NAMES),
-        each(form::NAMES),
-        always(form::CHILDREN),
-        each(form::CHILDREN),
+        column(NAMES),
+        column(NAMES + 1),
+        column(CHILDREN),
+        column(CHILDREN + 1),
     ]
 }
 

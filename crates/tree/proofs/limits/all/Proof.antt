@@ -1,34 +1,42 @@
 -- `all`: a column after another.
 use borrow.Author.Needs.{needs}
-use Rattle.tree.specs.Entry.{entryOf}
+use Rattle.tree.specs.Form.{formOf, namesOf, othersOf, childrenOf}
 use Rattle.tree.specs.Limits.{limits}
 use Rattle.tree.proofs.limits.all.Statement.{statement}
 use Rattle.tree.proofs.limits.all.Tie as tie
 
-always-requires : tie.Need-always-requires
-always-requires c κs = search needs
+column-requires : tie.Need-column-requires
+column-requires c κs = search needs
 
-each-requires : tie.Need-each-requires
-each-requires c κs = search needs
+add-column : tie.Need-add-column
+add-column c = search needs
 
-always-requires-2 : tie.Need-always-requires-2
-always-requires-2 c κs = search needs
+column-requires-2 : tie.Need-column-requires-2
+column-requires-2 c κs = search needs
 
-each-requires-2 : tie.Need-each-requires-2
-each-requires-2 c κs = search needs
+column-requires-3 : tie.Need-column-requires-3
+column-requires-3 c κs = search needs
+
+add-column-2 : tie.Need-add-column-2
+add-column-2 c = search needs
+
+column-requires-4 : tie.Need-column-requires-4
+column-requires-4 c κs = search needs
 
 returns : tie.Need-returns
-unfolding entryOf limits
+unfolding limits formOf namesOf othersOf childrenOf
 returns c =
     let d = c .before .before in
-    rw (c .each2 .ensures, c .before .always2 .ensures, d .each .ensures, d .before .always .ensures)
+    rw (c .column4 .ensures, c .before .column3 .ensures, d .column2 .ensures, d .before .column .ensures)
 
 pub all-spec : {M : Type 1} → statement M
 all-spec =
     tie.close
     (tie.spec
-    always-requires
-    each-requires
-    always-requires-2
-    each-requires-2
+    column-requires
+    add-column
+    column-requires-2
+    column-requires-3
+    add-column-2
+    column-requires-4
     returns)
