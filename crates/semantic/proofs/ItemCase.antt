@@ -4,18 +4,16 @@ use mathlib.Core.List.{List, _∷_}
 use mathlib.Core.Bool.{Bool, true, false, _&&_}
 use mathlib.Core.Path.{_≡_, refl, ap, sym, _∙_}
 use native.Mathlib.Omega.{arith}
-use native.Mathlib.Numerals.{add-one}
 use borrow.Author.Tests.{eq-eqb, ne-eqb}
 use lib.ListN.{getD, set, drop}
 use lib.Seq.{sets}
 use lib.Dec.{eqb}
 use Rattle.table.specs.Leaves.{stores-row, tells-number, tells-first, amends-number, amends-then}
-use Rattle.tree.specs.Tree.{bit}
 use Rattle.semantic.specs.Rows.{Item, marks, putInfo, noItem, itemWidth, putItem, item-long}
-use Rattle.semantic.specs.Items.{onInfo, usedInfo, withCaptureOffsets, withHeapOffsets, withEnclosing, withHeap}
+use Rattle.semantic.specs.Items.{onInfo, withCaptureOffsets, withHeapOffsets}
 use Rattle.semantic.specs.Decode.{infoOf, info-back}
-use Rattle.semantic.specs.Marks.{captured-mark, mutated-mark, enclosing-changed}
-use Rattle.semantic.specs.Leaves.{Amends, Tells, StoresItem, item-uses}
+use Rattle.semantic.specs.Marks.{captured-mark, mutated-mark}
+use Rattle.semantic.specs.Leaves.{Amends, Tells, StoresItem}
 use Rattle.semantic.specs.declared.ScopeInfo.{ScopeInfo}
 
 -- a row but for the number that a call gave
@@ -75,24 +73,6 @@ module _ (F : List ℕ) (i : ℕ) where
   pub sets-field : (f : ScopeInfo → ScopeInfo) (j x : ℕ) → j < itemWidth → ((a : Item) → putItem (onInfo f a) ≡ set (putItem a) j x)
       → Amends putItem noItem (onInfo f) F i (set F (itemWidth * i + j) x)
   sets-field f j x g k = amends-number itemWidth putItem item-long noItem F i (onInfo f) j x g (λ l e h. k (getD l i noItem))
-
-  pub uses-item : Amends putItem noItem (onInfo usedInfo) F i (set F (itemWidth * i + 3) (getD F (itemWidth * i + 3) 0 + 1))
-  unfolding putItem putInfo
-  uses-item =
-      amends-number itemWidth putItem item-long noItem F i (onInfo usedInfo) 3 (getD F (itemWidth * i + 3) 0 + 1) (omega arith)
-      (λ l e h. rw (item-uses F i .is l e h, add-one))
-
-  pub sets-heap : (x : ℕ) → Amends putItem noItem (onInfo (withHeap x)) F i (set F (itemWidth * i + 7) x)
-  unfolding putItem putInfo
-  sets-heap x = sets-field (withHeap x) 7 x (omega arith) (λ a. refl)
-
-  pub sets-enclosing : (b : Bool) → Amends putItem noItem (onInfo (withEnclosing b)) F i (set F (itemWidth * i + 2) (number / 8 * 8 + 4 * bit b + number % 4))
-  unfolding putItem putInfo
-  sets-enclosing b =
-      amends-number itemWidth putItem item-long noItem F i (onInfo (withEnclosing b)) 2 (number / 8 * 8 + 4 * bit b + number % 4) (omega arith)
-      (λ l e h.
-      let v = getD l i noItem .info in
-      rw (marks-told .is l e h, enclosing-changed (v .captured) (v .escapes) (v .«captured_from_enclosing») (v .mutated) b))
 
 -- Several numbers, one after another
 

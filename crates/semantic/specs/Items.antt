@@ -1,31 +1,11 @@
 -- The fields of an entry changed, as a second run does.
-use Prim.Native.Nat.{ℕ, suc}
+use Prim.Native.Nat.{ℕ}
 use mathlib.Core.Bool.{Bool}
 use Rattle.semantic.specs.Rows.{Item}
 use Rattle.semantic.specs.declared.ScopeInfo.{ScopeInfo}
 
 abbrev pub onInfo : (ScopeInfo → ScopeInfo) → Item → Item
 onInfo f i = record { binder = i .binder; info = f (i .info) }
-
--- an entry that is used once more
-abbrev pub usedInfo : ScopeInfo → ScopeInfo
-usedInfo c = record {
-  id = c .id;
-  captured = c .captured;
-  «usage_count» = suc (c .«usage_count»);
-  «last_used» = c .«last_used»;
-  «stack_offset» = c .«stack_offset»;
-  escapes = c .escapes;
-  «capture_offset» = c .«capture_offset»;
-  «captured_from_enclosing» = c .«captured_from_enclosing»;
-  mutated = c .mutated;
-  «heap_offset» = c .«heap_offset»;
-  «read_capture_offset» = c .«read_capture_offset»;
-  «read_heap_offset» = c .«read_heap_offset»;
-  «parent_heap_offset» = c .«parent_heap_offset»;
-  «local_heap_offset» = c .«local_heap_offset»;
-  depth = c .depth;
-}
 
 -- its capture offset, and where it is read
 abbrev pub withCaptureOffsets : ℕ → ℕ → ScopeInfo → ScopeInfo

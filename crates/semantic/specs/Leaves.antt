@@ -8,7 +8,7 @@ use lib.ListN.{length, getD, set}
 use Rattle.table.specs.Layout.{layout}
 use Rattle.table.specs.Leaves.{inside, tells-number}
 use Rattle.semantic.specs.Information.{NONE}
-use Rattle.semantic.specs.Rows.{Row, Blank, Variable, Function, CallSite, Let, rowWidth, putRow, row-long, Item, putInfo, noItem, itemWidth, putItem, item-long}
+use Rattle.semantic.specs.Rows.{Row, Blank, Variable, Function, CallSite, Let, rowWidth, putRow, row-long, Item, noItem, itemWidth, putItem, item-long}
 use Rattle.semantic.specs.Amend.{amended}
 use Rattle.semantic.specs.Kinds.{isVariable, isIdentifier}
 use Rattle.semantic.specs.KindLaws.{variable-told}
@@ -56,8 +56,3 @@ uses-fit l {F} {i} e h k = record {
 -- an item of this name and this info is row i
 pub record StoresItem (F : List ℕ) (i name : ℕ) (info : ScopeInfo) (F′ : List ℕ) : Type 0 where
   pub is : (x : Item) → x .binder .name ≡ name → x .info ≡ info → Stores putItem F i x F′
-
--- the uses of the entry in row i
-pub item-uses : (F : List ℕ) (i : ℕ) → Tells putItem noItem (λ x. x .info .«usage_count») F i (getD F (itemWidth * i + 3) 0)
-unfolding putItem putInfo
-item-uses F i = tells-number itemWidth putItem item-long noItem F i 3 (omega arith)

@@ -32,7 +32,3 @@ module _ (captured escapes enclosing mutated : Bool) where
   mutated-mark =
       let e : m / 8 % 2 ≡ bit mutated = omega (arith, bit-low captured, bit-low escapes, bit-low enclosing, bit-low mutated) in
       rw e (bit-one mutated)
-
-  -- the third one is changed
-  pub enclosing-changed : (b : Bool) → marks captured escapes b mutated ≡ m / 8 * 8 + 4 * bit b + m % 4
-  enclosing-changed b = omega (arith, bit-low captured, bit-low escapes, bit-low enclosing)

@@ -3,11 +3,10 @@ use crate::ScopeInfo;
 ghost use mathlib.Core.Path.{_≡_};
 ghost use mathlib.Core.Bool.{_&&_};
 ghost use mathlib.Core.List.{_∷_};
-ghost use Prim.Native.Nat.{_+_, _*_, _≤_, _<_};
-ghost use lib.ListN.{length, getD};
-ghost use Rattle.semantic.specs.Information.{NONE};
+ghost use Prim.Native.Nat.{_+_, _*_, _≤_};
+ghost use lib.ListN.{length};
 ghost use Rattle.semantic.specs.Rows.{marks, putInfo, noItem, itemWidth, putItem};
-ghost use Rattle.semantic.specs.Items.{onInfo, usedInfo, withCaptureOffsets, withHeapOffsets, withEnclosing, withHeap};
+ghost use Rattle.semantic.specs.Items.{onInfo, withCaptureOffsets, withHeapOffsets};
 ghost use Rattle.semantic.specs.Decode.{infoOf};
 ghost use Rattle.semantic.specs.Leaves.{Amends, Tells, StoresItem};
 
@@ -102,15 +101,6 @@ pub fn is_heap(t: &[u32], i: usize) -> bool
     marks % 2 == 1 && marks / 8 % 2 == 1
 }
 
-// One use more.
-pub fn use_item(t: &mut [u32], i: usize)
-    requires { ⌜ (itemWidth * i + itemWidth ≤ length (now t)) × (getD (now t) (itemWidth * i + 3) 0 < NONE) ⌝ }
-    ensures { λ _. ⌜ Amends putItem noItem (onInfo usedInfo) (now (t .entry)) i (now (t .exit)) ⌝ }
-{
-    let count = 13 * i + 3;
-    t[count] = t[count] + 1;
-}
-
 pub fn with_capture_offsets(t: &mut [u32], i: usize, offset: u32, read: u32)
     requires { ⌜ itemWidth * i + itemWidth ≤ length (now t) ⌝ }
     ensures { λ _. ⌜ Amends putItem noItem (onInfo (withCaptureOffsets offset read)) (now (t .entry)) i (now (t .exit)) ⌝ }
@@ -129,20 +119,4 @@ pub fn with_heap_offsets(t: &mut [u32], i: usize, heap: u32, read: u32, parent: 
     t[b + 9] = read;
     t[b + 10] = parent;
     t[b + 11] = local;
-}
-
-pub fn with_enclosing(t: &mut [u32], i: usize, enclosing: bool)
-    requires { ⌜ itemWidth * i + itemWidth ≤ length (now t) ⌝ }
-    ensures { λ _. ⌜ Amends putItem noItem (onInfo (withEnclosing enclosing)) (now (t .entry)) i (now (t .exit)) ⌝ }
-{
-    let place = 13 * i + 2;
-    let marks = t[place];
-    t[place] = marks / 8 * 8 + 4 * (enclosing as u32) + marks % 4;
-}
-
-pub fn with_heap(t: &mut [u32], i: usize, heap: u32)
-    requires { ⌜ itemWidth * i + itemWidth ≤ length (now t) ⌝ }
-    ensures { λ _. ⌜ Amends putItem noItem (onInfo (withHeap heap)) (now (t .entry)) i (now (t .exit)) ⌝ }
-{
-    t[13 * i + 7] = heap;
 }
