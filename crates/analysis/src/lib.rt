@@ -5,7 +5,9 @@ use work::BINDERS;
 use work::CAPTURES;
 use work::CAPTURES_HINTS;
 use work::ENTRIES;
+use work::ENTRY;
 use work::Pass;
+use work::RECORDS;
 use work::SCOPE_HINTS;
 use work::TAKEN;
 use work::WORK;
@@ -23,11 +25,6 @@ ghost use Rattle.analysis.specs.Steps.{firstIn, outcomeBy, left, zeroed,
 pub const FACTS: usize = 81920;
 
 pub const ITEMS: usize = 53248;
-
-// The work table has room for the entries of so many records, and an entry is so many numbers.
-const RECORDS: usize = 4096;
-
-const ENTRY: usize = 5;
 
 // What an operation answers: that the tables hold the facts, or a refusal's number and record.
 pub enum Answer {

@@ -1,6 +1,7 @@
 // What is known of live names, by the binder's record.
 use crate::CAPTURES;
 use crate::ENTRIES;
+use crate::ENTRY;
 use crate::narrow;
 use semantic::NONE;
 ghost use mathlib.Core.Path.{_≡_};
@@ -100,7 +101,7 @@ impl Entry {
     }
 }
 
-fn entry_row(e: Entry) -> [u32; 5]
+fn entry_row(e: Entry) -> [u32; ENTRY]
     requires { ⌜ e .uses < 536870912 ⌝ }
     ensures { λ r. ⌜ r ≡ putCoded e ⌝ }
 {
@@ -113,7 +114,7 @@ fn entry_row(e: Entry) -> [u32; 5]
     ]
 }
 
-fn entry_of(row: [u32; 5]) -> Entry
+fn entry_of(row: [u32; ENTRY]) -> Entry
     ensures { λ r. ⌜ r ≡ entryOf row ⌝ }
 {
     let first = row[0];
@@ -135,8 +136,8 @@ pub fn load_entry(work: &[u32], at: usize) -> Entry
     let start = ENTRIES;
     let end = CAPTURES;
     let part = &work[start..end];
-    let mut row = [0; 5];
-    table::get(part, 5 * at, &mut row);
+    let mut row = [0; ENTRY];
+    table::get(part, ENTRY * at, &mut row);
     entry_of(row)
 }
 
@@ -147,5 +148,5 @@ pub fn store_entry(work: &mut [u32], at: usize, e: Entry)
     let row = entry_row(e);
     let start = ENTRIES;
     let end = CAPTURES;
-    table::put(&mut work[start..end], 5 * at, &row);
+    table::put(&mut work[start..end], ENTRY * at, &row);
 }

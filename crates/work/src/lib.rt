@@ -16,6 +16,11 @@ pub const SCOPE_HINTS: usize = 12288;
 
 pub const ENTRIES: usize = 13312;
 
+// So many records have an entry, and an entry is so many numbers.
+pub const RECORDS: usize = 4096;
+
+pub const ENTRY: usize = 5;
+
 pub const CAPTURES: usize = 33792;
 
 pub const CAPTURES_HINTS: usize = 46080;
