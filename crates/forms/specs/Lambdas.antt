@@ -56,7 +56,7 @@ pub record ListOpens (v : FoundFunction) (p : Pass) (C w : List ℕ) : Type 0 wh
   pub s : State
   pub fits : Fits rs (raw p facts C arguments w) s
   pub shallow : p .captures .depth < 4294967295
-  pub lists : (i : FunctionInformation) → functionFound v ≡ some i → Inside (i .«captured_vars») × CapturesRoom p (i .«captured_vars»)
+  pub lists : ListRoom v p
 
 pub record OpensList (v : FoundFunction) (p : Pass) (C w : List ℕ) (p′ : Pass) (C′ w′ : List ℕ) : Type 0 where
   pub is : (rs F A : List ℕ) (s : State) → Fits rs (raw p F C A w) s → Tied (raw p′ F C′ A w′) (openCaptures (functionFound v) s)
