@@ -35,8 +35,8 @@ use Rattle.work.specs.Tied.{raw, Tied, Good}
 use Rattle.work.specs.GoodLaws.{Sized, sized-same, sized-then, sized-amend, good-each}
 use Rattle.work.specs.declared.Pass.{Pass}
 use Rattle.walk.specs.declared.uses.Names.{Names}
-use Rattle.lists.specs.Contract.{Told, Inside, Body, Ended, Held, amendedList, AmendsList, StoresList}
-use Rattle.lists.specs.declared.amend.Ending.{Ending}
+use Rattle.lists.specs.Contract.{Told, Inside, HasBody, SomeLambda, Held, amendedList, AmendsList, StoresList}
+use Rattle.lists.specs.declared.amend.Lambda.{Lambda}
 use Rattle.forms.specs.Contract.{Fits, LambdaEnds, LeavesLambda}
 use Rattle.forms.specs.FitsLaws.{fact-inside, tied-insert, told}
 use Rattle.forms.specs.GoodLaws.{sized-last}
@@ -179,7 +179,7 @@ good-lists (some i) at xs b {s} g =
 
 -- The lists are made
 
-module _ {rs : List ℕ} {at : ℕ} (d : Ending) {v : FoundFunction} {p : Pass} {C A w : List ℕ} (nothing : v ≡ function.Nothing)
+module _ {rs : List ℕ} {at : ℕ} (d : Lambda) {v : FoundFunction} {p : Pass} {C A w : List ℕ} (nothing : v ≡ function.Nothing)
     {a : Pass} {C′ w′ : List ℕ} (lists : StoresList rs at (d .names) p C w a C′ w′) where
   list-fits : {F : List ℕ} {s : State} {xs : List Ident} → Told rs (d .names) xs → Fits rs (raw p F C A w) s → Fits rs (raw a F C′ A w′) (storeCaptured at (madeList xs s) s)
   list-fits {F} {s} {xs} t f = record { good = good-made at xs (f .good); tied = lists .is xs t .is F A s (f .good) (f .tied) }
@@ -239,8 +239,8 @@ module _ {rs : List ℕ} {at : ℕ} (d : Ending) {v : FoundFunction} {p : Pass} 
 
 -- or the captured one is amended
 
-module _ {rs : List ℕ} {at : ℕ} {d : Ending} {v : FoundFunction} {p : Pass} {C A w : List ℕ} {i : FunctionInformation} (found : v ≡ function.Found i) where
-  pub amend-held : ListsEnd rs at d v p C A w → Inside (i .«captured_vars») × Ended rs d × Held rs p C w
+module _ {rs : List ℕ} {at : ℕ} {d : Lambda} {v : FoundFunction} {p : Pass} {C A w : List ℕ} {i : FunctionInformation} (found : v ≡ function.Found i) where
+  pub amend-held : ListsEnd rs at d v p C A w → Inside (i .«captured_vars») × SomeLambda rs d × Held rs p C w
   amend-held a = (
     a .amended i (ap functionFound found),
     record { xs = a .xs; b = a .b; names = a .told; body = a .body },
@@ -294,7 +294,7 @@ leaves-by (some i) m xs b escapes s =
     insert (m .at) (Function (functionFact (some i) (record { first = e .first; length = length h }) (i .arguments) escapes (i .depth))) (rewriteCaptured e h (closed xs s)) in
     ap out r ∙ rw (← c)
 
-module _ {rs : List ℕ} {at : ℕ} {d : Ending} {p : Pass} {F C A w : List ℕ} (few : at < rowsMost) (v : FoundFunction)
+module _ {rs : List ℕ} {at : ℕ} {d : Lambda} {p : Pass} {F C A w : List ℕ} (few : at < rowsMost) (v : FoundFunction)
     (found : Tells putRow Blank functionIn F at (functionFound v)) where
   pub ends-lists : LambdaEnds rs at d p F C A w → ListsEnd rs at d v p C A w
   ends-lists a = record {
@@ -312,7 +312,7 @@ module _ {rs : List ℕ} {at : ℕ} {d : Ending} {p : Pass} {F C A w : List ℕ}
   }
 
   module _ {e : EndedLists} {C′ A′ w′ : List ℕ} (ends : EndsLists rs at d v p C A w e C′ A′ w′) where
-    ended-fits : {s : State} {xs : List Ident} {b : Tree} → Told rs (d .names) xs → Body rs d b → Fits rs (raw p F C A w) s
+    ended-fits : {s : State} {xs : List Ident} {b : Tree} → Told rs (d .names) xs → HasBody rs d b → Fits rs (raw p F C A w) s
         → Fits rs (raw (e .pass) F C′ A′ w′) (withLists (functionFound v) at xs b s)
     ended-fits {s} {xs} {b} t y f = record { good = good-lists (functionFound v) at xs b (f .good); tied = ends .is F s xs b t y f .tied }
 

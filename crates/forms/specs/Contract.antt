@@ -25,8 +25,8 @@ use Rattle.work.specs.declared.Pass.{Pass}
 use Rattle.walk.specs.Contract.{bodyOf}
 use Rattle.walk.specs.declared.uses.Names.{Names}
 use Rattle.walk.specs.declared.body.Body.{Body as Says}
-use Rattle.lists.specs.Contract.{Told, Inside, CapturesRoom, Body}
-use Rattle.lists.specs.declared.amend.Ending.{Ending}
+use Rattle.lists.specs.Contract.{Told, Inside, CapturesRoom, HasBody}
+use Rattle.lists.specs.declared.amend.Lambda.{Lambda}
 use Rattle.flags.specs.Flags.{AroundIs}
 use Rattle.forms.specs.Defines.{enterValue, enterOne, enterEach}
 use Rattle.flags.specs.declared.Around.{Around}
@@ -108,18 +108,18 @@ pub record EndFits (p : Pass) (s : State) (at : ℕ) : Type 0 where
   pub amended : (v : FunctionInformation) → functionIn (rowAt s at) ≡ some v → Inside (v .«captured_vars»)
   pub captured : p .«captured_top» + itemsMost < 4294967296
 
-pub record LambdaEnds (rs : List ℕ) (at : ℕ) (d : Ending) (p : Pass) (F C A w : List ℕ) : Type 0 where
+pub record LambdaEnds (rs : List ℕ) (at : ℕ) (d : Lambda) (p : Pass) (F C A w : List ℕ) : Type 0 where
   pub s : State
   pub xs : List Ident
   pub b : Tree
   pub told : Told rs (d .names) xs
-  pub body : Body rs d b
+  pub body : HasBody rs d b
   pub fits : Fits rs (raw p F C A w) s
   pub few : at < rowsMost
   pub ends : EndFits p s at
 
-pub record LeavesLambda (rs : List ℕ) (at : ℕ) (d : Ending) (escapes : Bool) (p : Pass) (F C A w : List ℕ) (p′ : Pass) (F′ C′ A′ w′ : List ℕ) : Type 0 where
-  pub is : (s : State) (xs : List Ident) (b : Tree) (m : Node) → m .at ≡ at → Told rs (d .names) xs → Body rs d b → Fits rs (raw p F C A w) s → EndFits p s at
+pub record LeavesLambda (rs : List ℕ) (at : ℕ) (d : Lambda) (escapes : Bool) (p : Pass) (F C A w : List ℕ) (p′ : Pass) (F′ C′ A′ w′ : List ℕ) : Type 0 where
+  pub is : (s : State) (xs : List Ident) (b : Tree) (m : Node) → m .at ≡ at → Told rs (d .names) xs → HasBody rs d b → Fits rs (raw p F C A w) s → EndFits p s at
       → Tied (raw p′ F′ C′ A′ w′) (leaveLambda m xs b escapes s)
 
 -- Let

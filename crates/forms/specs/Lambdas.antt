@@ -22,8 +22,8 @@ use Rattle.work.specs.Passes.{inCaptures}
 use Rattle.work.specs.Tied.{raw, Tied}
 use Rattle.work.specs.declared.Pass.{Pass}
 use Rattle.walk.specs.declared.uses.Names.{Names}
-use Rattle.lists.specs.Contract.{Told, Inside, Becomes, CapturesRoom, Body, amendedList}
-use Rattle.lists.specs.declared.amend.Ending.{Ending}
+use Rattle.lists.specs.Contract.{Told, Inside, Becomes, CapturesRoom, HasBody, amendedList}
+use Rattle.lists.specs.declared.amend.Lambda.{Lambda}
 use Rattle.forms.specs.Contract.{Fits, FewHeaps, heapsIn}
 use Rattle.forms.specs.declared.bound.Entering.{Entering}
 use Rattle.forms.specs.declared.lambda.EndedLists.{EndedLists}
@@ -125,13 +125,13 @@ functionFact (some i) captured arguments escapes depth = record {
 }
 
 -- what they need
-pub record ListsEnd (rs : List ℕ) (at : ℕ) (d : Ending) (v : FoundFunction) (p : Pass) (C A w : List ℕ) : Type 0 where
+pub record ListsEnd (rs : List ℕ) (at : ℕ) (d : Lambda) (v : FoundFunction) (p : Pass) (C A w : List ℕ) : Type 0 where
   pub facts : List ℕ
   pub s : State
   pub xs : List Ident
   pub b : Tree
   pub told : Told rs (d .names) xs
-  pub body : Body rs d b
+  pub body : HasBody rs d b
   pub fits : Fits rs (raw p facts C A w) s
   pub few : at < rowsMost
   pub made : functionFound v ≡ none → s .facts .argumentsTop + length (newestLayer (s .scope .names)) ≤ itemsMost
@@ -144,6 +144,6 @@ pub record Listed (o : Option FunctionInformation) (at : ℕ) (xs : List Ident) 
   pub captured : e .captured ≡ capturedEntries o xs b s
   pub arguments : e .arguments ≡ argumentEntries o s
 
-pub record EndsLists (rs : List ℕ) (at : ℕ) (d : Ending) (v : FoundFunction) (p : Pass) (C A w : List ℕ) (e : EndedLists) (C′ A′ w′ : List ℕ) : Type 0 where
-  pub is : (F : List ℕ) (s : State) (xs : List Ident) (b : Tree) → Told rs (d .names) xs → Body rs d b → Fits rs (raw p F C A w) s
+pub record EndsLists (rs : List ℕ) (at : ℕ) (d : Lambda) (v : FoundFunction) (p : Pass) (C A w : List ℕ) (e : EndedLists) (C′ A′ w′ : List ℕ) : Type 0 where
+  pub is : (F : List ℕ) (s : State) (xs : List Ident) (b : Tree) → Told rs (d .names) xs → HasBody rs d b → Fits rs (raw p F C A w) s
       → Listed (functionFound v) at xs b s e F C′ A′ w′

@@ -7,7 +7,7 @@ use crate::bound::mark_lasts;
 use crate::bound::no_entries;
 use crate::bound::store_layer;
 use crate::bound::with_entered;
-use lists::amend::Ending;
+use lists::amend::Lambda;
 use lists::amend::amend_list;
 use lists::captured::store_captured;
 use lists::number::heap_count;
@@ -154,7 +154,7 @@ struct EndedLists {
 fn end_lists(
     all: &[u32],
     at: usize,
-    d: Ending,
+    d: Lambda,
     v: FoundFunction,
     p: Pass,
     captured: &mut [u32],
@@ -220,7 +220,7 @@ fn function_fact(
 pub fn leave_lambda(
     all: &[u32],
     at: usize,
-    d: Ending,
+    d: Lambda,
     escapes: bool,
     p: Pass,
     facts: &mut [u32],

@@ -27,8 +27,9 @@ use Rattle.work.specs.Tied.{raw, Tied, Good}
 use Rattle.work.specs.GoodLaws.{good-each}
 use Rattle.work.specs.declared.Pass.{Pass}
 use Rattle.walk.specs.Marks.{Unmarked}
+use Rattle.lists.specs.declared.amend.Lambda.{Lambda}
 use Rattle.lists.specs.declared.amend.Ending.{Ending}
-use Rattle.lists.specs.Contract.{Told, Body, Ended, Held, amendedList, AmendsList}
+use Rattle.lists.specs.Contract.{Told, HasBody, lambdaOf, Body, Ended, Held, amendedList, AmendsList}
 use Rattle.lists.specs.Rewrites.{Rewrites, cleared}
 use Rattle.lists.specs.Index.{Indexed}
 use Rattle.lists.specs.Given.{given, withGiven, captured-step, rowsUpTo}
@@ -159,6 +160,10 @@ right-first {xs = xs} {b} {s} a h y g works = record {
   counted = a .counted xs b s h y (good-named g) works;
 }
 
+-- whichever body the lambda has
+body-of : {rs : List ℕ} {d : Ending} {b : Tree} → Ended rs d → HasBody rs (lambdaOf d) b → Body rs d b
+body-of {b = b} a y = record { lies = y; holds = a .holds .is (y .many) b (y .stands) (y .ends) }
+
 -- The loop
 
 abbrev keptTo : Ending → ℕ → ℕ → List Ident → Tree → State → List Item
@@ -180,8 +185,8 @@ module _ {rs : List ℕ} {d : Ending} {p : Pass} {index counts : List ℕ} {firs
   module _ {k to : ℕ} {m C′ w′ : List ℕ} (f : Keeping rs d p index counts first C w k to m C′ w′) (a : Ended rs d) (h : Held rs p C w)
       (all : AllRight rs d p w index counts)
     where
-      first-right : Right rs d index counts (a .xs) (a .b) (h .s)
-      first-right = right-first all (a .names) (a .body) (h .good) (h .tied .works)
+      first-right : Right rs d index counts (a .lambda .xs) (a .lambda .b) (h .s)
+      first-right = right-first all (a .lambda .names) (body-of a (a .lambda .body)) (h .good) (h .tied .works)
 
       -- the tables then hold a state
       pub keep-held : Held rs p C′ w′
@@ -190,9 +195,9 @@ module _ {rs : List ℕ} {d : Ending} {p : Pass} {index counts : List ℕ} {firs
           record {
             facts = h .facts;
             arguments = h .arguments;
-            s = withCaptured (sets (s .facts .captured) first (keptTo d first k (a .xs) (a .b) s)) s;
-            good = kept-good (d .holds) (nowOf (a .xs) (a .b) s) (s .captures) first k s (h .good);
-            tied = f .is (h .facts) (h .arguments) s (a .xs) (a .b) first-right (h .tied);
+            s = withCaptured (sets (s .facts .captured) first (keptTo d first k (a .lambda .xs) (a .lambda .b) s)) s;
+            good = kept-good (d .holds) (nowOf (a .lambda .xs) (a .lambda .b) s) (s .captures) first k s (h .good);
+            tied = f .is (h .facts) (h .arguments) s (a .lambda .xs) (a .lambda .b) first-right (h .tied);
           }
 
       pub keep-row : first + k < itemsMost → KeepHeld rs d p index first to (first + k) C′ w′
@@ -200,8 +205,8 @@ module _ {rs : List ℕ} {d : Ending} {p : Pass} {index counts : List ℕ} {firs
       keep-row room =
           let s = h .s in
           let t = h .tied in
-          let ends = f .ends (h .facts) (h .arguments) s (a .xs) (a .b) first-right t in
-          let few = rows-fewer (d .holds) (nowOf (a .xs) (a .b) s) (s .captures) first k (s .facts .captured) (omega (arith, captured-many (t .works))) in
+          let ends = f .ends (h .facts) (h .arguments) s (a .lambda .xs) (a .lambda .b) first-right t in
+          let few = rows-fewer (d .holds) (nowOf (a .lambda .xs) (a .lambda .b) s) (s .captures) first k (s .facts .captured) (omega (arith, captured-many (t .works))) in
           record {
             ended = a;
             held = keep-held;
@@ -312,15 +317,17 @@ kept-whole {first = first} e {n} a c xs b s y =
     ∙ sym (ap (amendList now (s .captures) []) (kept-is b now (take (e .length) (drop (e .first) l))))
 
 module _ {rs : List ℕ} {d : Ending} {p : Pass} {index counts : List ℕ} {first : ℕ} {C w : List ℕ} (e : Entries) {n : ℕ} (a : first ≡ e .first)
-    (c : n ≡ e .length) (all : AllRight rs d p w index counts)
+    (c : n ≡ e .length) (ended : Ended rs d) (all : AllRight rs d p w index counts)
   where
     pub amends : {to : ℕ} {m C′ w′ : List ℕ} → Keeping rs d p index counts first C w n to m C′ w′ → {C″ w″ : List ℕ}
-        → Rewrites C′ w′ (cleared to (first + n)) C″ w″ → AmendsList rs d e p C w (to - first) C″ w″
+        → Rewrites C′ w′ (cleared to (first + n)) C″ w″ → AmendsList rs (lambdaOf d) e p C w (to - first) C″ w″
     unfolding rewriteCaptured
     amends {to} f {C″} {w″} r = record {
-      many = λ F A s xs b h y g t.
+      many = λ F A s xs b h o g t.
+          let y = body-of ended o in
           omega (arith, f .ends F A s xs b (right-first all h y g (t .works)) t, ap length (kept-whole e a c xs b s y));
-      is = λ F A s xs b h y g t.
+      is = λ F A s xs b h o g t.
+          let y = body-of ended o in
           let l = s .facts .captured in
           let K = keptTo d first n xs b s in
           let L = amendedList xs b e s in
@@ -351,9 +358,14 @@ amended-none xs b e s z = rw z (go (holdsLambda b))
     go true = refl
     go false = refl
 
-pub none-amended : {rs : List ℕ} {d : Ending} (e : Entries) {p : Pass} {C w : List ℕ} → e .length ≡ 0 → AmendsList rs d e p C w 0 C w
+pub none-amended : {rs : List ℕ} {l : Lambda} (e : Entries) {p : Pass} {C w : List ℕ} → e .length ≡ 0 → AmendsList rs l e p C w 0 C w
 unfolding rewriteCaptured
 none-amended e {p} {C} {w} z = record {
   many = λ F A s xs b u v g t. sym (ap length (amended-none xs b e s z));
   is = λ F A s xs b u v g t. rw (amended-none xs b e s z, z) t;
 }
+
+-- of the same lambda
+pub amends-same : {rs : List ℕ} {l m : Lambda} {e : Entries} {p : Pass} {C w : List ℕ} {n : ℕ} {C′ w′ : List ℕ} → l ≡ m → AmendsList rs l e p C w n C′ w′
+    → AmendsList rs m e p C w n C′ w′
+amends-same {rs} {e = e} {p} {C} {w} {n} {C′} {w′} is a = subst (λ (j : Lambda). AmendsList rs j e p C w n C′ w′) is a

@@ -28,8 +28,8 @@ module _ {rs : List ℕ} {d : Ending} {p : Pass} {index : List ℕ} {first to r 
 
   pub keep-index : IndexHeld rs (d .names) p w index
   keep-index = record {
-    xs = h .ended .xs;
-    told = h .ended .names;
+    xs = h .ended .lambda .xs;
+    told = h .ended .lambda .names;
     s = h .held .s;
     works = h .held .tied .works;
     good = h .held .good;

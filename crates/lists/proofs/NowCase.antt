@@ -169,14 +169,14 @@ module _ {rs : List ℕ} {d : Ending} {m : List ℕ} {name : ℕ} where
   module _ (h : d .holds ≡ false) where
     pub used-searched : {r : Bool} → UsesName rs (d .first) (d .end) name r → TellsUsed rs d m name r
     used-searched t = record {
-      is = λ b y k. t .is (y .many) b (y .stands) (y .ends) ∙ sym (ap (λ (q : Bool). q || member name (namesUsed b)) (sym (y .holds) ∙ h));
+      is = λ b y k. t .is (y .lies .many) b (y .lies .stands) (y .lies .ends) ∙ sym (ap (λ (q : Bool). q || member name (namesUsed b)) (sym (y .holds) ∙ h));
     }
 
     pub used-marked : {x : ℕ} → x ≡ name → x < length m → TellsUsed rs d m name (isMarked m x)
     used-marked {x} e g = record {
       is = λ b y k.
           ap (isMarked m) e
-          ∙ k .is h .is name (omega arith) .is (y .many) b (y .stands) (y .ends)
+          ∙ k .is h .is name (omega arith) .is (y .lies .many) b (y .lies .stands) (y .lies .ends)
           ∙ sym (ap (λ (q : Bool). q || member name (namesUsed b)) (sym (y .holds) ∙ h));
     }
 

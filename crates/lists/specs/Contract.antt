@@ -22,8 +22,10 @@ use Rattle.work.specs.Coded.{coded}
 use Rattle.work.specs.Tied.{raw, Tied, Good}
 use Rattle.work.specs.declared.Pass.{Pass}
 use Rattle.work.specs.declared.entries.Entry.{Entry as Coded}
+use Rattle.walk.specs.Contract.{HoldsLambda}
 use Rattle.walk.specs.declared.uses.Names.{Names}
 use Rattle.lists.specs.declared.rows.Item.{Item as Coded·Item}
+use Rattle.lists.specs.declared.amend.Lambda.{Lambda}
 use Rattle.lists.specs.declared.amend.Ending.{Ending}
 
 -- the names xs are the ones told
@@ -86,18 +88,32 @@ CapturesRoom p e = 3 * (p .captures .length + e .length) ≤ rowsLength
 pub record CountsHeap (t : List ℕ) (e : Entries) (r : ℕ) : Type 0 where
   pub is : (l : List Item) → t ≡ layout putItem l → length l ≡ itemsMost → r ≡ heapCount (listIn l e)
 
--- the list of a lambda that a second run leaves, of the body b
-pub record Body (rs : List ℕ) (d : Ending) (b : Tree) : Type 0 where
+-- the list of a lambda that a second run leaves
+
+-- its body is b
+pub record HasBody (rs : List ℕ) (l : Lambda) (b : Tree) : Type 0 where
   pub many : ℕ
-  pub stands : Stands many rs (d .first) b
-  pub ends : d .first + size b ≡ d .end
+  pub stands : Stands many rs (l .first) b
+  pub ends : l .first + size b ≡ l .end
+
+pub record SomeLambda (rs : List ℕ) (l : Lambda) : Type 0 where
+  pub xs : List Ident
+  pub b : Tree
+  pub names : Told rs (l .names) xs
+  pub body : HasBody rs l b
+
+-- a lambda of which it is known whether its body holds one
+
+abbrev pub lambdaOf : Ending → Lambda
+lambdaOf d = record { names = d .names; first = d .first; end = d .end }
+
+pub record Body (rs : List ℕ) (d : Ending) (b : Tree) : Type 0 where
+  pub lies : HasBody rs (lambdaOf d) b
   pub holds : d .holds ≡ holdsLambda b
 
 pub record Ended (rs : List ℕ) (d : Ending) : Type 0 where
-  pub xs : List Ident
-  pub b : Tree
-  pub names : Told rs (d .names) xs
-  pub body : Body rs d b
+  pub lambda : SomeLambda rs (lambdaOf d)
+  pub holds : HoldsLambda rs (d .first) (d .end) (d .holds)
 
 abbrev pub amendedList : List Ident → Tree → Entries → State → List Item
 amendedList xs b e s =
@@ -108,8 +124,8 @@ amendedList xs b e s =
 abbrev pub Named : State → Type 0
 Named s = All IsNamed (s .scope .names .live)
 
-pub record AmendsList (rs : List ℕ) (d : Ending) (e : Entries) (p : Pass) (C w : List ℕ) (n : ℕ) (C′ w′ : List ℕ) : Type 0 where
-  pub many : (F A : List ℕ) (s : State) (xs : List Ident) (b : Tree) → Told rs (d .names) xs → Body rs d b → Good rs s → Tied (raw p F C A w) s
+pub record AmendsList (rs : List ℕ) (l : Lambda) (e : Entries) (p : Pass) (C w : List ℕ) (n : ℕ) (C′ w′ : List ℕ) : Type 0 where
+  pub many : (F A : List ℕ) (s : State) (xs : List Ident) (b : Tree) → Told rs (l .names) xs → HasBody rs l b → Good rs s → Tied (raw p F C A w) s
       → n ≡ length (amendedList xs b e s)
-  pub is : (F A : List ℕ) (s : State) (xs : List Ident) (b : Tree) → Told rs (d .names) xs → Body rs d b → Good rs s → Tied (raw p F C A w) s
+  pub is : (F A : List ℕ) (s : State) (xs : List Ident) (b : Tree) → Told rs (l .names) xs → HasBody rs l b → Good rs s → Tied (raw p F C A w) s
       → Tied (raw p F C′ A w′) (rewriteCaptured e (amendedList xs b e s) s)

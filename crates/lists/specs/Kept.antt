@@ -95,7 +95,7 @@ keptNames holds now x l = cond (isKept holds now x) (x ∷ l) l
 pub record KeepHeld (rs : List ℕ) (d : Ending) (p : Pass) (index : List ℕ) (first to r : ℕ) (C w : List ℕ) : Type 0 where
   pub ended : Ended rs d
   pub held : Held rs p C w
-  pub indexes : Indexes index (map nameIn (ended .xs)) (held .s .scope)
+  pub indexes : Indexes index (map nameIn (ended .lambda .xs)) (held .s .scope)
   pub order : first ≤ to
   pub most : to ≤ r
   pub inside : r < itemsMost

@@ -17,6 +17,7 @@ use semantic::Entries;
 use semantic::ScopeInfo;
 use table::wide;
 use walk::uses::Names;
+use walk::uses::holds_lambda;
 use walk::uses::mark;
 use work::Pass;
 use work::captures::load_taken;
@@ -34,19 +35,40 @@ ghost use Rattle.pass.specs.Lists.{enclosingOf};
 ghost use Rattle.pass.specs.Run.{itemsMost, itemsLength};
 ghost use Rattle.work.specs.Leaves.{Tells};
 ghost use Rattle.walk.specs.Marks.{Unmarked};
-ghost use Rattle.lists.specs.Contract.{Inside, Ended, Held, AmendsList};
+ghost use Rattle.lists.specs.Contract.{Inside, SomeLambda, lambdaOf, Ended, Held, AmendsList};
 ghost use Rattle.lists.specs.Index.{SomeHere};
 ghost use Rattle.lists.specs.Kept.{StandsBefore, SomeBinder, AmendsInfo, IndexHeld, KeepsItem, KeepHeld, KeepsRow, AllRight};
 
 // Up to so many rows above the bottom layer, each taken once for each entry, a search is quicker than counting all names.
 const SEARCHED: usize = 16384;
 
-// A lambda that ends: its parameters, the records of its body, and whether a lambda stands among them.
+// A lambda: its parameters, and the records of its body.
+pub struct Lambda {
+    pub names: Names,
+    pub first: usize,
+    pub end: usize,
+}
+
+// The same, where its list is amended: with whether a lambda stands among the records.
 pub struct Ending {
     pub names: Names,
     pub first: usize,
     pub end: usize,
     pub holds: bool,
+}
+
+// The records are gone through, so this is asked only where there is a list to amend.
+fn ending_of(all: &[u32], l: Lambda) -> Ending
+    requires { ⌜ SomeLambda (now all) l ⌝ }
+    ensures { λ r. ⌜ (lambdaOf r ≡ l) × Ended (now (all .entry)) r ⌝ }
+{
+    let names = l.names;
+    Ending {
+        names,
+        first: l.first,
+        end: l.end,
+        holds: holds_lambda(all, l.first, l.end),
+    }
 }
 
 // Whether the name stands in the rows from `first` up to `end`, by search.
@@ -204,7 +226,7 @@ fn amend_rows(
     work: &mut [u32],
 ) -> usize
     requires { ⌜ Inside e × Ended (now all) d × Held (now all) p (now captured) (now work) × AllRight (now all) d p (now work) (now index) (now counts) × Unmarked (now seen) ⌝ }
-    ensures { λ r. ⌜ AmendsList (now (all .entry)) d e p (now (captured .entry)) (now (work .entry)) r (now (captured .exit)) (now (work .exit)) ⌝ }
+    ensures { λ r. ⌜ AmendsList (now (all .entry)) (lambdaOf d) e p (now (captured .entry)) (now (work .entry)) r (now (captured .exit)) (now (work .exit)) ⌝ }
 {
     let first = wide(e.first);
     let n = wide(e.length);
@@ -242,7 +264,7 @@ fn amend_long(
     work: &mut [u32],
 ) -> usize
     requires { ⌜ Inside e × Ended (now all) d × Held (now all) p (now captured) (now work) ⌝ }
-    ensures { λ r. ⌜ AmendsList (now (all .entry)) d e p (now (captured .entry)) (now (work .entry)) r (now (captured .exit)) (now (work .exit)) ⌝ }
+    ensures { λ r. ⌜ AmendsList (now (all .entry)) (lambdaOf d) e p (now (captured .entry)) (now (work .entry)) r (now (captured .exit)) (now (work .exit)) ⌝ }
 {
     let names = d.names;
     let mut index = [0; NAMES];
@@ -258,19 +280,20 @@ fn amend_long(
 // in memory from the start.
 pub fn amend_list(
     all: &[u32],
-    d: Ending,
+    l: Lambda,
     e: Entries,
     p: Pass,
     captured: &mut [u32],
     work: &mut [u32],
 ) -> usize
-    requires { ⌜ Inside e × Ended (now all) d × Held (now all) p (now captured) (now work) ⌝ }
-    ensures { λ r. ⌜ AmendsList (now (all .entry)) d e p (now (captured .entry)) (now (work .entry)) r (now (captured .exit)) (now (work .exit)) ⌝ }
+    requires { ⌜ Inside e × SomeLambda (now all) l × Held (now all) p (now captured) (now work) ⌝ }
+    ensures { λ r. ⌜ AmendsList (now (all .entry)) l e p (now (captured .entry)) (now (work .entry)) r (now (captured .exit)) (now (work .exit)) ⌝ }
 {
     let n = wide(e.length);
     if n == 0 {
         return 0;
     }
+    let d = ending_of(all, l);
     if FEW < n {
         let ending = d;
         let o = p;

@@ -19,7 +19,7 @@ use forms::lambda::enter_lambda;
 use forms::lambda::leave_lambda;
 use forms::lets::enter_let;
 use forms::lets::leave_let;
-use lists::amend::Ending;
+use lists::amend::Lambda;
 use names::define::enter_top_level_value;
 use names::read::mutate;
 use names::read::read;
@@ -179,7 +179,7 @@ pub fn open_lambda(
 pub fn close_lambda(
     all: &[u32],
     at: usize,
-    d: Ending,
+    d: Lambda,
     escapes: bool,
     r: &mut [usize; REGISTERS],
     facts: &mut [u32],

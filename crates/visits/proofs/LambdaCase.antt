@@ -17,10 +17,9 @@ use Rattle.pass.specs.Visitable.{Visitable}
 use Rattle.pass.specs.Laws.Visitable.Parts.{lambda-body}
 use Rattle.pass.specs.Laws.Visitable.Leaves.{lambda-begins, lambda-ends}
 use Rattle.work.specs.Known.{Known}
-use Rattle.work.specs.Tied.{Raw, raw, Tied}
+use Rattle.work.specs.Tied.{raw, Tied}
 use Rattle.work.specs.declared.Pass.{Pass}
-use Rattle.walk.specs.Contract.{SomeBody, HoldsLambda}
-use Rattle.lists.specs.Contract.{Told, Body}
+use Rattle.lists.specs.Contract.{Told, HasBody}
 use Rattle.flags.specs.Flags.{FlagsAre, HandsBody}
 use Rattle.forms.specs.Contract.{Fits, EndFits, LambdaFits, EntersLambda, LambdaEnds, LeavesLambda}
 use Rattle.flags.specs.declared.Flags.{Flags as Coded}
@@ -97,22 +96,11 @@ module _ {classes rs part : List ℕ} {at : ℕ} {g : Coded} {p : Pass} {F C A w
             fits = visitable-at j (lambda-body small classes at (x .f) (x .s) (v .n) (v .xs) (v .b) (v .fits));
           }
 
-      pub body-stands : {n₁ : ℕ} {z₂ : Raw} → Done classes rs q (at + 1 + k) g₁ (raw p₁ F₁ C₁ A w₁) n₁ z₂ → Fit classes rs part at g (raw p F C A w)
-          → SomeBody rs (at + 1 + k) (at + 1 + k + n₁)
-      unfolding body-fits
-      body-stands r x =
-          record { names = length classes; t = view x e .b; stands = body-fits x .stands; ends = ap (λ (i : ℕ). at + 1 + k + i) (sym (r .used (body-fits x))) }
-
-      module _ {n₁ : ℕ} {p₂ : Pass} {F₂ C₂ A₂ w₂ : List ℕ} {holds : Bool} (r : Done classes rs q (at + 1 + k) g₁ (raw p₁ F₁ C₁ A w₁) n₁ (raw p₂ F₂ C₂ A₂ w₂))
-          (l : HoldsLambda rs (at + 1 + k) (at + 1 + k + n₁) holds) where
-        body : (x : Fit classes rs part at g (raw p F C A w))
-            → Body rs (record { names = record { first = at + 1; count = k }; first = at + 1 + k; end = at + 1 + k + n₁; holds = holds }) (view x e .b)
+      module _ {n₁ : ℕ} {p₂ : Pass} {F₂ C₂ A₂ w₂ : List ℕ} (r : Done classes rs q (at + 1 + k) g₁ (raw p₁ F₁ C₁ A w₁) n₁ (raw p₂ F₂ C₂ A₂ w₂)) where
+        pub body-stands : (x : Fit classes rs part at g (raw p F C A w))
+            → HasBody rs (record { names = record { first = at + 1; count = k }; first = at + 1 + k; end = at + 1 + k + n₁ }) (view x e .b)
         unfolding body-fits
-        body x =
-            let v = view x e in
-            let u : n₁ ≡ size (v .b) = r .used (body-fits x) in
-            let y = body-fits x .stands in
-            record { many = length classes; stands = y; ends = ap (λ (i : ℕ). at + 1 + k + i) (sym u); holds = l .is (length classes) (v .b) y (ap (λ (i : ℕ). at + 1 + k + i) (sym u)) }
+        body-stands x = record { many = length classes; stands = body-fits x .stands; ends = ap (λ (i : ℕ). at + 1 + k + i) (sym (r .used (body-fits x))) }
 
         ends : (x : Fit classes rs part at g (raw p F C A w)) → EndFits p₂ (visit classes (view x e .b) (bodyFlags (view x e .n) (length (view x e .xs)) (x .f)) (enterLambda (view x e .n) (view x e .xs) (x .s))) at
         unfolding body-fits
@@ -127,15 +115,15 @@ module _ {classes rs part : List ℕ} {at : ℕ} {g : Coded} {p : Pass} {F C A w
             record { good = lambda-ends small classes at (x .f) (x .s) (v .n) (v .xs) (v .b) (v .fits) .reliable .good; tied = r .state (body-fits x) }
 
         pub end-fit : Fit classes rs part at g (raw p F C A w)
-            → LambdaEnds rs at (record { names = record { first = at + 1; count = k }; first = at + 1 + k; end = at + 1 + k + n₁; holds = holds }) p₂ F₂ C₂ A₂ w₂
+            → LambdaEnds rs at (record { names = record { first = at + 1; count = k }; first = at + 1 + k; end = at + 1 + k + n₁ }) p₂ F₂ C₂ A₂ w₂
         end-fit x =
             let v = view x e in
             let b = lambda-ends small classes at (x .f) (x .s) (v .n) (v .xs) (v .b) (v .fits) in
             let i : v .n .at ≡ at = v .parts .node .here in
-            record { s = _; xs = v .xs; b = v .b; told = told x; body = body x; fits = fits x; few = omega (arith, b .few); ends = ends x }
+            record { s = _; xs = v .xs; b = v .b; told = told x; body = body-stands x; fits = fits x; few = omega (arith, b .few); ends = ends x }
 
         pub lambda-done : {p₃ : Pass} {F₃ C₃ A₃ w₃ : List ℕ}
-            → LeavesLambda rs at (record { names = record { first = at + 1; count = k }; first = at + 1 + k; end = at + 1 + k + n₁; holds = holds }) (g .escape)
+            → LeavesLambda rs at (record { names = record { first = at + 1; count = k }; first = at + 1 + k; end = at + 1 + k + n₁ }) (g .escape)
             p₂ F₂ C₂ A₂ w₂ p₃ F₃ C₃ A₃ w₃
             → Done classes rs part at g (raw p F C A w) (1 + k + n₁) (raw p₃ F₃ C₃ A₃ w₃)
         unfolding size visit body-fits
@@ -149,7 +137,7 @@ module _ {classes rs part : List ℕ} {at : ℕ} {g : Coded} {p : Pass} {F C A w
               let v = view x e in
               let s = visit classes (v .b) (bodyFlags (v .n) (length (v .xs)) (x .f)) (enterLambda (v .n) (v .xs) (x .s)) in
               let z : Tied (raw p₃ F₃ C₃ A₃ w₃) (leaveLambda (v .n) (v .xs) (v .b) (g .escape) s)
-              = y .is s (v .xs) (v .b) (v .n) (v .parts .node .here) (told x) (body x) (fits x) (ends x) in
+              = y .is s (v .xs) (v .b) (v .n) (v .parts .node .here) (told x) (body-stands x) (fits x) (ends x) in
               subst (λ (i : Tree). Tied (raw p₃ F₃ C₃ A₃ w₃) (visit classes i (x .f) (x .s))) (sym (v .tree))
               (subst (λ (b : Bool). Tied (raw p₃ F₃ C₃ A₃ w₃) (leaveLambda (v .n) (v .xs) (v .b) b s)) (x .flags .escape) z);
         }

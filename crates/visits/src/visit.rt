@@ -5,7 +5,7 @@ use flags::Flags;
 use flags::Part;
 use flags::by_value::part;
 use flags::by_value::parts;
-use lists::amend::Ending;
+use lists::amend::Lambda;
 use registers::REGISTERS;
 use registers::steps::close_call;
 use registers::steps::close_define;
@@ -27,7 +27,6 @@ use table::wide;
 use walk::body::body_at;
 use walk::extent::extent_at;
 use walk::uses::Names;
-use walk::uses::holds_lambda;
 use work::narrow;
 ghost use mathlib.Core.Path.{_≡_};
 ghost use Rattle.tree.specs.RecordLaws.{nth};
@@ -404,12 +403,7 @@ fn visit_lambda_function(
         work,
     );
     let end = first + o;
-    let d = Ending {
-        names,
-        first,
-        end,
-        holds: holds_lambda(*all, first, end),
-    };
+    let d = Lambda { names, first, end };
     close_lambda(
         *all,
         at,

@@ -3,7 +3,7 @@ use mathlib.Core.Path.{sym, _∙_}
 use native.Mathlib.Omega.{arith}
 use borrow.Author.Needs.{needs, scaled-fits}
 use Rattle.work.specs.WorksLaws.{spacious}
-use Rattle.lists.proofs.AmendCase.{none-amended}
+use Rattle.lists.proofs.AmendCase.{none-amended, amends-same}
 use Rattle.lists.proofs.amend.amend_list.Statement.{statement}
 use Rattle.lists.proofs.amend.amend_list.Tie as tie
 
@@ -12,6 +12,9 @@ wide-requires c κs = search needs
 
 returns : tie.Need-returns
 returns c = none-amended (c .before .before .before .before .before .args .e) (sym (c .before .wide .ensures) ∙ c .if1 .taken)
+
+ending-of-requires : tie.Need-ending-of-requires
+ending-of-requires c κs = search needs
 
 amend-long-requires : tie.Need-amend-long-requires
 amend-long-requires c κs = search needs
@@ -23,7 +26,9 @@ same-length-2 : tie.Need-same-length-2
 same-length-2 c = search needs
 
 returns-2 : tie.Need-returns-2
-returns-2 c = search needs
+returns-2 c =
+    let at-amend-long = c .before .before .before .before in
+    amends-same (at-amend-long .before .before .before .before .ending-of .ensures .0) (at-amend-long .amend-long .ensures)
 
 above-bottom-requires : tie.Need-above-bottom-requires
 above-bottom-requires c κs = search needs
@@ -33,7 +38,7 @@ sub-many c = search needs
 
 mul-if3 : tie.Need-mul-if3
 mul-if3 c =
-    let start = c .before .before .before .before .before .before .before .before .before .before in
+    let start = c .before .before .before .before .before .before .before .before .before .before .before in
     scaled-fits _ 129 _ (omega (arith, c .before .before .before .before .if2 .left)) (omega (arith, spacious (start .pre .2 .tied .works) .names))
 
 amend-long-requires-2 : tie.Need-amend-long-requires-2
@@ -46,7 +51,9 @@ same-length-4 : tie.Need-same-length-4
 same-length-4 c = search needs
 
 returns-3 : tie.Need-returns-3
-returns-3 c = search needs
+returns-3 c =
+    let at-amend-long2 = c .before .before .before .before in
+    amends-same (at-amend-long2 .before .before .before .before .before .before .before .before .before .ending-of .ensures .0) (at-amend-long2 .amend-long2 .ensures)
 
 slice-aggregate-amend-rows : tie.Need-slice-aggregate-amend-rows
 slice-aggregate-amend-rows c = search needs
@@ -59,8 +66,9 @@ slice-aggregate-amend-rows-3 c = search needs
 
 amend-rows-requires : tie.Need-amend-rows-requires
 amend-rows-requires c κs =
-    let start = c .before .before .before .before .before .before .before .before .before .before .before .before .before .before .before .before in
-    (start .pre .0, start .pre .1, start .pre .2, search needs, search needs)
+    let at-ending-of = c .before .before .before .before .before .before .before .before .before .before .before in
+    let start = at-ending-of .before .before .before .before .before .before in
+    (start .pre .0, at-ending-of .ending-of .ensures .1, start .pre .2, search needs, search needs)
 
 same-length-5 : tie.Need-same-length-5
 same-length-5 c = search needs
@@ -69,7 +77,9 @@ same-length-6 : tie.Need-same-length-6
 same-length-6 c = search needs
 
 returns-4 : tie.Need-returns-4
-returns-4 c = search needs
+returns-4 c =
+    let at-amend-rows = c .before .before .before .before .before in
+    amends-same (at-amend-rows .before .before .before .before .before .before .before .before .before .before .before .before .ending-of .ensures .0) (at-amend-rows .amend-rows .ensures)
 
 pub amend-list-spec : {M : Type 1} → statement M
 amend-list-spec =
@@ -77,6 +87,7 @@ amend-list-spec =
     (tie.spec
     wide-requires
     returns
+    ending-of-requires
     amend-long-requires
     same-length
     same-length-2

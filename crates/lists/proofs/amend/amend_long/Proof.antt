@@ -14,7 +14,7 @@ slice-aggregate-index-names c = search needs
 index-names-requires : tie.Need-index-names-requires
 index-names-requires c κs =
     let start = c .before .before .before .before .before .before in
-    (told-names (start .pre .1 .names), held-here (start .pre .2), zeros namesMost)
+    (told-names (start .pre .1 .lambda .names), held-here (start .pre .2), zeros namesMost)
 
 slice-aggregate-count-names : tie.Need-slice-aggregate-count-names
 slice-aggregate-count-names c = search needs

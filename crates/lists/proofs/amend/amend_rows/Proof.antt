@@ -129,7 +129,7 @@ returns c =
     let at-wide2 = at-loop .before in
     let at-wide = at-wide2 .before in
     let start = at-wide .before .before .before .before .before .before .before in
-    amends (start .args .e) (at-wide .wide .ensures) (at-wide2 .wide2 .ensures) (start .pre .3)
+    amends (start .args .e) (at-wide .wide .ensures) (at-wide2 .wide2 .ensures) (start .pre .1) (start .pre .3)
     (keep-ended (at-loop .loop .inv .4) (at-loop .loop .inv .0) (at-loop-test .loop-test .left)) (at-clear-items .clear-items .ensures)
 
 pub amend-rows-spec : {M : Type 1} → statement M

@@ -185,7 +185,6 @@ pub +visit+visit-arguments+visit-begin+visit-body+visit-define+visit-if+visit-la
     (VisitLambdaFunction.part-requires t)
     (VisitLambdaFunction.visit-body-requires t)
     (VisitLambdaFunction.add-end t)
-    (VisitLambdaFunction.holds-lambda-requires t)
     (VisitLambdaFunction.slice-aggregate-close-lambda t)
     (VisitLambdaFunction.slice-aggregate-close-lambda-2 t)
     (VisitLambdaFunction.slice-aggregate-close-lambda-3 t)

@@ -64,7 +64,6 @@ use Rattle.tree.proofs.record.id.Reads as id-reads
 use Rattle.tree.proofs.record.name.Reads as name-reads
 use Rattle.walk.proofs.body.body_at.Reads as body-at-reads
 use Rattle.walk.proofs.extent.extent_at.Reads as extent-at-reads
-use Rattle.walk.proofs.uses.holds_lambda.Reads as holds-lambda-reads
 use Rattle.work.proofs.narrow.Reads as narrow-reads
 
 abbrev pub μ-visit : Measures 14 visit-kinds.ps ℕ
@@ -222,7 +221,7 @@ abbrev pub visit-if-calls : ℕ → visit-if-lts.Claims
 visit-if-calls t = (same-tail-reads.Asked, same-tail-reads.Learnt, not-tail-reads.Asked, not-tail-reads.Learnt, visit-part-below t, visit-part.Post)
 
 abbrev pub visit-lambda-function-calls : ℕ → visit-lambda-function-lts.Claims
-visit-lambda-function-calls t = (count-reads.Asked, count-reads.Learnt, wide-reads.Asked, wide-reads.Learnt, open-lambda-reads.Asked, open-lambda-reads.Learnt, id-reads.Asked, id-reads.Learnt, part-reads.Asked, part-reads.Learnt, visit-body-below t, visit-body.Post, holds-lambda-reads.Asked, holds-lambda-reads.Learnt, close-lambda-reads.Asked, close-lambda-reads.Learnt)
+visit-lambda-function-calls t = (count-reads.Asked, count-reads.Learnt, wide-reads.Asked, wide-reads.Learnt, open-lambda-reads.Asked, open-lambda-reads.Learnt, id-reads.Asked, id-reads.Learnt, part-reads.Asked, part-reads.Learnt, visit-body-below t, visit-body.Post, close-lambda-reads.Asked, close-lambda-reads.Learnt)
 
 abbrev pub visit-let-calls : ℕ → visit-let-lts.Claims
 visit-let-calls t = (count-reads.Asked, count-reads.Learnt, wide-reads.Asked, wide-reads.Learnt, depth-reads.Asked, depth-reads.Learnt, context-reads.Asked, context-reads.Learnt, parts-reads.Asked, parts-reads.Learnt, set-context-reads.Asked, set-context-reads.Learnt, visit-arguments-below t, visit-arguments.Post, open-let-reads.Asked, open-let-reads.Learnt, visit-part-below t, visit-part.Post, close-let-reads.Asked, close-let-reads.Learnt)

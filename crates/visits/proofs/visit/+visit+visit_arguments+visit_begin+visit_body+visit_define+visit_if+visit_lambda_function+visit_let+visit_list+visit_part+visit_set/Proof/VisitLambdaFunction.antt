@@ -36,11 +36,8 @@ module _ (t : ℕ) where
   abbrev to-body : lts.After-visit-body (visit-lambda-function-calls t) (visit-lambda-function-at t) reads.Post → lts.After-part (visit-lambda-function-calls t) (visit-lambda-function-at t) reads.Post
   to-body c = c .before .before .before .before .before .before
 
-  abbrev to-visit : lts.After-holds-lambda (visit-lambda-function-calls t) (visit-lambda-function-at t) reads.Post → lts.After-visit-body (visit-lambda-function-calls t) (visit-lambda-function-at t) reads.Post
-  to-visit c = c .before .before
-
-  abbrev to-holds-lambda : lts.After-close-lambda (visit-lambda-function-calls t) (visit-lambda-function-at t) reads.Post → lts.After-holds-lambda (visit-lambda-function-calls t) (visit-lambda-function-at t) reads.Post
-  to-holds-lambda c = c .before .before .before .before .before .before .before
+  abbrev to-visit : lts.After-close-lambda (visit-lambda-function-calls t) (visit-lambda-function-at t) reads.Post → lts.After-visit-body (visit-lambda-function-calls t) (visit-lambda-function-at t) reads.Post
+  to-visit c = c .before .before .before .before .before .before .before
 
   abbrev opened : lts.After-part (visit-lambda-function-calls t) (visit-lambda-function-at t) reads.Post → lts.After-open-lambda (visit-lambda-function-calls t) (visit-lambda-function-at t) reads.Post
   opened c = to-open-lambda (to-id c)
@@ -63,21 +60,20 @@ module _ (t : ℕ) where
   handed c = hands (to-id c .id .ensures) (to-wide (opened c) .wide .ensures) (c .part .ensures)
 
   done : (c : lts.After-close-lambda (visit-lambda-function-calls t) (visit-lambda-function-at t) reads.Post) →
-      let visit = to-visit (to-holds-lambda c) in
+      let visit = to-visit c in
       let enter = opened (to-body visit) in
       let o = start enter .args in
       Done (o .classes .now .now) (o .all .now .now) (o .rs .now) (o .at) (o .f) (held (o .r .now) (o .facts .now .now) (o .captured .now .now) (o .arguments .now .now) (o .work .now .now))
       (1 + to-wide enter .wide .result + visit .visit-body .result)
       (held (c .close-lambda .last .1 .1 .1 .1 .0) (c .close-lambda .last .1 .1 .1 .1 .1 .0) (c .close-lambda .last .1 .1 .1 .1 .1 .1 .0) (c .close-lambda .last .1 .1 .1 .1 .1 .1 .1 .0) (c .close-lambda .last .1 .1 .1 .1 .1 .1 .1 .1 .0))
   done c =
-      let holds-lambda = to-holds-lambda c in
-      let visit = to-visit holds-lambda in
+      let visit = to-visit c in
       let body = to-body visit in
       let enter = opened body in
       let wide = to-wide enter in
       let o = start enter in
       lambda-done (o .pre .1 .1) (tells wide) (enter .open-lambda .ensures) (handed body) (part-after (o .args .rs .now) (wide .wide .result))
-      (visit .visit-body .ensures .0) (holds-lambda .holds-lambda .ensures) (c .close-lambda .ensures)
+      (visit .visit-body .ensures .0) (c .close-lambda .ensures)
 
   pub count-requires : lts.Need-count-requires (visit-lambda-function-calls t) (visit-lambda-function-at t) reads.Post
   count-requires c κs = let x = c .before .before .pre .1 .0 in omega (arith, bounds.whole x, bounds.some x)
@@ -159,16 +155,6 @@ module _ (t : ℕ) where
       (c .visit-body .ensures .0) (o .pre .1 .0) in
       omega (arith, b .ends, tree-few (b .stands))
 
-  pub holds-lambda-requires : lts.Need-holds-lambda-requires (visit-lambda-function-calls t) (visit-lambda-function-at t) reads.Post
-  holds-lambda-requires c κs =
-      let visit = c .before in
-      let body = to-body visit in
-      let enter = opened body in
-      let wide = to-wide enter in
-      let o = start enter in
-      body-stands (o .pre .1 .1) (tells wide) (enter .open-lambda .ensures) (handed body) (part-after (o .args .rs .now) (wide .wide .result))
-      (visit .visit-body .ensures .0) (o .pre .1 .0)
-
   pub slice-aggregate-close-lambda : lts.Need-slice-aggregate-close-lambda (visit-lambda-function-calls t) (visit-lambda-function-at t) reads.Post
   slice-aggregate-close-lambda c = search needs
 
@@ -183,22 +169,21 @@ module _ (t : ℕ) where
 
   pub close-lambda-requires : lts.Need-close-lambda-requires (visit-lambda-function-calls t) (visit-lambda-function-at t) reads.Post
   close-lambda-requires c κs =
-      let holds-lambda = c .before .before .before .before .before .before in
-      let visit = to-visit holds-lambda in
+      let visit = c .before .before .before .before .before .before in
       let body = to-body visit in
       let enter = opened body in
       let wide = to-wide enter in
       let o = start enter in
       end-fit (o .pre .1 .1) (tells wide) (enter .open-lambda .ensures) (handed body) (part-after (o .args .rs .now) (wide .wide .result))
-      (visit .visit-body .ensures .0) (holds-lambda .holds-lambda .ensures) (o .pre .1 .0)
+      (visit .visit-body .ensures .0) (o .pre .1 .0)
 
   pub add-result : lts.Need-add-result (visit-lambda-function-calls t) (visit-lambda-function-at t) reads.Post
-  add-result c = let wide = to-wide (opened (to-body (c .before .before .before .before .before .before .before .before .before))) in omega (arith, long wide, bounds.whole (to-start wide .pre .1 .0))
+  add-result c = let wide = to-wide (opened (to-body (to-visit c))) in omega (arith, long wide, bounds.whole (to-start wide .pre .1 .0))
 
   pub add-result-2 : lts.Need-add-result-2 (visit-lambda-function-calls t) (visit-lambda-function-at t) reads.Post
   add-result-2 c =
-      let o = start (opened (to-body (to-visit (to-holds-lambda c)))) in
+      let o = start (opened (to-body (to-visit c))) in
       omega (arith, bounds.used (o .pre .1 .0) (done c))
 
   pub returns : lts.Need-returns (visit-lambda-function-calls t) (visit-lambda-function-at t) reads.Post
-  returns c = (done c, to-visit (to-holds-lambda c) .visit-body .ensures .1)
+  returns c = (done c, to-visit c .visit-body .ensures .1)
