@@ -1,5 +1,5 @@
 -- One name enters, over states.
-use Prim.Native.Nat.{ℕ, suc, _+_, _*_, _≤_, _<_}
+use Prim.Native.Nat.{ℕ, zero, suc, _+_, _-_, _*_, _≤_, _<_}
 use mathlib.Core.List.{List}
 use mathlib.Core.Bool.{Bool, true, false, cond, not, _&&_}
 use mathlib.Core.Option.{Option, none, some}
@@ -23,7 +23,7 @@ use Rattle.pass.specs.Read.{span, enter}
 use Rattle.pass.specs.Lists.{listIn}
 use Rattle.pass.specs.Lambda.{orZero, enterName}
 use Rattle.pass.specs.Run.{rowsMost, itemsMost}
-use Rattle.work.specs.Coded.{coded}
+use Rattle.work.specs.Coded.{coded, placeIn}
 use Rattle.work.specs.WorksLaws.{depth-is, names-many}
 use Rattle.work.specs.Leaves.{Becomes}
 use Rattle.work.specs.Tied.{raw, Tied, Good, Here}
@@ -40,7 +40,6 @@ use Rattle.forms.specs.FitsLaws.{fact-inside, tied-insert}
 use Rattle.forms.specs.GoodLaws.{good-second}
 use Rattle.forms.specs.Bound.{TellsHeap, NameFits, EntersWith, notedName, nameEntry, NotesHeap, EntersName}
 use Rattle.forms.proofs.Idents.{span-is, known-inside, known-few}
-use Rattle.forms.specs.declared.bound.Heaps.the-variants as heaps
 
 -- The list of the run before
 
@@ -67,9 +66,17 @@ pub heaps-below : (b : Bool) (h : ℕ) {r : ℕ} → r ≡ cond b (suc h) h → 
 heaps-below true h e = omega arith
 heaps-below false h e = omega arith
 
+pub less-one : (n : ℕ) → n - 1 ≡ orZero (placeIn n)
+less-one zero = omega arith
+less-one (suc n) = omega arith
+
 pub few-around : (o : Heaps) → FewHeaps o → orZero (heapsIn o) ≤ itemsMost
-few-around (heaps.Around n) h = h
-few-around heaps.Nothing h = omega arith
+few-around o h = omega (arith, h, less-one (o .code))
+
+-- the count that is kept as n, where n is not 0
+kept-count : (n : ℕ) → (n ≡ 0 → ⊥) → placeIn n ≡ some (n - 1)
+kept-count zero h = absurd (h refl)
+kept-count (suc n) h = ap some (omega arith)
 
 -- A name with an entry and a fact
 
@@ -114,11 +121,11 @@ module _ {o : Heaps} {at : ℕ} {p : Pass} where
   notes-none true e = absurd (false-true e)
   notes-none false e = record { is = λ w s x q k. k }
 
-  pub notes-around : (heap : Bool) {n : ℕ} → o ≡ heaps.Around n → NotesHeap heap o at p p
-  notes-around true e = record { is = λ w s x q k. rw e k }
+  pub notes-around : (heap : Bool) → (o .code ≡ 0 → ⊥) → NotesHeap heap o at p p
+  notes-around true e = record { is = λ w s x q k. rw (kept-count (o .code) e) k }
   notes-around false e = record { is = λ w s x q k. k }
 
-  pub notes-alone : (heap : Bool) {q : Pass} → not heap ≡ false → o ≡ heaps.Nothing → ((w : List ℕ) → Becomes p w (noteSecond 11 at) q w) → NotesHeap heap o at p q
+  pub notes-alone : (heap : Bool) {q : Pass} → not heap ≡ false → o .code ≡ 0 → ((w : List ℕ) → Becomes p w (noteSecond 11 at) q w) → NotesHeap heap o at p q
   notes-alone true e f n = record { is = λ w s x i k. rw (f, i) (n w .is s k) }
   notes-alone false e f n = absurd (false-true (sym e))
 

@@ -1,10 +1,11 @@
 -- A lambda is entered, over states.
-use Prim.Native.Nat.{ℕ, zero, suc, _≤_, _<_}
+use Prim.Native.Nat.{ℕ, zero, suc, _+_, _≤_, _<_}
 use mathlib.Core.List.{List}
 use mathlib.Core.Bool.{Bool, true, false, cond}
 use mathlib.Core.Option.{Option, none, some}
 use mathlib.Core.Path.{_≡_, refl, ap, sym, subst, _∙_}
 use native.Mathlib.Omega.{arith}
+use native.Mathlib.Numerals.{add-one}
 use lib.ListN.{length, length-map}
 use Rattle.tree.specs.Tree.{named}
 use Rattle.scope_map.specs.MapLaws.{mapValues}
@@ -44,7 +45,6 @@ use Rattle.forms.proofs.NamesCase.{held-same}
 use Rattle.forms.proofs.LetsCase.{captured-length}
 use Rattle.semantic.specs.declared.FoundFunction.the-variants as function
 use Rattle.pass.specs.Sound as pass
-use Rattle.forms.specs.declared.bound.Heaps.the-variants as heaps
 
 -- What numbering a list leaves as it was
 
@@ -146,18 +146,18 @@ module _ {v : FoundFunction} {p : Pass} {C w : List ℕ} {q : Pass} (opens : (w 
 
 module _ {v : FoundFunction} {C : List ℕ} where
   pub enters-first : v ≡ function.Nothing → {e : Entries} → e ≡ record { first = 0; length = 0 }
-      → EntersBy v C (record { kind = Local; base = 0; heaps = heaps.Nothing; before = e })
+      → EntersBy v C (record { kind = Local; base = 0; heaps = record { code = 0 }; before = e })
   unfolding enterParameters
-  enters-first q k = record { is = λ rs p F A w s xs f. rw (q, k); base = refl; inside = rw k (omega arith); few = tt }
+  enters-first q k = record { is = λ rs p F A w s xs f. rw (q, k); base = refl; inside = rw k (omega arith); few = omega arith }
 
   pub enters-again : {i : FunctionInformation} → v ≡ function.Found i → ListInside v → {n : ℕ} → CountsHeap C (i .«captured_vars») n → n ≤ itemsMost
-      → EntersBy v C (record { kind = Local; base = 0; heaps = heaps.Around n; before = i .arguments })
+      → EntersBy v C (record { kind = Local; base = 0; heaps = record { code = n + 1 }; before = i .arguments })
   unfolding enterParameters
-  enters-again {i} q l c small = record {
-    is = λ rs p F A w s xs f. rw (q, c .is (s .facts .captured) (f .tied .captured) (captured-many (f .tied .works)));
+  enters-again {i} q l {n} c small = record {
+    is = λ rs p F A w s xs f. rw (q, add-one n, c .is (s .facts .captured) (f .tied .captured) (captured-many (f .tied .works)));
     base = refl;
     inside = l i (ap functionFound q) .1;
-    few = small;
+    few = omega arith;
   }
 
 -- The lambda

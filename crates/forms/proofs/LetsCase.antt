@@ -5,6 +5,7 @@ use mathlib.Core.Bool.{Bool, true, false}
 use mathlib.Core.Option.{Option, none, some}
 use mathlib.Core.Path.{_≡_, refl, ap, sym, _∙_}
 use native.Mathlib.Omega.{arith}
+use native.Mathlib.Numerals.{add-one}
 use lib.ListN.{length}
 use lib.Dec.{eqb}
 use borrow.Author.Tests.{eq-eqb, ne-eqb}
@@ -40,7 +41,6 @@ use Rattle.forms.specs.FitsLaws.{fact-inside, told}
 use Rattle.forms.specs.Lets.{AroundFits, TellsHeaps, TellsFunction, LetAt, TellsLet}
 use Rattle.semantic.specs.declared.FoundFunction.the-variants as function
 use Rattle.semantic.specs.declared.FoundLet.the-variants as letin
-use Rattle.forms.specs.declared.bound.Heaps.the-variants as heaps
 
 -- the captured entries' table
 pub captured-length : {rs : List ℕ} {p : Pass} {F C A w : List ℕ} {s : State} → Fits rs (raw p F C A w) s → length C ≡ itemsLength
@@ -72,8 +72,8 @@ around-fits {rs} {p = p} {A = A} {w = w} b =
     record { rs = rs; p = p; arguments = A; work = w; s = b .s; function = b .function; around = b .around; fits = b .fits; outer = b .outer }
 
 module _ (a : Around) where
-  pub no-lambda : a .code ≡ 0 → (F C : List ℕ) → TellsHeaps a F C heaps.Nothing
-  no-lambda e F C = record { is = λ rs p A w s o h f. rw (nothing-is a e o h); few = tt }
+  pub no-lambda : a .code ≡ 0 → (F C : List ℕ) → TellsHeaps a F C (record { code = 0 })
+  no-lambda e F C = record { is = λ rs p A w s o h f. rw (nothing-is a e o h); few = omega arith }
 
   pub tells-id : TellsFunction a (a .id)
   tells-id = record { is = id-is a }
@@ -91,13 +91,13 @@ module _ (a : Around) where
           → functionFound r ≡ functionIn (rowAt s (k .n .at))
       row-says {s = s} k f = told (f .tied) (f .good .rows) (a .code - 1) few functionIn t ∙ ap (λ (j : ℕ). functionIn (rowAt s j)) (k .at)
 
-      pub no-function : r ≡ function.Nothing → TellsHeaps a F C heaps.Nothing
+      pub no-function : r ≡ function.Nothing → TellsHeaps a F C (record { code = 0 })
       no-function q = record {
         is = λ rs p A w s o h f.
             let k = lambda-is a e o h in
             let z : functionIn (rowAt s (k .n .at)) ≡ none = sym (row-says k f) ∙ ap functionFound q in
             rw (k .is, z);
-        few = tt;
+        few = omega arith;
       }
 
       module _ {v : FunctionInformation} (q : r ≡ function.Found v) where
@@ -107,13 +107,13 @@ module _ (a : Around) where
             let z : functionIn (rowAt (b .s) (k .n .at)) ≡ some v = sym (row-says k (b .fits)) ∙ ap functionFound q in
             (b .outer (k .n) (k .is) .1 v z, captured-length (b .fits))
 
-        pub heaps-counted : {n : ℕ} → CountsHeap C (v .«captured_vars») n → n ≤ itemsMost → TellsHeaps a F C (heaps.Around n)
+        pub heaps-counted : {n : ℕ} → CountsHeap C (v .«captured_vars») n → n ≤ itemsMost → TellsHeaps a F C (record { code = n + 1 })
         heaps-counted {n} c small = record {
           is = λ rs p A w s o h f.
               let k = lambda-is a e o h in
               let z : functionIn (rowAt s (k .n .at)) ≡ some v = sym (row-says k f) ∙ ap functionFound q in
-              rw (k .is, z) (ap some (c .is (s .facts .captured) (f .tied .captured) (captured-many (f .tied .works))));
-          few = small;
+              rw (k .is, z, add-one n) (ap some (c .is (s .facts .captured) (f .tied .captured) (captured-many (f .tied .works))));
+          few = omega arith;
         }
 
 -- The list of the let's fact

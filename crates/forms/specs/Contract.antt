@@ -19,6 +19,7 @@ use Rattle.pass.specs.Lists.{listIn}
 use Rattle.pass.specs.Lambda.{enterNames, enterLambda, leaveLambda, enterLet, leaveLet}
 use Rattle.pass.specs.Visit.{Flags, isLambda, endCall, clearContext, beforeDefine, afterDefine}
 use Rattle.pass.specs.Run.{rowsMost, itemsMost}
+use Rattle.work.specs.Coded.{placeIn}
 use Rattle.work.specs.Passes.{inScope, withNotes}
 use Rattle.work.specs.Tied.{Raw, raw, Tied, Good}
 use Rattle.work.specs.declared.Pass.{Pass}
@@ -33,7 +34,6 @@ use Rattle.flags.specs.declared.Around.{Around}
 use Rattle.forms.specs.declared.bound.Entering.{Entering}
 use Rattle.forms.specs.declared.bound.EnteredNames.{EnteredNames}
 use Rattle.forms.specs.declared.bound.Heaps.{Heaps}
-use Rattle.forms.specs.declared.bound.Heaps.the-variants as heaps
 
 -- a good state is held
 pub record Fits (rs : List ℕ) (z : Raw) (s : State) : Type 0 where
@@ -49,13 +49,12 @@ pub record Shallow (p : Pass) : Type 0 where
   pub scope : p .scope .depth < 4294967295
   pub captures : p .captures .depth < 4294967295
 
+-- a count is kept as a place is: plus one, and 0 is none
 abbrev pub heapsIn : Heaps → Option ℕ
-heapsIn (heaps.Around n) = some n
-heapsIn heaps.Nothing = none
+heapsIn o = placeIn (o .code)
 
 abbrev pub FewHeaps : Heaps → Type 0
-FewHeaps (heaps.Around n) = n ≤ itemsMost
-FewHeaps heaps.Nothing = Unit {0}
+FewHeaps o = o .code ≤ itemsMost + 1
 
 -- Names enter
 

@@ -40,10 +40,10 @@ pub fn no_entries() -> Entries
     }
 }
 
-// How many heap entries the lambda around has, where there is one.
-pub enum Heaps {
-    Around(u32),
-    Nothing,
+// How many heap entries the lambda around has, plus one; 0 where there is none. An enum would be stored in narrow words and copied in a wide one, and such a copy
+// waits for the stores.
+pub struct Heaps {
+    pub code: u32,
 }
 
 // What names that enter have in common: their kind, the slot of the first, the heap entries around, and the list of the run before.
@@ -97,10 +97,10 @@ fn enter_with(
 fn or_zero(heaps: Heaps) -> u32
     ensures { λ r. ⌜ r ≡ orZero (heapsIn heaps) ⌝ }
 {
-    match heaps {
-        Heaps::Around(n) => n,
-        Heaps::Nothing => 0,
+    if heaps.code == 0 {
+        return 0;
     }
+    heaps.code - 1
 }
 
 // The entry of the name at place j, with h heap entries before it: on the heap, if it was captured and mutated on the run before, or with a slot.
@@ -131,10 +131,10 @@ fn note_heap(heap: bool, heaps: Heaps, at: usize, p: Pass) -> Pass
     if !heap {
         return p;
     }
-    match heaps {
-        Heaps::Around(_) => p,
-        Heaps::Nothing => note_second(p, 11, at),
+    if heaps.code == 0 {
+        return note_second(p, 11, at);
     }
+    p
 }
 
 // The name at place j, with h heap entries before it.

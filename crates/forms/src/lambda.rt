@@ -81,20 +81,23 @@ fn entering(v: FoundFunction, captured: &[u32]) -> Entering
 {
     let FoundFunction::Found(i) = v else {
         let none = no_entries();
+        let heaps = Heaps { code: 0 };
         return Entering {
             kind: IdentifierStatus::Local,
             base: 0,
-            heaps: Heaps::Nothing,
+            heaps,
             before: none,
         };
     };
     let list = i.captured_vars;
     let before = i.arguments;
-    let n = heap_count(list, captured);
+    let heaps = Heaps {
+        code: heap_count(list, captured) + 1,
+    };
     Entering {
         kind: IdentifierStatus::Local,
         base: 0,
-        heaps: Heaps::Around(n),
+        heaps,
         before,
     }
 }

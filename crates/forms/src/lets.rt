@@ -33,15 +33,17 @@ fn heaps_around(f: Around, facts: &[u32], captured: &[u32]) -> Heaps
     ensures { λ r. ⌜ TellsHeaps f (now (facts .entry)) (now (captured .entry)) r ⌝ }
 {
     if f.code == 0 {
-        return Heaps::Nothing;
+        return Heaps { code: 0 };
     }
     let at = (f.code - 1) as usize;
     let found = semantic::kinds::function_at(facts, at);
     let FoundFunction::Found(v) = found else {
-        return Heaps::Nothing;
+        return Heaps { code: 0 };
     };
     let list = v.captured_vars;
-    Heaps::Around(heap_count(list, captured))
+    Heaps {
+        code: heap_count(list, captured) + 1,
+    }
 }
 
 fn function_id(f: Around) -> u32

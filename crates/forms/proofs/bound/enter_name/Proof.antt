@@ -22,7 +22,7 @@ enter-with-requires c κs =
     let p₁ = c .before .before .before in
     let p₂ = p₁ .before in
     let p₃ = p₂ .before in
-    let start = p₃ .before .before .before .before in
+    let start = p₃ .before .before .before .before .before in
     let o = start .args in (
       noted-fits (p₃ .note-heap .ensures) (start .pre .0),
       entry-new (o .g .base) (heapsIn (o .g .heaps)) (o .j) (o .h) (p₂ .depth .result) (o .heap) (p₁ .name-entry .ensures),

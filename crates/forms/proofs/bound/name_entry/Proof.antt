@@ -14,7 +14,7 @@ or-zero-requires c κs = search needs
 
 add-on-heap : tie.Need-add-on-heap
 add-on-heap c =
-    let start = c .before .before in
+    let start = c .before .before .before in
     omega (arith, c .or-zero .ensures, few-around (start .args .g .heaps) (start .pre .few), start .pre .heaps)
 
 on-heap-requires : tie.Need-on-heap-requires
@@ -22,7 +22,7 @@ on-heap-requires c κs = search needs
 
 returns : tie.Need-returns
 returns c =
-    let o = c .before .before .before .args in
+    let o = c .before .before .before .before .args in
     rw (c .before .before .if1 .taken) (c .on-heap .ensures ∙ ap (λ (z : ℕ). coded (heapEntry (o .j) (o .h + z) (o .depth))) (c .before .or-zero .ensures))
 
 add-local : tie.Need-add-local

@@ -1,5 +1,6 @@
 -- `entering`: by whether the lambda has a fact.
 use mathlib.Core.Path.{ap}
+use native.Mathlib.Omega.{arith}
 use borrow.Author.Needs.{needs}
 use Rattle.semantic.specs.Kinds.{functionFound}
 use Rattle.forms.proofs.LambdaEnter.{enters-first, enters-again}
@@ -21,6 +22,9 @@ returns c = enters-first (c .before .enum-told .given .1) (c .no-entries .ensure
 heap-count-requires : tie.Need-heap-count-requires
 heap-count-requires c κs = (c .before .before .before .before .before .before .pre .0 _ (ap functionFound (c .before .before .before .v .given .1)) .0, c .before .before .before .before .before .before .pre .1)
 
+add-t11 : tie.Need-add-t11
+add-t11 c = omega (arith, c .heap-count .ensures .1)
+
 returns-2 : tie.Need-returns-2
 returns-2 c =
     let h = c .heap-count .ensures in
@@ -29,4 +33,4 @@ returns-2 c =
 pub entering-spec : {M : Type 1} → statement M
 entering-spec =
     tie.close
-    (tie.spec enum-known-v enum-told no-entries-requires returns heap-count-requires returns-2)
+    (tie.spec enum-known-v enum-told no-entries-requires returns heap-count-requires add-t11 returns-2)

@@ -1,4 +1,5 @@
 -- `heaps_around`: by whether a lambda stands around, and has a fact.
+use native.Mathlib.Omega.{arith}
 use borrow.Author.Needs.{needs}
 use Rattle.forms.proofs.LetsCase.{no-lambda, around-few, around-fact, no-function, list-inside, heaps-counted}
 use Rattle.forms.proofs.lets.heaps_around.Statement.{statement}
@@ -35,6 +36,9 @@ heap-count-requires c κs =
     let fits = called .before .before .before .before .before .before .pre in
     list-inside _ z (around-few _ z fits) (called .function-at .result) (called .function-at .ensures) (c .before .before .found .given .1) fits
 
+add-t10 : tie.Need-add-t10
+add-t10 c = omega (arith, c .heap-count .ensures .1)
+
 returns-3 : tie.Need-returns-3
 returns-3 c =
     let called = c .before .before .before .before .before in
@@ -55,4 +59,5 @@ heaps-around-spec =
     enum-told
     returns-2
     heap-count-requires
+    add-t10
     returns-3)
