@@ -36,12 +36,12 @@ use Rattle.work.specs.TiedLaws.{tied-works}
 use Rattle.work.specs.GoodLaws.{good-where, good-each}
 use Rattle.work.specs.declared.Pass.{Pass}
 use Rattle.walk.specs.declared.uses.Names.{Names}
+use Rattle.names.specs.EnteredLaws.{held-same}
 use Rattle.lists.specs.Contract.{Inside, CapturesRoom, SomeHeld, Numbers, CountsHeap}
 use Rattle.forms.specs.Contract.{Fits, NamesFit, EntersNames, ListsFit, LambdaFits, EntersLambda}
 use Rattle.forms.specs.declared.bound.Entering.{Entering}
 use Rattle.forms.specs.FitsLaws.{told, tied-context}
 use Rattle.forms.specs.Lambdas.{ListRoom, numberFound, NumbersCaptures, contextWithin, ListOpens, OpensList, ListInside, EntersBy}
-use Rattle.forms.proofs.NamesCase.{held-same}
 use Rattle.forms.proofs.LetsCase.{captured-length}
 use Rattle.semantic.specs.declared.FoundFunction.the-variants as function
 use Rattle.pass.specs.Sound as pass

@@ -1,32 +1,26 @@
 -- Names enter one after another, over states.
 use Prim.Native.Nat.{ℕ, suc, _+_, _-_, _≤_, _<_}
 use mathlib.Core.List.{List}
-use mathlib.Core.Bool.{Bool, true, false, cond, _&&_}
+use mathlib.Core.Bool.{Bool, true, false, cond}
 use mathlib.Core.Option.{Option, none, some}
 use mathlib.Core.Path.{_≡_, refl, ap, sym, _∙_}
 use native.Mathlib.Omega.{arith}
 use lib.ListN.{length, length-map}
-use lib.Dec.{ltb}
 use Rattle.tree.specs.Tree.{Ident, named}
-use Rattle.scope_map.specs.ScopeMap.{ScopeMap, define, hasAtTop}
-use Rattle.scope_map.specs.MapLaws.{mapValues}
-use Rattle.scope_map.specs.Held.{Held}
-use Rattle.scope_map.specs.declared.ScopeMap.{ScopeMap as Map}
 use Rattle.semantic.specs.Rows.{Row, Item}
 use Rattle.semantic.specs.declared.IdentifierStatus.{IdentifierStatus}
-use Rattle.pass.specs.State.{State, Capture, Entry, withNames, insert, putEntry, depth}
-use Rattle.pass.specs.Read.{noteLive, enter}
+use Rattle.pass.specs.State.{State, Entry, insert}
+use Rattle.pass.specs.Read.{enter}
 use Rattle.pass.specs.Lists.{listIn}
 use Rattle.pass.specs.Lambda.{isHeap, noteHeap, enterName, enterNames}
 use Rattle.pass.specs.Run.{itemsLength}
-use Rattle.work.specs.Coded.{notedOf}
-use Rattle.work.specs.Works.{rowOf, Beside, Works}
-use Rattle.work.specs.WorksLaws.{names-many, depth-is, context-is, captured-top, arguments-top}
-use Rattle.work.specs.WorksKept.{works-as}
+use Rattle.work.specs.Works.{Beside}
+use Rattle.work.specs.WorksLaws.{names-many}
 use Rattle.work.specs.Tied.{Raw, raw, Tied}
 use Rattle.work.specs.TiedLaws.{tied-works}
 use Rattle.work.specs.declared.Pass.{Pass}
 use Rattle.walk.specs.declared.uses.Names.{Names}
+use Rattle.names.specs.EnteredLaws.{asideOf, enter-aside, works-entered}
 use Rattle.lists.specs.Contract.{Told}
 use Rattle.forms.specs.Contract.{Fits, NamesRoom, NamesFit, EntersNames, heapsIn, withEntered, enteredIn}
 use Rattle.forms.specs.declared.bound.Entering.{Entering}
@@ -48,62 +42,19 @@ moved rs g before ea ek ej eh l = rw (← ea, ← ek, ← ej, ← eh) l
 
 -- What names that enter leave as it was
 
-record Aside : Type 0 where
-  depth : ℕ
-  captures : ScopeMap Capture
-  context : ℕ
-  capturedTop : ℕ
-  argumentsTop : ℕ
-  ten : Option ℕ
-
-abbrev asideOf : State → Aside
-asideOf s = record {
-  depth = s .scope .names .depth;
-  captures = s .captures;
-  context = s .context;
-  capturedTop = s .facts .capturedTop;
-  argumentsTop = s .facts .argumentsTop;
-  ten = s .noted .ten;
-}
-
-live-aside : (b : Bool) (x : Ident) (s : State) → asideOf (withNames (define (x .name) x (s .scope .names)) (noteLive b (x .at) s)) ≡ asideOf s
-live-aside true x s = refl
-live-aside false x s = refl
-
 heap-aside : (o : Option ℕ) (x : Ident) (s : State) → asideOf (noteHeap o x s) ≡ asideOf s
 heap-aside none x s = refl
 heap-aside (some k) x s = refl
 
 fact-aside : (i : ℕ) (r : Row) (x : Ident) (e : Entry) (s : State) → asideOf (insert i r (enter x e s)) ≡ asideOf s
-unfolding insert enter putEntry
-fact-aside i r x e s = live-aside (ltb 1 (depth s) && hasAtTop (s .scope .names) (x .name)) x s
+unfolding insert
+fact-aside i r x e s = enter-aside x e s
 
 module _ (kind : IdentifierStatus) (base : ℕ) (heaps : Option ℕ) (before : List Item) where
   name-aside : (b : Bool) (x : Ident) (j h : ℕ) (s : State) → asideOf (enterName kind base heaps before b x j h s) ≡ asideOf s
   unfolding enterName
   name-aside true x j h s = fact-aside (x .at) _ x _ (noteHeap heaps x s) ∙ heap-aside heaps x s
   name-aside false x j h s = fact-aside (x .at) _ x _ s
-
-map-is : {m k : Map} → m .depth ≡ k .depth → m .length ≡ k .length → m ≡ k
-map-is {m} {k} d l = let z : record { depth = m .depth; length = m .length } ≡ k = rw (d, l) in z
-
--- one struct alone holds a map
-pub held-same : {m k : Map} {t u : List ℕ} {x y : ScopeMap ℕ} → Held m t x → Held k u y → x ≡ y → m ≡ k
-held-same a b e =
-    map-is (a .depth ∙ ap (λ (x : ScopeMap ℕ). x .depth) e ∙ sym (b .depth)) (a .many ∙ ap (λ (x : ScopeMap ℕ). length (x .live)) e ∙ sym (b .many))
-
--- so the pass is what it was, but for what they changed
-works-entered : {p q : Pass} {w w′ : List ℕ} {s t : State} → Works p w s → Works q w′ t → asideOf t ≡ asideOf s → Works (withEntered (enteredIn q) p) w′ t
-works-entered {p} {q} {t = t} a b e =
-    let depth = depth-is a ∙ ap (λ (k : Aside). k .depth) (sym e) ∙ sym (depth-is b) in
-    let captures = held-same (a .captures) (b .captures) (ap (λ (k : Aside). mapValues rowOf (k .captures)) (sym e)) in
-    let ten : notedOf (p .ten) ≡ t .noted .ten = ap (λ (k : Beside). k .ten) (a .beside) ∙ ap (λ (k : Aside). k .ten) (sym e) in
-    let context = context-is a ∙ ap (λ (k : Aside). k .context) (sym e) in
-    let captured = captured-top a ∙ ap (λ (k : Aside). k .capturedTop) (sym e) in
-    let arguments = arguments-top a ∙ ap (λ (k : Aside). k .argumentsTop) (sym e) in
-    let nine = ap (λ (k : Beside). k .nine) (b .beside) in
-    let second = ap (λ (k : Beside). k .second) (b .beside) in
-    works-as b _ t (map-is depth refl) captures refl refl refl (rw (context, captured, arguments, nine, ten, second))
 
 -- the state of the loop: j names have entered, h of them on the heap
 pub record Coming (rs : List ℕ) (n : Names) (g : Entering) (p : Pass) (F A w : List ℕ) (j h : ℕ) (q : Pass) (F′ w′ : List ℕ) : Type 0 where
@@ -143,7 +94,7 @@ module _ {rs : List ℕ} {n : Names} {g : Entering} {p : Pass} {F A w : List ℕ
             let a = name-aside (g .kind) (g .base) (heapsIn (g .heaps)) before (isHeap before j) (x .x) j h (l .s) in
             record {
               good = good-name (g .kind) (g .base) (heapsIn (g .heaps)) before (isHeap before j) (x .x) j h (x .here .known) (l .fits .good);
-              tied = tied-works _ t refl (works-entered (l .fits .tied .works) (t .works) a);
+              tied = tied-works _ t refl (works-entered (l .fits .tied .works) (t .works) a (ap (λ (k : Beside). k .second) (t .works .beside)));
             }
 
         pub coming-goes : {h′ : ℕ} → h′ ≡ cond b (suc h) h → Coming rs n g p F A w (j + 1) h′ (withEntered (enteredIn q′) q) F″ w″

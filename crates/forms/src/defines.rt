@@ -1,6 +1,7 @@
 // Defines: before and after their bodies, and the lambda defines that enter first. `enter_define` is handed a copy of the pass: what is handed
 // by address is kept in memory from the start, also where nothing enters.
 use names::define::enter_define;
+use names::define::with_name;
 use semantic::IdentifierStatus;
 use semantic::NONE;
 use walk::body::Body;
@@ -29,7 +30,7 @@ pub fn before_define(
     }
     if b.lambda {
         let o = p;
-        let q = enter_define(
+        let e = enter_define(
             &*all,
             at + 1,
             IdentifierStatus::Local,
@@ -39,6 +40,7 @@ pub fn before_define(
             facts,
             work,
         );
+        let q = with_name(p, e);
         return q.with_context(id);
     }
     p
@@ -60,7 +62,7 @@ fn enter_value(
         return p;
     }
     let o = p;
-    enter_define(
+    let e = enter_define(
         &*all,
         at + 1,
         IdentifierStatus::Local,
@@ -69,7 +71,8 @@ fn enter_value(
         o,
         facts,
         work,
-    )
+    );
+    with_name(p, e)
 }
 
 pub fn after_define(
@@ -114,7 +117,8 @@ pub fn enter_child(
     let b = body_at(classes, all, at + 2);
     if b.lambda {
         let o = p;
-        return enter_define(&*all, at + 1, kind, NONE, b, o, facts, work);
+        let e = enter_define(&*all, at + 1, kind, NONE, b, o, facts, work);
+        return with_name(p, e);
     }
     p
 }

@@ -23,7 +23,7 @@ use Rattle.pass.specs.Read.{noteLive, enter, statusAt, defineFact, enterDefine,
 use Rattle.pass.specs.Laws.Sound.Each.{each-mark}
 use Rattle.pass.specs.Laws.Sound.Names.{marked-uses}
 use Rattle.work.specs.Coded.{coded, recordIn}
-use Rattle.work.specs.Works.{Works}
+use Rattle.work.specs.Works.{Beside, Works}
 use Rattle.work.specs.WorksLaws.{depth-is}
 use Rattle.work.specs.ScopeLaws.{newest-known}
 use Rattle.work.specs.Leaves.{Becomes, Tells, StoresEntry}
@@ -35,7 +35,8 @@ use Rattle.work.specs.declared.Pass.{Pass}
 use Rattle.work.specs.declared.entries.Entry.{Entry as Coded}
 use Rattle.walk.specs.declared.body.Body.{Body}
 use Rattle.names.specs.Facts.{spanOf}
-use Rattle.names.specs.Contract.{Enters, Entered, PutsName, DefinesBy, EntersValue, Defined}
+use Rattle.names.specs.Contract.{Enters, Entered, withName, nameIn, PutsName, DefinesBy, EntersValue, Defined}
+use Rattle.names.specs.EnteredLaws.{enter-aside, enter-second, works-entered}
 use Rattle.names.specs.Steps.{DefineFact, Shadows}
 use Rattle.names.proofs.KnownCase.{known-name, known-span, known-few, found-none, uses-are}
 
@@ -82,6 +83,13 @@ puts-name {at = at} {n} {place} {p = p} {w₁ = w₁} {w₂} en d m = record {
 pub passed : {place at : ℕ} {p q r : Pass} {b : Bool} → b ≡ isLiveRow place p → q ≡ inRow place p → ((w : List ℕ) → Becomes q w (noteLive b at) r w)
     → Entered place at p r
 passed {at = at} {r = r} e f o = record { is = rw (e, f) at o }
+
+-- the pass from before, with what the name changed, is the pass after it
+pub enters-changed : {rs : List ℕ} {at : ℕ} {e : Coded} {p q : Pass} {w w′ : List ℕ} → Enters rs at e p w q w′ → Enters rs at e p w (withName (nameIn q) p) w′
+enters-changed k = record {
+  is = λ s x v kx px ev h.
+      works-entered h (k .is s x v kx px ev h) (enter-aside x v s) (ap (λ (b : Beside). b .second) (h .beside) ∙ sym (enter-second x v s));
+}
 
 pub top-level-fits : {e : Coded} → e ≡ coded topLevelEntry → e .uses < 536870912
 top-level-fits q = omega (arith, uses-are q)

@@ -12,6 +12,7 @@ use Rattle.work.specs.Known.{Known}
 use Rattle.work.specs.Coded.{coded}
 use Rattle.work.specs.Works.{Works}
 use Rattle.work.specs.Leaves.{Becomes}
+use Rattle.work.specs.Passes.{inScope, withNotes}
 use Rattle.work.specs.Scope.{isLiveRow, inRow}
 use Rattle.work.specs.Tied.{raw, Tied, Good, Here}
 use Rattle.work.specs.declared.Pass.{Pass}
@@ -19,6 +20,7 @@ use Rattle.work.specs.declared.entries.Entry.{Entry as Coded}
 use Rattle.names.specs.Rules.{Same}
 use Rattle.walk.specs.Contract.{bodyOf}
 use Rattle.walk.specs.declared.body.Body.{Body}
+use Rattle.names.specs.declared.define.EnteredName.{EnteredName}
 use Rattle.names.specs.declared.read.Rule.{Rule}
 
 -- one name more has room
@@ -41,6 +43,14 @@ pub record Entered (place at : ℕ) (p p′ : Pass) : Type 0 where
 -- the tables have the name: it has entered once the pass is as after it
 pub record PutsName (rs : List ℕ) (at : ℕ) (e : Coded) (p : Pass) (w : List ℕ) (place : ℕ) (w′ : List ℕ) : Type 0 where
   pub is : (p′ : Pass) → Entered place at p p′ → Enters rs at e p w p′ w′
+
+-- the pass with what a name that entered changed
+abbrev pub withName : EnteredName → Pass → Pass
+withName e p = inScope (record { depth = p .scope .depth; length = e .length }) (withNotes (e .nine) (p .ten) (p .second) p)
+
+-- what it changed, in the pass after it
+abbrev pub nameIn : Pass → EnteredName
+nameIn q = record { length = q .scope .length; nine = q .nine }
 
 -- Some state is held, and the record at holds an identifier. What the function is not lent is any table.
 

@@ -2,19 +2,22 @@
 use crate::facts::mark_if_builtin;
 use crate::facts::mark_if_required;
 use crate::facts::status_at;
+use scope_map::ScopeMap;
 use semantic::IdentifierStatus;
 use semantic::SemanticInformation;
 use walk::body::Body;
+use work::Noted;
 use work::Pass;
 use work::entries::Entry;
 use work::scope::Binder;
 use work::scope::is_live_row;
+ghost use mathlib.Core.Path.{_≡_};
 ghost use Prim.Native.Nat.{_<_};
 ghost use lib.ListN.{length};
 ghost use Rattle.tree.specs.Record.{records};
 ghost use Rattle.pass.specs.Run.{rowsMost};
 ghost use Rattle.work.specs.Scope.{KnownHere};
-ghost use Rattle.names.specs.Contract.{SomeState, Room, PutsName, Entered, Defined, DefinesBy, EntersValue, Settable};
+ghost use Rattle.names.specs.Contract.{SomeState, Room, PutsName, Entered, withName, nameIn, Defined, DefinesBy, EntersValue, Settable};
 ghost use Rattle.names.specs.Steps.{DefineFact, Shadows};
 
 // The name at the record enters the newest layer, with its entry. Answers the row of the scope that it is in.
@@ -63,7 +66,40 @@ fn define_fact(
     l.aliases_to(alias)
 }
 
-// A define enters, its name at this record.
+// What a name that entered changes of the pass.
+pub struct EnteredName {
+    pub length: usize,
+    pub nine: Noted,
+}
+
+fn name_in(q: Pass) -> EnteredName
+    ensures { λ r. ⌜ r ≡ nameIn q ⌝ }
+{
+    let scope = q.scope;
+    let nine = q.nine;
+    EnteredName {
+        length: scope.length,
+        nine,
+    }
+}
+
+pub fn with_name(p: Pass, e: EnteredName) -> Pass
+    ensures { λ r. ⌜ r ≡ withName e p ⌝ }
+{
+    let names = p.scope;
+    let scope = ScopeMap {
+        depth: names.depth,
+        length: e.length,
+    };
+    let nine = e.nine;
+    let mut q = p;
+    q.scope = scope;
+    q.nine = nine;
+    q
+}
+
+// A define enters, its name at this record. Answers what changes: a whole pass would be stored in narrow words and copied in wide ones by the
+// caller, and such a copy waits for the stores.
 pub fn enter_define(
     all: &[u32],
     at: usize,
@@ -73,14 +109,14 @@ pub fn enter_define(
     p: Pass,
     facts: &mut [u32],
     work: &mut [u32],
-) -> Pass
+) -> EnteredName
     requires { ⌜ Room p × Defined (now all) at p (now facts) (now work) ⌝ }
-    ensures { λ r. ⌜ DefinesBy b kind alias (now (all .entry)) at p (now (facts .entry)) (now (work .entry)) r (now (facts .exit)) (now (work .exit)) ⌝ }
+    ensures { λ r. ⌜ DefinesBy b kind alias (now (all .entry)) at p (now (facts .entry)) (now (work .entry)) (withName r p) (now (facts .exit)) (now (work .exit)) ⌝ }
 {
     let fact = define_fact(all, at, kind, alias, b, p, work);
     let place = put_name(all, at, Entry::top_level(), p, work);
     semantic::rows::store_information(facts, at, fact);
-    entered(p, place, at)
+    name_in(entered(p, place, at))
 }
 
 // The fact of the name's newest entry is marked as shadowed, if it is a builtin's.
@@ -103,9 +139,9 @@ pub fn enter_top_level_value(
     p: Pass,
     facts: &mut [u32],
     work: &mut [u32],
-) -> Pass
+) -> EnteredName
     requires { ⌜ Room p × Defined (now all) at p (now facts) (now work) ⌝ }
-    ensures { λ r. ⌜ EntersValue b (now (all .entry)) at p (now (facts .entry)) (now (work .entry)) r (now (facts .exit)) (now (work .exit)) ⌝ }
+    ensures { λ r. ⌜ EntersValue b (now (all .entry)) at p (now (facts .entry)) (now (work .entry)) (withName r p) (now (facts .exit)) (now (work .exit)) ⌝ }
 {
     shadow(tree::record::name(all, at), p, facts, work);
     enter_define(

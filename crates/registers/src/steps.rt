@@ -21,6 +21,7 @@ use forms::lets::enter_let;
 use forms::lets::leave_let;
 use lists::amend::Lambda;
 use names::define::enter_top_level_value;
+use names::define::with_name;
 use names::read::mutate;
 use names::read::read;
 use semantic::IdentifierStatus;
@@ -277,6 +278,7 @@ pub fn enter_value(
     ensures { λ _. ⌜ EntersValue b (now (all .entry)) at (passIn (now (r .entry))) (now (facts .entry)) (now (work .entry)) (passIn (now (r .exit))) (now (facts .exit)) (now (work .exit)) ⌝ }
 {
     let p = load(r);
-    let q = enter_top_level_value(all, at, b, p, facts, work);
+    let e = enter_top_level_value(all, at, b, p, facts, work);
+    let q = with_name(p, e);
     store(r, q);
 }

@@ -1,5 +1,7 @@
 -- `before_define`, by where the define stands and what its body is.
+use mathlib.Core.Path.{ap, _∙_}
 use borrow.Author.Needs.{needs}
+use Rattle.work.specs.Passes.{inContext}
 use Rattle.forms.proofs.DefinesCase.{name-inside, define-room, before-direct, before-lambda, before-value}
 use Rattle.forms.proofs.defines.before_define.Statement.{statement}
 use Rattle.forms.proofs.defines.before_define.Tie as tie
@@ -22,6 +24,9 @@ add-enter-define c = search needs
 enter-define-requires : tie.Need-enter-define-requires
 enter-define-requires c κs = define-room _ _ _ _ _ (c .before .before .before .before .before .before .before .before .pre)
 
+with-name-requires : tie.Need-with-name-requires
+with-name-requires c κs = search needs
+
 with-context-requires-2 : tie.Need-with-context-requires-2
 with-context-requires-2 c κs = search needs
 
@@ -32,7 +37,12 @@ same-length-2 : tie.Need-same-length-2
 same-length-2 c = search needs
 
 returns-2 : tie.Need-returns-2
-returns-2 c = before-lambda _ _ _ _ _ (c .before .before .before .before .before .enter-define .ensures) (c .before .before .before .before .before .before .before .before .before .if1 .left) (c .before .before .before .before .before .before .before .before .if2 .taken) (c .before .before .before .before .before .before .before .before .before .before .id .ensures) (c .with-context2 .ensures)
+returns-2 c =
+    let p₁ = c .before in
+    let p₂ = p₁ .before .before .before .before .before in
+    let p₃ = p₂ .before .before .before in
+    before-lambda _ _ _ _ _ (p₂ .enter-define .ensures) (p₃ .before .if1 .left) (p₃ .if2 .taken) (p₃ .before .before .id .ensures)
+    (c .with-context2 .ensures ∙ ap (inContext _) (p₁ .with-name .ensures))
 
 returns-3 : tie.Need-returns-3
 returns-3 c = before-value _ _ _ _ _ (c .before .if1 .left) (c .if2 .left)
@@ -47,6 +57,7 @@ before-define-spec =
     returns
     add-enter-define
     enter-define-requires
+    with-name-requires
     with-context-requires-2
     same-length
     same-length-2

@@ -23,6 +23,9 @@ add-enter-define c = search needs
 enter-define-requires : tie.Need-enter-define-requires
 enter-define-requires c κs = child-room (c .before .before .before .before .before .before .before .before .before .before .args .classes .now) _ _ (c .before .before .before .before .before .before .before .before .before .before .args .kind) _ _ _ (sym (c .before .before .before .before .before .form .ensures) ∙ c .before .before .before .before .if1 .left) (c .before .before .before .before .before .before .before .before .before .before .pre)
 
+with-name-requires : tie.Need-with-name-requires
+with-name-requires c κs = search needs
+
 same-length : tie.Need-same-length
 same-length c = search needs
 
@@ -30,7 +33,12 @@ same-length-2 : tie.Need-same-length-2
 same-length-2 c = search needs
 
 returns-2 : tie.Need-returns-2
-returns-2 c = child-lambda _ _ _ _ _ _ _ (sym (c .before .before .before .before .before .before .before .before .before .before .form .ensures) ∙ c .before .before .before .before .before .before .before .before .before .if1 .left) (c .before .before .before .before .before .before .before .before .body-at .ensures) (c .before .before .before .before .before .before .before .if2 .taken) (c .before .before .before .before .enter-define .ensures)
+returns-2 c =
+    let p₁ = c .before .before .before .before .before in
+    let p₂ = p₁ .before .before .before in
+    let p₃ = p₂ .before in
+    rw (c .with-name .ensures)
+    (child-lambda _ _ _ _ _ _ _ (sym (p₃ .before .before .form .ensures) ∙ p₃ .before .if1 .left) (p₃ .body-at .ensures) (p₂ .if2 .taken) (p₁ .enter-define .ensures))
 
 returns-3 : tie.Need-returns-3
 returns-3 c = child-value _ _ _ _ _ _ _ (sym (c .before .before .before .form .ensures) ∙ c .before .before .if1 .left) (c .before .body-at .ensures) (c .if2 .left)
@@ -45,6 +53,7 @@ enter-child-spec =
     body-at-requires
     add-enter-define
     enter-define-requires
+    with-name-requires
     same-length
     same-length-2
     returns-2

@@ -1,6 +1,6 @@
 -- `enter_define`: the fact is made first, then the name enters.
 use Rattle.names.proofs.KnownCase.{known-inside, known-few, bounds}
-use Rattle.names.proofs.DefineCase.{defines-by, top-level-fits}
+use Rattle.names.proofs.DefineCase.{defines-by, enters-changed, top-level-fits}
 use borrow.Author.Needs.{needs}
 use Rattle.names.proofs.define.enter_define.Statement.{statement}
 use Rattle.names.proofs.define.enter_define.Tie as tie
@@ -36,6 +36,9 @@ entered-requires c κs =
     let h = start .pre .1 .here in
     (start .pre .0, known-few (h .known) (h .place))
 
+name-in-requires : tie.Need-name-in-requires
+name-in-requires c κs = search needs
+
 same-length : tie.Need-same-length
 same-length c = search needs
 
@@ -44,11 +47,12 @@ same-length-2 c = search needs
 
 returns : tie.Need-returns
 returns c =
-    let p₁ = c .before .before .before in
+    let p₀ = c .before in
+    let p₁ = p₀ .before .before .before in
     let p₂ = p₁ .before .before .before .before in
     let p₃ = p₂ .before .before in
     let p₄ = p₃ .before in
-    defines-by (p₄ .define-fact .ensures) (p₃ .top-level .ensures) (p₂ .put-name .ensures .is _ (c .entered .ensures)) (p₁ .store-information .ensures)
+    rw (c .name-in .ensures) (defines-by (p₄ .define-fact .ensures) (p₃ .top-level .ensures) (enters-changed (p₂ .put-name .ensures .is _ (p₀ .entered .ensures))) (p₁ .store-information .ensures))
 
 pub enter-define-spec : {M : Type 1} → statement M
 enter-define-spec =
@@ -59,6 +63,7 @@ enter-define-spec =
     put-name-requires
     store-information-requires
     entered-requires
+    name-in-requires
     same-length
     same-length-2
     returns)

@@ -9,6 +9,9 @@ load-requires c κs = search needs
 enter-top-level-value-requires : tie.Need-enter-top-level-value-requires
 enter-top-level-value-requires c κs = rw (c .before .before .load .ensures) (c .before .before .before .before .before .before .before .pre)
 
+with-name-requires : tie.Need-with-name-requires
+with-name-requires c κs = search needs
+
 store-requires : tie.Need-store-requires
 store-requires c κs = search needs
 
@@ -19,7 +22,11 @@ same-length-2 : tie.Need-same-length-2
 same-length-2 c = search needs
 
 returns : tie.Need-returns
-returns c = rw (c .store .ensures, ← c .before .before .before .before .before .before .before .before .before .load .ensures) (c .before .before .before .before .before .before .enter-top-level-value .ensures)
+returns c =
+    let p₁ = c .before .before in
+    let p₂ = p₁ .before .before .before .before .before in
+    let p₃ = p₂ .before .before .before in
+    rw (c .store .ensures, p₁ .with-name .ensures, ← p₃ .load .ensures) (p₂ .enter-top-level-value .ensures)
 
 pub enter-value-spec : {M : Type 1} → statement M
 enter-value-spec =
@@ -27,6 +34,7 @@ enter-value-spec =
     (tie.spec
     load-requires
     enter-top-level-value-requires
+    with-name-requires
     store-requires
     same-length
     same-length-2
