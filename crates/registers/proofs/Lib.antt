@@ -1,1 +1,2 @@
+pub mod StepCase
 pub mod StoreCase

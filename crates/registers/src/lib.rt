@@ -4,9 +4,9 @@ use work::Noted;
 use work::Pass;
 use work::Second;
 ghost use mathlib.Core.Path.{_≡_};
-ghost use Prim.Native.Nat.{_<_};
+ghost use Prim.Native.Nat.{_+_, _<_};
 ghost use lib.ListN.{length, set};
-ghost use Rattle.work.specs.Passes.{withSecond};
+ghost use Rattle.work.specs.Passes.{inScope, inCaptures, withSecond};
 ghost use Rattle.registers.specs.Registers.{registersLength, narrowOf, Narrow, passIn};
 
 pub mod steps;
@@ -100,10 +100,32 @@ fn put(r: &mut [usize], i: usize, x: usize)
     r[i] = x;
 }
 
+// A number that is 32 bits wide in the pass, and the one after it.
+fn put_pair(r: &mut [usize], i: usize, x: u32, y: usize)
+    requires { ⌜ i + 1 < length (now r) ⌝ }
+    ensures { λ _. ⌜ (now (r .exit) ≡ set (set (now (r .entry)) i x) (i + 1) y) × Narrow x ⌝ }
+{
+    put(r, i, wide(x));
+    put(r, i + 1, y);
+}
+
+fn put_scope(r: &mut [usize], m: ScopeMap)
+    requires { ⌜ length (now r) ≡ registersLength ⌝ }
+    ensures { λ _. ⌜ passIn (now (r .exit)) ≡ inScope m (passIn (now (r .entry))) ⌝ }
+{
+    put_pair(r, SCOPE_DEPTH, m.depth, m.length);
+}
+
+fn put_captures(r: &mut [usize], m: ScopeMap)
+    requires { ⌜ length (now r) ≡ registersLength ⌝ }
+    ensures { λ _. ⌜ passIn (now (r .exit)) ≡ inCaptures m (passIn (now (r .entry))) ⌝ }
+{
+    put_pair(r, CAPTURES_DEPTH, m.depth, m.length);
+}
+
 fn put_second(r: &mut [usize], s: Second)
     requires { ⌜ length (now r) ≡ registersLength ⌝ }
     ensures { λ _. ⌜ passIn (now (r .exit)) ≡ withSecond s (passIn (now (r .entry))) ⌝ }
 {
-    put(r, SECOND_NUMBER, wide(s.number));
-    put(r, SECOND_AT, s.at);
+    put_pair(r, SECOND_NUMBER, s.number, s.at);
 }

@@ -1,10 +1,16 @@
 // What a visit does beside visiting the parts of its expression, with the pass's numbers in their table.
+use crate::ARGUMENTS_TOP;
+use crate::CAPTURED_TOP;
 use crate::CONTEXT;
+use crate::NINE;
 use crate::REGISTERS;
 use crate::SCOPE_DEPTH;
+use crate::TEN;
 use crate::load;
 use crate::narrow;
 use crate::put;
+use crate::put_captures;
+use crate::put_scope;
 use crate::put_second;
 use crate::store;
 use crate::wide;
@@ -101,7 +107,9 @@ pub fn open_let(
         arguments,
         work,
     );
-    store(r, q);
+    put_scope(r, q.scope);
+    put(r, NINE, q.nine.code);
+    put_second(r, q.second);
 }
 
 pub fn close_let(
@@ -121,7 +129,8 @@ pub fn close_let(
 {
     let p = load(r);
     let q = leave_let(all, opened, at, names, height, f, p, facts, arguments, work);
-    store(r, q);
+    put_scope(r, q.scope);
+    put(r, ARGUMENTS_TOP, q.arguments_top);
 }
 
 pub fn open_define(
@@ -174,7 +183,11 @@ pub fn open_lambda(
 {
     let p = load(r);
     let q = enter_lambda(all, at, names, p, facts, captured, arguments, work);
-    store(r, q);
+    set_context(r, q.context);
+    put_scope(r, q.scope);
+    put_captures(r, q.captures);
+    put(r, NINE, q.nine.code);
+    put_second(r, q.second);
 }
 
 pub fn close_lambda(
@@ -193,7 +206,11 @@ pub fn close_lambda(
 {
     let p = load(r);
     let q = leave_lambda(all, at, d, escapes, p, facts, captured, arguments, work);
-    store(r, q);
+    put_scope(r, q.scope);
+    put_captures(r, q.captures);
+    put(r, CAPTURED_TOP, q.captured_top);
+    put(r, ARGUMENTS_TOP, q.arguments_top);
+    put(r, TEN, q.ten.code);
 }
 
 // The lambda defines among k trees, the first at the record `first`, enter with this kind.
@@ -239,7 +256,7 @@ pub fn open_set(at: usize, r: &mut [usize; REGISTERS], facts: &[u32])
 {
     let p = load(r);
     let q = clear_context(at, p, facts);
-    store(r, q);
+    set_context(r, q.context);
 }
 
 pub fn close_set(name: u32, r: &[usize; REGISTERS], facts: &mut [u32], work: &mut [u32])

@@ -1,4 +1,6 @@
--- `close_lambda`: `leave_lambda` of the pass that the table holds, and its answer is stored.
+-- `close_lambda`: `leave_lambda` of the pass that the table holds, and what it changes is stored.
+use Rattle.registers.proofs.StepCase.{lambda-closed}
+use Rattle.registers.proofs.StoreCase.{captured-back, arguments-back, ten-back}
 use borrow.Author.Needs.{needs}
 use Rattle.registers.proofs.steps.close_lambda.Statement.{statement}
 use Rattle.registers.proofs.steps.close_lambda.Tie as tie
@@ -9,8 +11,20 @@ load-requires c κs = search needs
 leave-lambda-requires : tie.Need-leave-lambda-requires
 leave-lambda-requires c κs = rw (c .before .before .before .before .load .ensures) (c .before .before .before .before .before .before .before .before .before .before .before .pre)
 
-store-requires : tie.Need-store-requires
-store-requires c κs = search needs
+put-scope-requires : tie.Need-put-scope-requires
+put-scope-requires c κs = search needs
+
+put-captures-requires : tie.Need-put-captures-requires
+put-captures-requires c κs = search needs
+
+put-requires : tie.Need-put-requires
+put-requires c κs = search needs
+
+put-requires-2 : tie.Need-put-requires-2
+put-requires-2 c κs = search needs
+
+put-requires-3 : tie.Need-put-requires-3
+put-requires-3 c κs = search needs
 
 same-length : tie.Need-same-length
 same-length c = search needs
@@ -25,17 +39,13 @@ same-length-4 : tie.Need-same-length-4
 same-length-4 c = search needs
 
 returns : tie.Need-returns
-returns c = rw (c .store .ensures, ← c .before .before .before .before .before .before .before .before .before .before .before .before .before .before .before .load .ensures) (c .before .before .before .before .before .before .before .before .before .before .leave-lambda .ensures)
+returns c =
+    let step = c .before .before .before .before .before .before .before .before .before .before .before .before .before .before .before .before .before .before in
+    let loaded = step .before .before .before .before .before in
+    let ten = ten-back (c .before .before .put2 .last .0) (c .before .put-arg3 .given .0 .1) (step .leave-lambda .result .ten) (c .put3 .ensures) in
+    let arguments = arguments-back (c .before .before .before .before .put .last .0) (c .before .before .before .put-arg2 .given .0 .1) (step .leave-lambda .result .«arguments_top») (c .before .before .put2 .ensures) in
+    let captured = captured-back (c .before .before .before .before .before .before .put-captures .last .0) (c .before .before .before .before .before .put-arg .given .0 .1) (step .leave-lambda .result .«captured_top») (c .before .before .before .before .put .ensures) in
+    rw (ten, arguments, captured, c .before .before .before .before .before .before .put-captures .ensures, c .before .before .before .before .before .before .before .before .put-scope .ensures, ← loaded .load .ensures) (lambda-closed (step .leave-lambda .ensures))
 
 pub close-lambda-spec : {M : Type 1} → statement M
-close-lambda-spec =
-    tie.close
-    (tie.spec
-    load-requires
-    leave-lambda-requires
-    store-requires
-    same-length
-    same-length-2
-    same-length-3
-    same-length-4
-    returns)
+close-lambda-spec = tie.close (tie.spec load-requires leave-lambda-requires put-scope-requires put-captures-requires put-requires put-requires-2 put-requires-3 same-length same-length-2 same-length-3 same-length-4 returns)

@@ -1,4 +1,6 @@
--- `close_let`: `leave_let` of the pass that the table holds, and its answer is stored.
+-- `close_let`: `leave_let` of the pass that the table holds, and what it changes is stored.
+use Rattle.registers.proofs.StepCase.{let-left}
+use Rattle.registers.proofs.StoreCase.{arguments-back}
 use borrow.Author.Needs.{needs}
 use Rattle.registers.proofs.steps.close_let.Statement.{statement}
 use Rattle.registers.proofs.steps.close_let.Tie as tie
@@ -9,8 +11,11 @@ load-requires c κs = search needs
 leave-let-requires : tie.Need-leave-let-requires
 leave-let-requires c κs = rw (c .before .before .before .load .ensures) (c .before .before .before .before .before .before .before .before .before .pre)
 
-store-requires : tie.Need-store-requires
-store-requires c κs = search needs
+put-scope-requires : tie.Need-put-scope-requires
+put-scope-requires c κs = search needs
+
+put-requires : tie.Need-put-requires
+put-requires c κs = search needs
 
 same-length : tie.Need-same-length
 same-length c = search needs
@@ -22,16 +27,11 @@ same-length-3 : tie.Need-same-length-3
 same-length-3 c = search needs
 
 returns : tie.Need-returns
-returns c = rw (c .store .ensures, ← c .before .before .before .before .before .before .before .before .before .before .before .before .load .ensures) (c .before .before .before .before .before .before .before .before .leave-let .ensures)
+returns c =
+    let step = c .before .before .before .before .before .before .before .before .before .before in
+    let loaded = step .before .before .before .before in
+    let arguments = arguments-back (c .before .before .put-scope .last .0) (c .before .put-arg .given .0 .1) (step .leave-let .result .«arguments_top») (c .put .ensures) in
+    rw (arguments, c .before .before .put-scope .ensures, ← loaded .load .ensures) (let-left (step .leave-let .ensures))
 
 pub close-let-spec : {M : Type 1} → statement M
-close-let-spec =
-    tie.close
-    (tie.spec
-    load-requires
-    leave-let-requires
-    store-requires
-    same-length
-    same-length-2
-    same-length-3
-    returns)
+close-let-spec = tie.close (tie.spec load-requires leave-let-requires put-scope-requires put-requires same-length same-length-2 same-length-3 returns)

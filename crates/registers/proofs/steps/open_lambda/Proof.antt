@@ -1,4 +1,6 @@
--- `open_lambda`: `enter_lambda` of the pass that the table holds, and its answer is stored.
+-- `open_lambda`: `enter_lambda` of the pass that the table holds, and what it changes is stored.
+use Rattle.registers.proofs.StepCase.{lambda-opened}
+use Rattle.registers.proofs.StoreCase.{nine-back}
 use borrow.Author.Needs.{needs}
 use Rattle.registers.proofs.steps.open_lambda.Statement.{statement}
 use Rattle.registers.proofs.steps.open_lambda.Tie as tie
@@ -9,8 +11,20 @@ load-requires c κs = search needs
 enter-lambda-requires : tie.Need-enter-lambda-requires
 enter-lambda-requires c κs = rw (c .before .before .before .load .ensures) (c .before .before .before .before .before .before .before .before .before .before .pre)
 
-store-requires : tie.Need-store-requires
-store-requires c κs = search needs
+set-context-requires : tie.Need-set-context-requires
+set-context-requires c κs = search needs
+
+put-scope-requires : tie.Need-put-scope-requires
+put-scope-requires c κs = search needs
+
+put-captures-requires : tie.Need-put-captures-requires
+put-captures-requires c κs = search needs
+
+put-requires : tie.Need-put-requires
+put-requires c κs = search needs
+
+put-second-requires : tie.Need-put-second-requires
+put-second-requires c κs = search needs
 
 same-length : tie.Need-same-length
 same-length c = search needs
@@ -22,16 +36,11 @@ same-length-3 : tie.Need-same-length-3
 same-length-3 c = search needs
 
 returns : tie.Need-returns
-returns c = rw (c .store .ensures, ← c .before .before .before .before .before .before .before .before .before .before .before .before .load .ensures) (c .before .before .before .before .before .before .before .before .enter-lambda .ensures)
+returns c =
+    let step = c .before .before .before .before .before .before .before .before .before .before .before .before .before .before .before .before in
+    let loaded = step .before .before .before .before in
+    let nine = nine-back (c .before .before .before .before .put-captures .last .0) (c .before .before .before .put-arg .given .0 .1) (step .enter-lambda .result .nine) (c .before .before .put .ensures) in
+    rw (c .put-second .ensures, nine, c .before .before .before .before .put-captures .ensures, c .before .before .before .before .before .before .put-scope .ensures, c .before .before .before .before .before .before .before .before .set-context .ensures, ← loaded .load .ensures) (lambda-opened (step .enter-lambda .ensures))
 
 pub open-lambda-spec : {M : Type 1} → statement M
-open-lambda-spec =
-    tie.close
-    (tie.spec
-    load-requires
-    enter-lambda-requires
-    store-requires
-    same-length
-    same-length-2
-    same-length-3
-    returns)
+open-lambda-spec = tie.close (tie.spec load-requires enter-lambda-requires set-context-requires put-scope-requires put-captures-requires put-requires put-second-requires same-length same-length-2 same-length-3 returns)

@@ -1,4 +1,6 @@
--- `open_let`: `enter_let` of the pass that the table holds, and its answer is stored.
+-- `open_let`: `enter_let` of the pass that the table holds, and what it changes is stored.
+use Rattle.registers.proofs.StepCase.{let-entered}
+use Rattle.registers.proofs.StoreCase.{nine-back}
 use borrow.Author.Needs.{needs}
 use Rattle.registers.proofs.steps.open_let.Statement.{statement}
 use Rattle.registers.proofs.steps.open_let.Tie as tie
@@ -9,8 +11,14 @@ load-requires c κs = search needs
 enter-let-requires : tie.Need-enter-let-requires
 enter-let-requires c κs = rw (c .before .before .load .ensures) (c .before .before .before .before .before .before .before .before .before .pre)
 
-store-requires : tie.Need-store-requires
-store-requires c κs = search needs
+put-scope-requires : tie.Need-put-scope-requires
+put-scope-requires c κs = search needs
+
+put-requires : tie.Need-put-requires
+put-requires c κs = search needs
+
+put-second-requires : tie.Need-put-second-requires
+put-second-requires c κs = search needs
 
 same-length : tie.Need-same-length
 same-length c = search needs
@@ -19,9 +27,11 @@ same-length-2 : tie.Need-same-length-2
 same-length-2 c = search needs
 
 returns : tie.Need-returns
-returns c = rw (c .store .ensures, ← c .before .before .before .before .before .before .before .before .before .load .ensures) (c .before .before .before .before .before .before .enter-let .ensures)
+returns c =
+    let step = c .before .before .before .before .before .before .before .before .before .before in
+    let loaded = step .before .before .before in
+    let nine = nine-back (c .before .before .before .before .put-scope .last .0) (c .before .before .before .put-arg .given .0 .1) (step .enter-let .result .nine) (c .before .before .put .ensures) in
+    rw (c .put-second .ensures, nine, c .before .before .before .before .put-scope .ensures, ← loaded .load .ensures) (let-entered (step .enter-let .ensures))
 
 pub open-let-spec : {M : Type 1} → statement M
-open-let-spec =
-    tie.close
-    (tie.spec load-requires enter-let-requires store-requires same-length same-length-2 returns)
+open-let-spec = tie.close (tie.spec load-requires enter-let-requires put-scope-requires put-requires put-second-requires same-length same-length-2 returns)

@@ -1,4 +1,5 @@
--- `open_set`: `clear_context` of the pass that the table holds, and its answer is stored.
+-- `open_set`: `clear_context` of the pass that the table holds, and the context is stored.
+use Rattle.registers.proofs.StepCase.{context-cleared}
 use borrow.Author.Needs.{needs}
 use Rattle.registers.proofs.steps.open_set.Statement.{statement}
 use Rattle.registers.proofs.steps.open_set.Tie as tie
@@ -9,11 +10,14 @@ load-requires c κs = search needs
 clear-context-requires : tie.Need-clear-context-requires
 clear-context-requires c κs = search needs
 
-store-requires : tie.Need-store-requires
-store-requires c κs = search needs
+set-context-requires : tie.Need-set-context-requires
+set-context-requires c κs = search needs
 
 returns : tie.Need-returns
-returns c = rw (c .store .ensures, ← c .before .before .before .load .ensures) (c .before .before .clear-context .ensures)
+returns c =
+    let step = c .before .before in
+    let loaded = step .before in
+    rw (c .set-context .ensures, ← loaded .load .ensures) (context-cleared (step .clear-context .ensures))
 
 pub open-set-spec : {M : Type 1} → statement M
-open-set-spec = tie.close (tie.spec load-requires clear-context-requires store-requires returns)
+open-set-spec = tie.close (tie.spec load-requires clear-context-requires set-context-requires returns)

@@ -1,0 +1,139 @@
+-- A step stores what it changes alone: what it keeps of a state, the pass before it tells as well as the pass after it.
+use Prim.Native.Nat.{ℕ}
+use mathlib.Core.List.{List}
+use mathlib.Core.Bool.{Bool}
+use mathlib.Core.Option.{Option}
+use mathlib.Core.Path.{_≡_, refl, ap, sym, subst, _∙_}
+use lib.ListN.{length}
+use Rattle.tree.specs.Check.{Refusal}
+use Rattle.tree.specs.Tree.{Ident, Node, Tree}
+use Rattle.scope_map.specs.ScopeMap.{ScopeMap}
+use Rattle.scope_map.specs.declared.ScopeMap.{ScopeMap as Map}
+use Rattle.pass.specs.State.{State, Capture, withContext}
+use Rattle.pass.specs.Lambda.{enterLambda, leaveLambda, enterLet, leaveLet}
+use Rattle.pass.specs.Visit.{clearContext}
+use Rattle.pass.specs.Laws.Stage.Entering.{enter-let-apart}
+use Rattle.pass.specs.Laws.Stage.Filled.{enter-lambda-stored}
+use Rattle.work.specs.Coded.{notedOf, secondOf}
+use Rattle.work.specs.Works.{Beside, Works}
+use Rattle.work.specs.WorksKept.{works-as, context-kept}
+use Rattle.work.specs.WorksLaws.{context-is, captured-top, arguments-top, captures-depth, captures-many}
+use Rattle.work.specs.Passes.{inContext, inScope, inCaptures, withTops, withNotes}
+use Rattle.work.specs.Tied.{raw, Tied}
+use Rattle.work.specs.declared.Pass.{Pass}
+use Rattle.walk.specs.declared.uses.Names.{Names}
+use Rattle.flags.specs.declared.Around.{Around}
+use Rattle.forms.specs.Contract.{EntersLambda, LeavesLambda, EntersLet, LeavesLet, ClearsContext}
+use Rattle.registers.specs.KeptLaws.{Sides, Outside, Begun, enter-let-sides, leave-let-outside, leave-lambda-begun, clear-context-is}
+
+module _ {p : Pass} {w : List ℕ} {s : State} (k : Works p w s) where
+  nine-is : notedOf (p .nine) ≡ s .noted .nine
+  nine-is = ap (λ (b : Beside). b .nine) (k .beside)
+
+  ten-is : notedOf (p .ten) ≡ s .noted .ten
+  ten-is = ap (λ (b : Beside). b .ten) (k .beside)
+
+  second-is : secondOf (p .second) ≡ s .noted .second
+  second-is = ap (λ (b : Beside). b .second) (k .beside)
+
+  -- captures that are kept are counted alike
+  captures-same : {q : Pass} {w′ : List ℕ} {t : State} → Works q w′ t → t .captures ≡ s .captures → p .captures ≡ q .captures
+  captures-same {q} l e =
+      let d : p .captures .depth ≡ q .captures .depth = captures-depth k ∙ ap (λ (m : ScopeMap Capture). m .depth) (sym e) ∙ sym (captures-depth l) in
+      let n : p .captures .length ≡ q .captures .length = captures-many k ∙ ap (λ (m : ScopeMap Capture). length (m .live)) (sym e) ∙ sym (captures-many l) in
+      ap (λ (i : ℕ). mapOf i (p .captures .length)) d ∙ ap (λ (i : ℕ). mapOf (q .captures .depth) i) n
+    where
+      mapOf : ℕ → ℕ → Map
+      mapOf i j = record { depth = i; length = j }
+
+-- another pass with the same maps, which tells the rest right
+tied-as : {q : Pass} {F C A w : List ℕ} {t : State} → Tied (raw q F C A w) t → (o : Pass) → o .scope ≡ q .scope → o .captures ≡ q .captures
+    → o .context ≡ t .context → o .«captured_top» ≡ t .facts .capturedTop → o .«arguments_top» ≡ t .facts .argumentsTop
+    → notedOf (o .nine) ≡ t .noted .nine → notedOf (o .ten) ≡ t .noted .ten → secondOf (o .second) ≡ t .noted .second → Tied (raw o F C A w) t
+tied-as {t = t} y o m n a b c d e f = record {
+  facts = y .facts;
+  captured = y .captured;
+  arguments = y .arguments;
+  works = works-as (y .works) o t m n refl refl refl (rw (a, b, c, d, e, f) refl);
+}
+
+module _ (q p : Pass) where
+  abbrev pub opened : Pass
+  opened = withNotes (q .nine) (p .ten) (q .second) (inCaptures (q .captures) (inScope (q .scope) (inContext (q .context) p)))
+
+  abbrev pub closed : Pass
+  closed = withNotes (p .nine) (q .ten) (p .second) (withTops (q .«captured_top») (q .«arguments_top») (inCaptures (q .captures) (inScope (q .scope) p)))
+
+  abbrev pub entered : Pass
+  entered = withNotes (q .nine) (p .ten) (q .second) (inScope (q .scope) p)
+
+  abbrev pub left : Pass
+  left = withTops (p .«captured_top») (q .«arguments_top») (inScope (q .scope) p)
+
+module _ {p q : Pass} {F C A w F′ C′ A′ w′ : List ℕ} {s : State} (y : Tied (raw p F C A w) s) where
+  opened-tied : (m : Node) (xs : List Ident) → Tied (raw q F′ C′ A′ w′) (enterLambda m xs s) → Tied (raw (opened q p) F′ C′ A′ w′) (enterLambda m xs s)
+  opened-tied m xs z =
+      let k = y .works in
+      let l = z .works in
+      let e = enter-lambda-stored m xs s in
+      tied-as z (opened q p) refl refl (context-is l) (captured-top k ∙ sym (e .captured)) (arguments-top k ∙ sym (e .arguments))
+      (nine-is l) (ten-is k ∙ sym (e .ten)) (second-is l)
+
+  pub closed-tied : (m : Node) (xs : List Ident) (b : Tree) (escapes : Bool) → Tied (raw q F′ C′ A′ w′) (leaveLambda m xs b escapes s)
+      → Tied (raw (closed q p) F′ C′ A′ w′) (leaveLambda m xs b escapes s)
+  closed-tied m xs b escapes z =
+      let k = y .works in
+      let l = z .works in
+      let e = sym (leave-lambda-begun m xs b escapes s) in
+      tied-as z (closed q p) refl refl (context-is k ∙ ap (λ (o : Begun). o .context) e) (captured-top l) (arguments-top l)
+      (nine-is k ∙ ap (λ (o : Begun). o .nine) e) (ten-is l) (second-is k ∙ ap (λ (o : Begun). o .second) e)
+
+  entered-tied : (m : Node) (xs : List Ident) (height : ℕ) (function : Option Node) → Tied (raw q F′ C′ A′ w′) (enterLet m xs height function s)
+      → Tied (raw (entered q p) F′ C′ A′ w′) (enterLet m xs height function s)
+  entered-tied m xs height function z =
+      let k = y .works in
+      let l = z .works in
+      let e = enter-let-apart m xs height function s .stored in
+      let a = enter-let-sides m xs height function s in
+      tied-as z (entered q p) refl (captures-same k l (ap (λ (o : Sides). o .captures) a)) (context-is k ∙ ap (λ (o : Sides). o .context) (sym a))
+      (captured-top k ∙ sym (e .captured)) (arguments-top k ∙ sym (e .arguments)) (nine-is l) (ten-is k ∙ sym (e .ten)) (second-is l)
+
+  left-tied : (b : Bool) (m : Node) (xs : List Ident) (height : ℕ) (function : Option Node) → Tied (raw q F′ C′ A′ w′) (leaveLet b m xs height function s)
+      → Tied (raw (left q p) F′ C′ A′ w′) (leaveLet b m xs height function s)
+  left-tied b m xs height function z =
+      let k = y .works in
+      let l = z .works in
+      let a = leave-let-outside b m xs height function s in
+      let e = sym a in
+      tied-as z (left q p) refl (captures-same k l (ap (λ (o : Outside). o .sides .captures) a)) (context-is k ∙ ap (λ (o : Outside). o .sides .context) e)
+      (captured-top k ∙ ap (λ (o : Outside). o .capturedTop) e) (arguments-top l)
+      (nine-is k ∙ ap (λ (o : Outside). o .noted .nine) e) (ten-is k ∙ ap (λ (o : Outside). o .noted .ten) e) (second-is k ∙ ap (λ (o : Outside). o .noted .second) e)
+
+module _ {p q : Pass} {rs F F′ w w′ : List ℕ} {at : ℕ} where
+  pub lambda-opened : {n : Names} {C C′ A : List ℕ} → EntersLambda rs at n p F C A w q F′ C′ w′ → EntersLambda rs at n p F C A w (opened q p) F′ C′ w′
+  lambda-opened k = record { is = λ s xs m e t f h. opened-tied (f .tied) m xs (k .is s xs m e t f h) }
+
+  pub lambda-closed : {d : _} {escapes : Bool} {C C′ A A′ : List ℕ} → LeavesLambda rs at d escapes p F C A w q F′ C′ A′ w′
+      → LeavesLambda rs at d escapes p F C A w (closed q p) F′ C′ A′ w′
+  lambda-closed {escapes = escapes} k = record { is = λ s xs b m e t y f h. closed-tied (f .tied) m xs b escapes (k .is s xs b m e t y f h) }
+
+  pub let-entered : {n : Names} {height : ℕ} {a : Around} {C A : List ℕ} → EntersLet rs at n height a p F C A w q F′ w′
+      → EntersLet rs at n height a p F C A w (entered q p) F′ w′
+  let-entered {height = height} k = record { is = λ s xs m function e a t f. entered-tied (f .tied) m xs height function (k .is s xs m function e a t f) }
+
+  pub let-left : {b : Bool} {n : Names} {height : ℕ} {a : Around} {A A′ : List ℕ} → LeavesLet rs b at n height a p F A w q F′ A′ w′
+      → LeavesLet rs b at n height a p F A w (left q p) F′ A′ w′
+  let-left {b} {height = height} k = record { is = λ C s xs m function e a t f. left-tied (f .tied) b m xs height function (k .is C s xs m function e a t f) }
+
+cleared-tied : {p q : Pass} {F C A w : List ℕ} {s : State} → Tied (raw p F C A w) s → (x : Ident) → Tied (raw q F C A w) (clearContext x s)
+    → Tied (raw (inContext (q .context) p) F C A w) (clearContext x s)
+cleared-tied {p} {q} {w = w} {s} y x z = record {
+  facts = z .facts;
+  captured = z .captured;
+  arguments = z .arguments;
+  works = subst (λ (t : State). Works (inContext (q .context) p) w t)
+      (ap (λ (c : ℕ). withContext c s) (context-is (z .works)) ∙ sym (clear-context-is x s)) (context-kept (y .works) (q .context));
+}
+
+pub context-cleared : {at : ℕ} {p q : Pass} {F : List ℕ} → ClearsContext at p F q → ClearsContext at p F (inContext (q .context) p)
+context-cleared k = record { is = λ rs C A w s x e f. cleared-tied (f .tied) x (k .is rs C A w s x e f) }
