@@ -1,11 +1,10 @@
--- A step stores what it changes alone: what it keeps of a state, the pass before it tells as well as the pass after it.
+-- A step stores what it changes alone: what it keeps of a state is told by the pass before it as by the one after it.
 use Prim.Native.Nat.{ℕ}
 use mathlib.Core.List.{List}
 use mathlib.Core.Bool.{Bool}
 use mathlib.Core.Option.{Option}
 use mathlib.Core.Path.{_≡_, refl, ap, sym, subst, _∙_}
 use lib.ListN.{length}
-use Rattle.tree.specs.Check.{Refusal}
 use Rattle.tree.specs.Tree.{Ident, Node, Tree}
 use Rattle.scope_map.specs.ScopeMap.{ScopeMap}
 use Rattle.scope_map.specs.declared.ScopeMap.{ScopeMap as Map}
@@ -57,6 +56,7 @@ tied-as {t = t} y o m n a b c d e f = record {
   works = works-as (y .works) o t m n refl refl refl (rw (a, b, c, d, e, f) refl);
 }
 
+-- the pass p, with what each step changes as the pass q after it has it
 module _ (q p : Pass) where
   abbrev pub opened : Pass
   opened = withNotes (q .nine) (p .ten) (q .second) (inCaptures (q .captures) (inScope (q .scope) (inContext (q .context) p)))
@@ -70,6 +70,7 @@ module _ (q p : Pass) where
   abbrev pub left : Pass
   left = withTops (p .«captured_top») (q .«arguments_top») (inScope (q .scope) p)
 
+-- each holds the state after its step
 module _ {p q : Pass} {F C A w F′ C′ A′ w′ : List ℕ} {s : State} (y : Tied (raw p F C A w) s) where
   opened-tied : (m : Node) (xs : List Ident) → Tied (raw q F′ C′ A′ w′) (enterLambda m xs s) → Tied (raw (opened q p) F′ C′ A′ w′) (enterLambda m xs s)
   opened-tied m xs z =
@@ -79,7 +80,7 @@ module _ {p q : Pass} {F C A w F′ C′ A′ w′ : List ℕ} {s : State} (y : 
       tied-as z (opened q p) refl refl (context-is l) (captured-top k ∙ sym (e .captured)) (arguments-top k ∙ sym (e .arguments))
       (nine-is l) (ten-is k ∙ sym (e .ten)) (second-is l)
 
-  pub closed-tied : (m : Node) (xs : List Ident) (b : Tree) (escapes : Bool) → Tied (raw q F′ C′ A′ w′) (leaveLambda m xs b escapes s)
+  closed-tied : (m : Node) (xs : List Ident) (b : Tree) (escapes : Bool) → Tied (raw q F′ C′ A′ w′) (leaveLambda m xs b escapes s)
       → Tied (raw (closed q p) F′ C′ A′ w′) (leaveLambda m xs b escapes s)
   closed-tied m xs b escapes z =
       let k = y .works in
@@ -109,6 +110,7 @@ module _ {p q : Pass} {F C A w F′ C′ A′ w′ : List ℕ} {s : State} (y : 
       (captured-top k ∙ ap (λ (o : Outside). o .capturedTop) e) (arguments-top l)
       (nine-is k ∙ ap (λ (o : Outside). o .noted .nine) e) (ten-is k ∙ ap (λ (o : Outside). o .noted .ten) e) (second-is k ∙ ap (λ (o : Outside). o .noted .second) e)
 
+-- so it may stand in the step's contract for the pass that the step answers
 module _ {p q : Pass} {rs F F′ w w′ : List ℕ} {at : ℕ} where
   pub lambda-opened : {n : Names} {C C′ A : List ℕ} → EntersLambda rs at n p F C A w q F′ C′ w′ → EntersLambda rs at n p F C A w (opened q p) F′ C′ w′
   lambda-opened k = record { is = λ s xs m e t f h. opened-tied (f .tied) m xs (k .is s xs m e t f h) }
@@ -124,6 +126,8 @@ module _ {p q : Pass} {rs F F′ w w′ : List ℕ} {at : ℕ} where
   pub let-left : {b : Bool} {n : Names} {height : ℕ} {a : Around} {A A′ : List ℕ} → LeavesLet rs b at n height a p F A w q F′ A′ w′
       → LeavesLet rs b at n height a p F A w (left q p) F′ A′ w′
   let-left {b} {height = height} k = record { is = λ C s xs m function e a t f. left-tied (f .tied) b m xs height function (k .is C s xs m function e a t f) }
+
+-- A set! changes the context alone
 
 cleared-tied : {p q : Pass} {F C A w : List ℕ} {s : State} → Tied (raw p F C A w) s → (x : Ident) → Tied (raw q F C A w) (clearContext x s)
     → Tied (raw (inContext (q .context) p) F C A w) (clearContext x s)

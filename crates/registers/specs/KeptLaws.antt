@@ -61,7 +61,7 @@ pub enter-let-sides : (n : Node) (xs : List Ident) (height : ℕ) (function : Op
 unfolding enterLet
 enter-let-sides n xs height function s = names-sides _ height _ _ xs 0 0 _ ∙ open-sides (atBottom s) s
 
--- and leave: all but the rows, the names and the arguments
+-- and leave: so is how far the captured lists reach, and what is noted
 
 pub record Outside : Type 0 where
   pub sides : Sides
@@ -107,7 +107,7 @@ unfolding leaveLet
 leave-let-outside opened n xs height function s =
     close-outside opened _ ∙ make-outside (rowAt s (n .at)) n (entered xs s) height function _ ∙ leaving-outside xs s
 
--- A lambda ends: the context, and what is noted but for 10
+-- A lambda ends: the context and what is noted are kept, but for 10
 
 pub record Begun : Type 0 where
   pub context : ℕ
@@ -138,7 +138,7 @@ leave-lambda-begun n xs b escapes s =
     ∙ ap (λ (o : Outside). record { context = o .sides .context; nine = o .noted .nine; second = o .noted .second })
     (ended-outside xs _ ∙ lasts-outside (newestLayer (s .scope .names)) (closeCaptures (closeScope s)))
 
--- A set! begins: all but the context
+-- A set! begins: all is kept but the context
 
 pub clear-context-is : (x : Ident) (s : State) → clearContext x s ≡ withContext (clearContext x s .context) s
 unfolding clearContext
