@@ -8,22 +8,28 @@ use lib.ListN.{length}
 use Rattle.tree.specs.Tree.{Ident, Node, Tree}
 use Rattle.scope_map.specs.ScopeMap.{ScopeMap}
 use Rattle.scope_map.specs.declared.ScopeMap.{ScopeMap as Map}
-use Rattle.pass.specs.State.{State, Capture, withContext}
+use Rattle.semantic.specs.declared.IdentifierStatus.{IdentifierStatus}
+use Rattle.pass.specs.State.{State, Capture, withContext, depth}
 use Rattle.pass.specs.Lambda.{enterLambda, leaveLambda, enterLet, leaveLet}
-use Rattle.pass.specs.Visit.{clearContext}
+use Rattle.pass.specs.Visit.{isLambda, clearContext}
 use Rattle.pass.specs.Laws.Stage.Entering.{enter-let-apart}
 use Rattle.pass.specs.Laws.Stage.Filled.{enter-lambda-stored}
 use Rattle.work.specs.Coded.{notedOf, secondOf}
 use Rattle.work.specs.Works.{Beside, Works}
 use Rattle.work.specs.WorksKept.{works-as, context-kept}
-use Rattle.work.specs.WorksLaws.{context-is, captured-top, arguments-top, captures-depth, captures-many}
+use Rattle.work.specs.WorksLaws.{context-is, depth-is, captured-top, arguments-top, captures-depth, captures-many}
 use Rattle.work.specs.Passes.{inContext, inScope, inCaptures, withTops, withNotes}
 use Rattle.work.specs.Tied.{raw, Tied}
 use Rattle.work.specs.declared.Pass.{Pass}
 use Rattle.walk.specs.declared.uses.Names.{Names}
+use Rattle.walk.specs.declared.body.Body.{Body}
 use Rattle.flags.specs.declared.Around.{Around}
-use Rattle.forms.specs.Contract.{EntersLambda, LeavesLambda, EntersLet, LeavesLet, ClearsContext}
-use Rattle.registers.specs.KeptLaws.{Sides, Outside, Begun, enter-let-sides, leave-let-outside, leave-lambda-begun, clear-context-is}
+use Rattle.names.specs.Contract.{withName, nameIn}
+use Rattle.forms.specs.Contract.{EntersLambda, LeavesLambda, EntersLet, LeavesLet, ClearsContext, BeforeDefine, AfterDefine, EntersChild, EntersChildren}
+use Rattle.registers.specs.KeptLaws.{Sides, Outside, Begun, Unnamed, unnamedOf, Still, stillOf, enter-let-sides, leave-let-outside, leave-lambda-begun, one-still, each-still, before-define-unnamed, after-define-unnamed, clear-context-is}
+
+abbrev mapOf : ℕ → ℕ → Map
+mapOf i j = record { depth = i; length = j }
 
 module _ {p : Pass} {w : List ℕ} {s : State} (k : Works p w s) where
   nine-is : notedOf (p .nine) ≡ s .noted .nine
@@ -41,9 +47,10 @@ module _ {p : Pass} {w : List ℕ} {s : State} (k : Works p w s) where
       let d : p .captures .depth ≡ q .captures .depth = captures-depth k ∙ ap (λ (m : ScopeMap Capture). m .depth) (sym e) ∙ sym (captures-depth l) in
       let n : p .captures .length ≡ q .captures .length = captures-many k ∙ ap (λ (m : ScopeMap Capture). length (m .live)) (sym e) ∙ sym (captures-many l) in
       ap (λ (i : ℕ). mapOf i (p .captures .length)) d ∙ ap (λ (i : ℕ). mapOf (q .captures .depth) i) n
-    where
-      mapOf : ℕ → ℕ → Map
-      mapOf i j = record { depth = i; length = j }
+
+  -- a scope of the depth that is kept, and of the length after the step, is the scope after it
+  scope-same : {q : Pass} {w′ : List ℕ} {t : State} → Works q w′ t → depth t ≡ depth s → mapOf (p .scope .depth) (q .scope .length) ≡ q .scope
+  scope-same {q} l e = ap (λ (i : ℕ). mapOf i (q .scope .length)) (depth-is k ∙ sym e ∙ sym (depth-is l))
 
 -- another pass with the same maps, which tells the rest right
 tied-as : {q : Pass} {F C A w : List ℕ} {t : State} → Tied (raw q F C A w) t → (o : Pass) → o .scope ≡ q .scope → o .captures ≡ q .captures
@@ -69,6 +76,12 @@ module _ (q p : Pass) where
 
   abbrev pub left : Pass
   left = withTops (p .«captured_top») (q .«arguments_top») (inScope (q .scope) p)
+
+  abbrev pub named : Pass
+  named = withName (nameIn q) p
+
+  abbrev pub defined : Pass
+  defined = withName (nameIn q) (inContext (q .context) p)
 
 -- each holds the state after its step
 module _ {p q : Pass} {F C A w F′ C′ A′ w′ : List ℕ} {s : State} (y : Tied (raw p F C A w) s) where
@@ -110,6 +123,20 @@ module _ {p q : Pass} {F C A w F′ C′ A′ w′ : List ℕ} {s : State} (y : 
       (captured-top k ∙ ap (λ (o : Outside). o .capturedTop) e) (arguments-top l)
       (nine-is k ∙ ap (λ (o : Outside). o .noted .nine) e) (ten-is k ∙ ap (λ (o : Outside). o .noted .ten) e) (second-is k ∙ ap (λ (o : Outside). o .noted .second) e)
 
+  defined-tied : {t : State} → unnamedOf t ≡ unnamedOf s → Tied (raw q F′ C′ A′ w′) t → Tied (raw (defined q p) F′ C′ A′ w′) t
+  defined-tied a z =
+      let k = y .works in
+      let l = z .works in
+      let e = sym a in
+      tied-as z (defined q p) (scope-same k l (ap (λ (o : Unnamed). o .depth) a)) (captures-same k l (ap (λ (o : Unnamed). o .captures) a)) (context-is l)
+      (captured-top k ∙ ap (λ (o : Unnamed). o .capturedTop) e) (arguments-top k ∙ ap (λ (o : Unnamed). o .argumentsTop) e)
+      (nine-is l) (ten-is k ∙ ap (λ (o : Unnamed). o .ten) e) (second-is k ∙ ap (λ (o : Unnamed). o .second) e)
+
+  named-tied : {t : State} → stillOf t ≡ stillOf s → Tied (raw q F′ C′ A′ w′) t → Tied (raw (named q p) F′ C′ A′ w′) t
+  named-tied {t} a z =
+      let c : q .context ≡ p .context = context-is (z .works) ∙ ap (λ (o : Still). o .context) a ∙ sym (context-is (y .works)) in
+      subst (λ (i : ℕ). Tied (raw (withName (nameIn q) (inContext i p)) F′ C′ A′ w′) t) c (defined-tied (ap (λ (o : Still). o .unnamed) a) z)
+
 -- so it may stand in the step's contract for the pass that the step answers
 module _ {p q : Pass} {rs F F′ w w′ : List ℕ} {at : ℕ} where
   pub lambda-opened : {n : Names} {C C′ A : List ℕ} → EntersLambda rs at n p F C A w q F′ C′ w′ → EntersLambda rs at n p F C A w (opened q p) F′ C′ w′
@@ -126,6 +153,23 @@ module _ {p q : Pass} {rs F F′ w w′ : List ℕ} {at : ℕ} where
   pub let-left : {b : Bool} {n : Names} {height : ℕ} {a : Around} {A A′ : List ℕ} → LeavesLet rs b at n height a p F A w q F′ A′ w′
       → LeavesLet rs b at n height a p F A w (left q p) F′ A′ w′
   let-left {b} {height = height} k = record { is = λ C s xs m function e a t f. left-tied (f .tied) b m xs height function (k .is C s xs m function e a t f) }
+
+  pub define-opened : {direct : Bool} {b : Body} → BeforeDefine rs at direct b p F w q F′ w′ → BeforeDefine rs at direct b p F w (defined q p) F′ w′
+  define-opened {direct} k = record {
+    is = λ classes C A s n x t e h f. defined-tied (f .tied) (before-define-unnamed classes direct (isLambda t) x t s) (k .is classes C A s n x t e h f);
+  }
+
+  pub define-closed : {direct : Bool} {c : ℕ} {b : Body} → AfterDefine rs at direct c b p F w q F′ w′ → AfterDefine rs at direct c b p F w (defined q p) F′ w′
+  define-closed {direct} {c} k = record {
+    is = λ classes C A s n x t e h f. defined-tied (f .tied) (after-define-unnamed classes direct (isLambda t) c x t s) (k .is classes C A s n x t e h f);
+  }
+
+  pub child-named : {classes : List ℕ} {kind : IdentifierStatus} → EntersChild classes rs at kind p F w q F′ w′ → EntersChild classes rs at kind p F w (named q p) F′ w′
+  child-named {classes} {kind} k = record { is = λ C A s t e f. named-tied (f .tied) (one-still classes kind t s) (k .is C A s t e f) }
+
+  pub children-named : {n : ℕ} {classes : List ℕ} {kind : IdentifierStatus} → EntersChildren classes rs at n kind p F w q F′ w′
+      → EntersChildren classes rs at n kind p F w (named q p) F′ w′
+  children-named {classes = classes} {kind} k = record { is = λ C A s es e m f. named-tied (f .tied) (each-still classes kind es s) (k .is C A s es e m f) }
 
 -- A set! changes the context alone
 

@@ -9,6 +9,8 @@ use Rattle.work.specs.Passes.{inContext, inScope, inCaptures, withTops, withNot
 use Rattle.work.specs.declared.Noted.{Noted}
 use Rattle.work.specs.declared.Pass.{Pass}
 use Rattle.work.specs.declared.Second.{Second}
+use Rattle.names.specs.Contract.{withName}
+use Rattle.names.specs.declared.define.EnteredName.{EnteredName}
 use Rattle.registers.specs.Registers.{registersLength, Narrow, passIn}
 
 -- x is y, which is 32 bits wide
@@ -71,3 +73,7 @@ module _ (r : List ℕ) {t : List ℕ} (h : length r ≡ registersLength) where
   pub second-back : (s : Second) → (t ≡ set (set r 9 (s .number)) 10 (s .at)) × Narrow (s .number) → passIn t ≡ withSecond s (passIn r)
   unfolding passIn
   second-back s e = put-back (λ l. set (set l 9 (s .number)) 10 (s .at)) (withSecond s) r h (e .0) (rw (e .1) refl)
+
+  pub name-back : (e : EnteredName) → t ≡ set (set r 2 (e .length)) 7 (e .nine .code) → passIn t ≡ withName e (passIn r)
+  unfolding passIn
+  name-back e q = put-back (λ l. set (set l 2 (e .length)) 7 (e .nine .code)) (withName e) r h q refl

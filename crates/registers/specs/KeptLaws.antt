@@ -1,4 +1,4 @@
--- What the steps of a lambda, a let and a set! keep of a state.
+-- What the steps of a lambda, a let, a define and a set! keep of a state.
 use Prim.Native.Nat.{ℕ, suc, _+_}
 use mathlib.Core.List.{List, [], _∷_}
 use mathlib.Core.Bool.{Bool, true, false, cond, _&&_}
@@ -7,18 +7,21 @@ use mathlib.Core.Path.{_≡_, refl, ap, _∙_}
 use lib.ListN.{length}
 use lib.Dec.{ltb}
 use Rattle.tree.specs.Check.{Refusal}
-use Rattle.tree.specs.Tree.{Ident, Node, Tree}
+use Rattle.tree.specs.Tree.{Ident, Node, Tree, Trees, ident, const, if, letin, define, lambda, begin, call, set!, nil, cons}
 use Rattle.scope_map.specs.ScopeMap.{ScopeMap, Live, newestLayer, hasAtTop}
+use Rattle.scope_map.specs.ScopeMap as map
 use Rattle.semantic.specs.Information.{NONE}
 use Rattle.semantic.specs.Rows.{Row, Item}
 use Rattle.semantic.specs.declared.IdentifierStatus.{IdentifierStatus}
+use Rattle.semantic.specs.declared.IdentifierStatus.the-variants.{Local}
 use Rattle.semantic.specs.declared.FunctionInformation.{FunctionInformation}
-use Rattle.pass.specs.State.{Entry, Capture, Noted, State, withContext, insert, amend, putEntry, rowAt, entryAt, depth}
-use Rattle.pass.specs.Read.{noteLive, enter}
+use Rattle.pass.specs.State.{Entry, Capture, Noted, State, withContext, withNames, insert, amend, putEntry, rowAt, entryAt, depth}
+use Rattle.pass.specs.Read.{noteLive, enter, enterDefine}
 use Rattle.pass.specs.Lists.{sortById, capturedMost, storeCaptured, storeArguments, rewriteCaptured}
 use Rattle.pass.specs.Lambda.{isHeap, noteHeap, enterName, enterNames, markLast, markLasts, openScope, openLet, closeScope, closeCaptures, closeLet, atBottom, enterLet, endParameters, functionIn, makeFunction, amendFunction, functionEnds, leaveLambda, leaveNames, entered, makeLet, leaveLet}
-use Rattle.pass.specs.Visit.{isSelf, clearContext}
+use Rattle.pass.specs.Visit.{isLambda, isSelf, clearContext, beforeDefine, afterDefine}
 use Rattle.pass.specs.Laws.Stage.Cases.{by-let}
+use Rattle.forms.specs.Defines.{enterIf, enterOne, enterEach}
 
 -- Names enter: the context and the captures are kept
 
@@ -137,6 +140,81 @@ leave-lambda-begun n xs b escapes s =
     function-begun (functionIn (rowAt s (n .at))) n b escapes _ _ (s .captures) _
     ∙ ap (λ (o : Outside). record { context = o .sides .context; nine = o .noted .nine; second = o .noted .second })
     (ended-outside xs _ ∙ lasts-outside (newestLayer (s .scope .names)) (closeCaptures (closeScope s)))
+
+-- A define enters: all is kept but how many names live, and 9
+
+pub record Unnamed : Type 0 where
+  pub depth : ℕ
+  pub captures : ScopeMap Capture
+  pub capturedTop : ℕ
+  pub argumentsTop : ℕ
+  pub ten : Option ℕ
+  pub second : Option Refusal
+
+abbrev pub unnamedOf : State → Unnamed
+unnamedOf s = record {
+  depth = depth s;
+  captures = s .captures;
+  capturedTop = s .facts .capturedTop;
+  argumentsTop = s .facts .argumentsTop;
+  ten = s .noted .ten;
+  second = s .noted .second;
+}
+
+-- with the context, which only a define's own visit sets
+pub record Still : Type 0 where
+  pub context : ℕ
+  pub unnamed : Unnamed
+
+abbrev pub stillOf : State → Still
+stillOf s = record { context = s .context; unnamed = unnamedOf s }
+
+live-still : (b : Bool) (i : ℕ) (m : ScopeMap Ident) (s : State) → stillOf (withNames m (noteLive b i s)) ≡ stillOf (withNames m s)
+live-still true i m s = refl
+live-still false i m s = refl
+
+module _ (classes : List ℕ) where
+  define-still : (kind : IdentifierStatus) (a : ℕ) (x : Ident) (b : Tree) (s : State) → stillOf (enterDefine classes kind a x b s) ≡ stillOf s
+  unfolding enterDefine enter putEntry insert
+  define-still kind a x b s = live-still (ltb 1 (depth s) && hasAtTop (s .scope .names) (x .name)) (x .at) (map.define (x .name) x (s .scope .names)) s
+
+  module _ (kind : IdentifierStatus) where
+    pub one-still : (t : Tree) (s : State) → stillOf (enterOne classes kind t s) ≡ stillOf s
+    one-still (ident x) s = refl
+    one-still (const n q) s = refl
+    one-still (if n a b c) s = refl
+    one-still (letin n xs es b) s = refl
+    one-still (define n x b) s = go (isLambda b)
+      where
+        go : (l : Bool) → stillOf (enterIf classes kind l x b s) ≡ stillOf s
+        go true = define-still kind NONE x b s
+        go false = refl
+    one-still (lambda n xs b) s = refl
+    one-still (begin n es) s = refl
+    one-still (call n h es) s = refl
+    one-still (set! n x e) s = refl
+
+    pub each-still : (ts : Trees) (s : State) → stillOf (enterEach classes kind ts s) ≡ stillOf s
+    unfolding enterEach
+    each-still nil s = refl
+    each-still (cons t ts) s = each-still ts _ ∙ one-still t s
+
+  -- and a define's own visit sets the context
+
+  local-unnamed : (x : Ident) (b : Tree) (s : State) → unnamedOf (enterDefine classes Local NONE x b s) ≡ unnamedOf s
+  local-unnamed x b s = ap (λ (o : Still). o .unnamed) (define-still Local NONE x b s)
+
+  pub before-define-unnamed : (direct l : Bool) (x : Ident) (b : Tree) (s : State) → unnamedOf (beforeDefine classes direct l x b s) ≡ unnamedOf s
+  before-define-unnamed true true x b s = refl
+  before-define-unnamed true false x b s = refl
+  before-define-unnamed false true x b s = local-unnamed x b s
+  before-define-unnamed false false x b s = refl
+
+  pub after-define-unnamed : (direct l : Bool) (c : ℕ) (x : Ident) (b : Tree) (s : State) → unnamedOf (afterDefine classes direct l c x b s) ≡ unnamedOf s
+  after-define-unnamed true true c x b s = refl
+  after-define-unnamed true false c x b s = local-unnamed x b s
+  after-define-unnamed false true c x b s = refl
+  after-define-unnamed false false c x b s = local-unnamed x b s
 
 -- A set! begins: all is kept but the context
 

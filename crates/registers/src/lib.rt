@@ -7,6 +7,7 @@ ghost use mathlib.Core.Path.{_≡_};
 ghost use Prim.Native.Nat.{_+_, _<_};
 ghost use lib.ListN.{length, set};
 ghost use Rattle.work.specs.Passes.{inScope, inCaptures, withSecond};
+ghost use Rattle.names.specs.Contract.{withName};
 ghost use Rattle.registers.specs.Registers.{registersLength, narrowOf, Narrow, passIn};
 
 pub mod steps;
@@ -128,4 +129,13 @@ fn put_second(r: &mut [usize], s: Second)
     ensures { λ _. ⌜ passIn (now (r .exit)) ≡ withSecond s (passIn (now (r .entry))) ⌝ }
 {
     put_pair(r, SECOND_NUMBER, s.number, s.at);
+}
+
+// How many names live, and refusal 9: what a name that enters changes.
+fn put_entered(r: &mut [usize], many: usize, nine: Noted)
+    requires { ⌜ length (now r) ≡ registersLength ⌝ }
+    ensures { λ _. ⌜ passIn (now (r .exit)) ≡ withName (record { length = many; nine = nine }) (passIn (now (r .entry))) ⌝ }
+{
+    put(r, SCOPE_LENGTH, many);
+    put(r, NINE, nine.code);
 }

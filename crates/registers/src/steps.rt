@@ -10,9 +10,9 @@ use crate::load;
 use crate::narrow;
 use crate::put;
 use crate::put_captures;
+use crate::put_entered;
 use crate::put_scope;
 use crate::put_second;
-use crate::store;
 use crate::wide;
 use flags::Around;
 use forms::calls::clear_context;
@@ -27,7 +27,6 @@ use forms::lets::enter_let;
 use forms::lets::leave_let;
 use lists::amend::Lambda;
 use names::define::enter_top_level_value;
-use names::define::with_name;
 use names::read::mutate;
 use names::read::read;
 use semantic::IdentifierStatus;
@@ -147,7 +146,8 @@ pub fn open_define(
 {
     let p = load(r);
     let q = before_define(all, at, direct, b, p, facts, work);
-    store(r, q);
+    set_context(r, q.context);
+    put_entered(r, q.scope.length, q.nine);
 }
 
 pub fn close_define(
@@ -165,7 +165,8 @@ pub fn close_define(
 {
     let p = load(r);
     let q = after_define(all, at, direct, context, b, p, facts, work);
-    store(r, q);
+    set_context(r, q.context);
+    put_entered(r, q.scope.length, q.nine);
 }
 
 pub fn open_lambda(
@@ -229,7 +230,7 @@ pub fn enter_defines(
 {
     let p = load(r);
     let q = enter_children(classes, all, first, k, kind, p, facts, work);
-    store(r, q);
+    put_entered(r, q.scope.length, q.nine);
 }
 
 pub fn close_call(
@@ -280,7 +281,7 @@ pub fn enter_global(
 {
     let p = load(r);
     let q = enter_child(classes, all, at, IdentifierStatus::Global, p, facts, work);
-    store(r, q);
+    put_entered(r, q.scope.length, q.nine);
 }
 
 pub fn enter_value(
@@ -296,6 +297,5 @@ pub fn enter_value(
 {
     let p = load(r);
     let e = enter_top_level_value(all, at, b, p, facts, work);
-    let q = with_name(p, e);
-    store(r, q);
+    put_entered(r, e.length, e.nine);
 }

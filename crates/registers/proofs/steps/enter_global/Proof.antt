@@ -1,4 +1,5 @@
--- `enter_global`: `enter_child` of the pass that the table holds, and its answer is stored.
+-- `enter_global`: `enter_child` of the pass that the table holds, and what it changes is stored.
+use Rattle.registers.proofs.StepCase.{child-named}
 use borrow.Author.Needs.{needs}
 use Rattle.registers.proofs.steps.enter_global.Statement.{statement}
 use Rattle.registers.proofs.steps.enter_global.Tie as tie
@@ -9,8 +10,8 @@ load-requires c κs = search needs
 enter-child-requires : tie.Need-enter-child-requires
 enter-child-requires c κs = rw (c .before .before .load .ensures) (c .before .before .before .before .before .before .before .before .pre)
 
-store-requires : tie.Need-store-requires
-store-requires c κs = search needs
+put-entered-requires : tie.Need-put-entered-requires
+put-entered-requires c κs = search needs
 
 same-length : tie.Need-same-length
 same-length c = search needs
@@ -19,15 +20,10 @@ same-length-2 : tie.Need-same-length-2
 same-length-2 c = search needs
 
 returns : tie.Need-returns
-returns c = rw (c .store .ensures, ← c .before .before .before .before .before .before .before .before .before .load .ensures) (c .before .before .before .before .before .before .enter-child .ensures)
+returns c =
+    let step = c .before .before .before .before .before .before in
+    let loaded = step .before .before .before in
+    rw (c .put-entered .ensures, ← loaded .load .ensures) (child-named (step .enter-child .ensures))
 
 pub enter-global-spec : {M : Type 1} → statement M
-enter-global-spec =
-    tie.close
-    (tie.spec
-    load-requires
-    enter-child-requires
-    store-requires
-    same-length
-    same-length-2
-    returns)
+enter-global-spec = tie.close (tie.spec load-requires enter-child-requires put-entered-requires same-length same-length-2 returns)

@@ -1,4 +1,4 @@
--- `enter_value`: `enter_top_level_value` of the pass that the table holds, and its answer is stored.
+-- `enter_value`: `enter_top_level_value` of the pass that the table holds, and what it changes is stored.
 use borrow.Author.Needs.{needs}
 use Rattle.registers.proofs.steps.enter_value.Statement.{statement}
 use Rattle.registers.proofs.steps.enter_value.Tie as tie
@@ -9,11 +9,8 @@ load-requires c κs = search needs
 enter-top-level-value-requires : tie.Need-enter-top-level-value-requires
 enter-top-level-value-requires c κs = rw (c .before .before .load .ensures) (c .before .before .before .before .before .before .before .pre)
 
-with-name-requires : tie.Need-with-name-requires
-with-name-requires c κs = search needs
-
-store-requires : tie.Need-store-requires
-store-requires c κs = search needs
+put-entered-requires : tie.Need-put-entered-requires
+put-entered-requires c κs = search needs
 
 same-length : tie.Need-same-length
 same-length c = search needs
@@ -23,19 +20,9 @@ same-length-2 c = search needs
 
 returns : tie.Need-returns
 returns c =
-    let p₁ = c .before .before in
-    let p₂ = p₁ .before .before .before .before .before in
-    let p₃ = p₂ .before .before .before in
-    rw (c .store .ensures, p₁ .with-name .ensures, ← p₃ .load .ensures) (p₂ .enter-top-level-value .ensures)
+    let step = c .before .before .before .before .before .before in
+    let loaded = step .before .before .before in
+    rw (c .put-entered .ensures, ← loaded .load .ensures) (step .enter-top-level-value .ensures)
 
 pub enter-value-spec : {M : Type 1} → statement M
-enter-value-spec =
-    tie.close
-    (tie.spec
-    load-requires
-    enter-top-level-value-requires
-    with-name-requires
-    store-requires
-    same-length
-    same-length-2
-    returns)
+enter-value-spec = tie.close (tie.spec load-requires enter-top-level-value-requires put-entered-requires same-length same-length-2 returns)
