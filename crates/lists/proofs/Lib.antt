@@ -12,6 +12,7 @@ pub mod IndexCase
 pub mod NearCase
 pub mod TakeCase
 pub mod NumberCase
+pub mod MutatedCase
 pub mod ClearCase
 pub mod InsertCase
 pub mod FillCase

@@ -5,6 +5,7 @@ use mathlib.Core.Bool.{Bool, true, false, cond, not}
 use mathlib.Core.Option.{Option}
 use mathlib.Core.Path.{_≡_, refl, ap, sym, subst, _∙_}
 use native.Mathlib.Omega.{arith}
+use borrow.Author.Tests.{ltb-false}
 use native.Mathlib.Numerals.{add-one}
 use lib.ListN.{length, getD, set}
 use Rattle.scope_map.specs.SizeLaws.{define-size}
@@ -24,7 +25,7 @@ use Rattle.work.specs.declared.Pass.{Pass}
 use Rattle.lists.specs.declared.rows.Item.{Item as Coded}
 use Rattle.lists.specs.declared.number.Numbered.{Numbered}
 use Rattle.lists.specs.Contract.{LoadsItem, SomeHeld, Inside, CapturesRoom, Numbers}
-use Rattle.lists.specs.Numbered.{numberedBy, isDue, numberedRow, TakeHeld, TakesRow, RowHeld, rowDone, NumbersRow, due, RowsHeld, rowsDone, NumbersRows}
+use Rattle.lists.specs.Numbered.{numberedBy, isDue, numberedRow, TakeHeld, TakesRow, RowHeld, rowDone, NumbersRow, due, RowsHeld, rowsDone, NumbersRows, TellsMutated}
 
 -- A state stays good
 
@@ -129,6 +130,26 @@ due-both (suc k) r s = omega (arith, due-both k (suc r) s, one (itemAt s r .info
     one true = refl
     one false = refl
 
+-- the first of those left, and the others
+pub first-due : (heap : Bool) {n k : ℕ} (first : ℕ) (s : State) → k < n
+    → due heap (n - k) (first + k) s ≡ cond (isDue heap (itemAt s (first + k))) 1 0 + due heap (n - (k + 1)) (first + (k + 1)) s
+unfolding due
+first-due heap {n} {k} first s h =
+    let y : n - k ≡ suc (n - (k + 1)) = omega arith in
+    let z : suc (first + k) ≡ first + (k + 1) = omega arith in
+    ap (λ (j : ℕ). due heap j (first + k) s) y ∙ ap (λ (j : ℕ). cond (isDue heap (itemAt s (first + k))) 1 0 + due heap (n - (k + 1)) j s) z
+
+-- where none is due, nothing is done
+none-due : (heap : Bool) (k r i : ℕ) (s : State) → due heap k r s ≡ 0 → rowsDone heap k r i s ≡ s
+unfolding numberRows due
+none-due heap zero r i s z = refl
+none-due heap (suc k) r i s z = go (isDue heap (itemAt s r)) z (none-due heap k (suc r) i s)
+  where
+    go : (b : Bool) → cond b 1 0 + due heap k (suc r) s ≡ 0 → (due heap k (suc r) s ≡ 0 → rowsDone heap k (suc r) i s ≡ s)
+        → rowsDone heap k (suc r) (cond b (suc i) i) (cond b (numberedRow heap r i s) s) ≡ s
+    go true y f = absurd (omega arith)
+    go false y f = f (omega arith)
+
 -- One row
 
 module _ (heap : Bool) {r : ℕ} {p : Pass} {C w : List ℕ} {x : Coded} (l : LoadsItem C w r x) {b : Bool}
@@ -189,15 +210,8 @@ module _ {heap : Bool} {n first : ℕ} {p : Pass} {C w : List ℕ} where
       }
 
   module _ {k i : ℕ} {q : Pass} {C′ w′ : List ℕ} (m : Numbering heap n first p C w k i q C′ w′) (h : k < n) (g : first + n ≤ itemsMost) where
-    first-due : (s : State) → due heap (n - k) (first + k) s ≡ cond (isDue heap (itemAt s (first + k))) 1 0 + due heap (n - (k + 1)) (first + (k + 1)) s
-    unfolding due
-    first-due s =
-        let y : n - k ≡ suc (n - (k + 1)) = omega arith in
-        let z : suc (first + k) ≡ first + (k + 1) = omega arith in
-        ap (λ (j : ℕ). due heap j (first + k) s) y ∙ ap (λ (j : ℕ). cond (isDue heap (itemAt s (first + k))) 1 0 + due heap (n - (k + 1)) j s) z
-
     pub numbering-row : RowHeld heap (first + k) q C′ w′
-    numbering-row = record { rs = m .room .rs; held = m .room .held; inside = omega arith; room = omega (arith, m .room .room, first-due (m .room .held .s)) }
+    numbering-row = record { rs = m .room .rs; held = m .room .held; inside = omega arith; room = omega (arith, m .room .room, first-due heap first (m .room .held .s) h) }
 
     first-done : (s : State) {j : ℕ} → j ≡ cond (isDue heap (itemAt s (first + k))) (suc i) i
         → rowsDone heap (n - (k + 1)) (first + (k + 1)) j (rowDone heap (first + k) i s) ≡ rowsDone heap (n - k) (first + k) i s
@@ -237,7 +251,7 @@ module _ {heap : Bool} {n first : ℕ} {p : Pass} {C w : List ℕ} where
                 omega (
                   arith,
                   m .room .room,
-                  first-due (d .s),
+                  first-due heap first (d .s) h,
                   row-size heap (first + k) i (d .s),
                   due-same heap (n - (k + 1)) (first + (k + 1)) (d .s) t (row-marks heap (first + k) i (d .s)),
                 );
@@ -298,6 +312,19 @@ module _ (e : Entries) {p : Pass} {C w : List ℕ} (inside : Inside e) where
       is = λ rs. record {
         is = λ F A s g t.
             b .is rs F A (rowsDone false (e .length) (e .first) 0 s) (rows-good false (e .length) (e .first) 0 s inside g) (a .is rs F A s g t);
+      };
+    }
+
+    -- no entry is mutated
+    pub first-alone : TellsMutated C′ w′ e false → Numbers e p C w q C′ w′
+    unfolding numberList
+    first-alone m = record {
+      is = λ rs. record {
+        is = λ F A s g t.
+            let u = rowsDone false (e .length) (e .first) 0 s in
+            let k = a .is rs F A s g t in
+            let z : due true (e .length) (e .first) u ≡ 0 = omega (arith, ltb-false 0 (due true (e .length) (e .first) u) (sym (m .is q F A u k))) in
+            subst (Tied (raw q F C′ A w′)) (sym (none-due true (e .length) (e .first) 0 u z)) k;
       };
     }
 

@@ -5,6 +5,7 @@ use mathlib.Core.Bool.{Bool, true, false, cond, not}
 use mathlib.Core.Option.{Option, none, some}
 use mathlib.Core.Path.{_≡_}
 use lib.ListN.{length, getD, set}
+use lib.Dec.{ltb}
 use Rattle.table.specs.Layout.{layout}
 use Rattle.semantic.specs.Rows.{Item, noItem, putItem}
 use Rattle.semantic.specs.Items.{onInfo}
@@ -92,3 +93,7 @@ rowsDone heap k r i s = numberRows heap (numberedBy heap) k r i s
 
 pub record NumbersRows (heap : Bool) (e : Entries) (p : Pass) (C w : List ℕ) (q : Pass) (C′ w′ : List ℕ) : Type 0 where
   pub is : (rs F A : List ℕ) (s : State) → Good rs s → Tied (raw p F C A w) s → Tied (raw q F C′ A w′) (rowsDone heap (e .length) (e .first) 0 s)
+
+-- whether any entry of the list is mutated: the second pass has something due
+pub record TellsMutated (C w : List ℕ) (e : Entries) (r : Bool) : Type 0 where
+  pub is : (p : Pass) (F A : List ℕ) (s : State) → Tied (raw p F C A w) s → r ≡ ltb 0 (due true (e .length) (e .first) s)

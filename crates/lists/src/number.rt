@@ -17,8 +17,9 @@ ghost use lib.ListN.{length};
 ghost use lib.Dec.{leb};
 ghost use Rattle.pass.specs.Lists.{isNear, captureFrom, heapFrom, parentFrom};
 ghost use Rattle.pass.specs.Run.{itemsMost, itemsLength};
+ghost use Rattle.work.specs.Works.{workLong};
 ghost use Rattle.lists.specs.Contract.{Inside, CapturesRoom, SomeHeld, Numbers, CountsHeap};
-ghost use Rattle.lists.specs.Numbered.{nearOf, takenBy, TellsNear, PutsOffsets, TakeHeld, TakesRow, RowHeld, NumbersRow, RowsHeld, NumbersRows};
+ghost use Rattle.lists.specs.Numbered.{nearOf, takenBy, TellsNear, PutsOffsets, TakeHeld, TakesRow, RowHeld, NumbersRow, RowsHeld, NumbersRows, TellsMutated};
 
 // What the newest capture of a name stands for.
 pub enum Nearby {
@@ -206,6 +207,25 @@ fn number_rows(heap: bool, e: Entries, p: Pass, captured: &mut [u32], work: &mut
     q
 }
 
+// Whether an entry of the list is mutated.
+fn has_mutated(e: Entries, captured: &[u32], work: &[u32]) -> bool
+    requires { ⌜ Inside e × (length (now captured) ≡ itemsLength) × (length (now work) ≡ workLong) ⌝ }
+    ensures { λ r. ⌜ TellsMutated (now (captured .entry)) (now (work .entry)) e r ⌝ }
+{
+    let first = wide(e.first);
+    let n = wide(e.length);
+    let mut k = 0;
+    while k < n {
+        let x = load_item(captured, work, first + k);
+        let info = x.info;
+        if info.mutated {
+            return true;
+        }
+        k += 1;
+    }
+    false
+}
+
 pub fn number_list(e: Entries, p: Pass, captured: &mut [u32], work: &mut [u32]) -> Pass
     requires { ⌜ Inside e × CapturesRoom p e × SomeHeld p (now captured) (now work) ⌝ }
     ensures { λ r. ⌜ Numbers e p (now (captured .entry)) (now (work .entry)) r (now (captured .exit)) (now (work .exit)) ⌝ }
@@ -215,6 +235,9 @@ pub fn number_list(e: Entries, p: Pass, captured: &mut [u32], work: &mut [u32]) 
     }
     let o = p;
     let q = number_rows(false, e, o, captured, work);
+    if !has_mutated(e, captured, work) {
+        return q;
+    }
     number_rows(true, e, q, captured, work)
 }
 

@@ -1,6 +1,10 @@
 -- `number_list`.
-use Rattle.lists.proofs.NumberCase.{first-held, second-held, both, none-numbered}
+use Rattle.lists.specs.Numbered.{TellsMutated}
+use Rattle.lists.proofs.RowsCase.{captured-long}
+use Rattle.lists.proofs.NumberCase.{first-held, second-held, both, first-alone, none-numbered}
 use borrow.Author.Needs.{needs}
+use borrow.Author.Tests.{not-true}
+use mathlib.Core.Path.{subst}
 use Rattle.lists.proofs.number.number_list.Statement.{statement}
 use Rattle.lists.proofs.number.number_list.Tie as tie
 
@@ -12,11 +16,12 @@ number-rows-requires c κs =
     let start = c .before .before .before .before .before .before in
     (start .pre .0, first-held (start .args .e) (start .pre .0) (start .pre .1) (start .pre .2))
 
-number-rows-requires-2 : tie.Need-number-rows-requires-2
-number-rows-requires-2 c κs =
+has-mutated-requires : tie.Need-has-mutated-requires
+has-mutated-requires c κs =
     let at-number-rows = c .before .before .before .before .before .before in
     let start = at-number-rows .before .before .before .before .before .before .before in
-    (start .pre .0, second-held (start .args .e) (start .pre .0) (at-number-rows .number-rows .ensures) (start .pre .1) (start .pre .2))
+    let h = second-held (start .args .e) (start .pre .0) (at-number-rows .number-rows .ensures) (start .pre .1) (start .pre .2) in
+    (start .pre .0, captured-long (h .held .tied), h .held .tied .works .long)
 
 same-length : tie.Need-same-length
 same-length c = search needs
@@ -26,12 +31,40 @@ same-length-2 c = search needs
 
 returns-2 : tie.Need-returns-2
 returns-2 c =
+    let at-number-rows = c .before .before .before .before .before .before .before .before in
+    let start = at-number-rows .before .before .before .before .before .before .before in
+    first-alone (start .args .e) (start .pre .0) (at-number-rows .number-rows .ensures) (subst (TellsMutated _ _ _) (not-true _ (c .if2 .taken)) (c .before .has-mutated .ensures))
+
+number-rows-requires-2 : tie.Need-number-rows-requires-2
+number-rows-requires-2 c κs =
+    let at-number-rows = c .before .before .before .before .before .before .before .before .before .before in
+    let start = at-number-rows .before .before .before .before .before .before .before in
+    (start .pre .0, second-held (start .args .e) (start .pre .0) (at-number-rows .number-rows .ensures) (start .pre .1) (start .pre .2))
+
+same-length-3 : tie.Need-same-length-3
+same-length-3 c = search needs
+
+same-length-4 : tie.Need-same-length-4
+same-length-4 c = search needs
+
+returns-3 : tie.Need-returns-3
+returns-3 c =
     let at-number-rows2 = c .before .before .before .before in
-    let at-number-rows = at-number-rows2 .before .before .before .before .before .before .before in
+    let at-number-rows = at-number-rows2 .before .before .before .before .before .before .before .before .before .before .before in
     let start = at-number-rows .before .before .before .before .before .before .before in
     both (start .args .e) (start .pre .0) (at-number-rows .number-rows .ensures) (at-number-rows2 .number-rows2 .ensures)
 
 pub number-list-spec : {M : Type 1} → statement M
 number-list-spec =
     tie.close
-    (tie.spec returns number-rows-requires number-rows-requires-2 same-length same-length-2 returns-2)
+    (tie.spec
+    returns
+    number-rows-requires
+    has-mutated-requires
+    same-length
+    same-length-2
+    returns-2
+    number-rows-requires-2
+    same-length-3
+    same-length-4
+    returns-3)

@@ -1,0 +1,75 @@
+-- `has_mutated`: none of the rows before k is.
+use native.Mathlib.Omega.{arith}
+use borrow.Author.Needs.{needs}
+use borrow.Author.Tests.{not-true, not-false}
+use Prim.Native.Nat.{_-_, _≤_}
+use Rattle.lists.proofs.MutatedCase.{Passed, passed-start, passed-next, passed-found, passed-all}
+use Rattle.lists.proofs.number.has_mutated.Statement.{statement}
+use Rattle.lists.proofs.number.has_mutated.Tie as tie
+
+abbrev Inv-loop : tie.InvT-loop
+Inv-loop captured work first n k₀ k = (k ≤ n) × Passed captured work first n k
+
+abbrev μ-loop : tie.MeasureT-loop
+μ-loop captured work first n k₀ k = n - k
+
+wide-requires : tie.Need-wide-requires Inv-loop μ-loop
+wide-requires c κs = search needs
+
+wide-requires-2 : tie.Need-wide-requires-2 Inv-loop μ-loop
+wide-requires-2 c κs = search needs
+
+loop-holds : tie.Need-loop-holds Inv-loop μ-loop
+loop-holds c = (omega arith, passed-start)
+
+add-load-item : tie.Need-add-load-item Inv-loop μ-loop
+add-load-item c = omega (arith, c .before .before .before .wide .ensures, c .before .before .wide2 .ensures)
+
+load-item-requires : tie.Need-load-item-requires Inv-loop μ-loop
+load-item-requires c κs = search needs
+
+returns : tie.Need-returns Inv-loop μ-loop
+returns c =
+    let at-load-item = c .before .before in
+    let at-loop-test = at-load-item .before in
+    let at-loop = at-loop-test .before in
+    let at-wide2 = at-loop .before in
+    let at-wide = at-wide2 .before in
+    let start = at-wide .before .before .before in
+    passed-found (at-loop .loop .inv .1) (start .args .e) (at-wide .wide .ensures) (at-wide2 .wide2 .ensures) (at-loop-test .loop-test .taken) (at-load-item .load-item .ensures) (c .if1 .taken)
+
+add-k : tie.Need-add-k Inv-loop μ-loop
+add-k c = omega (arith, c .before .before .before .before .before .wide2 .ensures)
+
+loop-less : tie.Need-loop-less Inv-loop μ-loop
+loop-less c = search needs
+
+loop-again : tie.Need-loop-again Inv-loop μ-loop
+loop-again c =
+    let at-load-item = c .before .before in
+    let at-loop-test = at-load-item .before in
+    (omega arith, passed-next (at-loop-test .before .loop .inv .1) (at-loop-test .loop-test .taken) (at-load-item .load-item .ensures) (c .if1 .left))
+
+returns-2 : tie.Need-returns-2 Inv-loop μ-loop
+returns-2 c =
+    let at-wide2 = c .before .before in
+    let at-wide = at-wide2 .before in
+    let start = at-wide .before .before .before in
+    passed-all (c .before .loop .inv .1) (start .args .e) (at-wide .wide .ensures) (at-wide2 .wide2 .ensures) (c .loop-test .left)
+
+pub has-mutated-spec : {M : Type 1} → statement M
+has-mutated-spec =
+    tie.close
+    (tie.spec
+    Inv-loop
+    μ-loop
+    wide-requires
+    wide-requires-2
+    loop-holds
+    add-load-item
+    load-item-requires
+    returns
+    add-k
+    loop-less
+    loop-again
+    returns-2)
