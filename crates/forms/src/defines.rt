@@ -99,7 +99,7 @@ pub fn after_define(
 }
 
 // The define of a lambda at the record, if it is one, enters with this kind.
-pub fn enter_child(
+fn enter_child(
     classes: &[u8],
     all: &[u32],
     at: usize,

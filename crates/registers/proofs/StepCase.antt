@@ -25,8 +25,8 @@ use Rattle.walk.specs.declared.uses.Names.{Names}
 use Rattle.walk.specs.declared.body.Body.{Body}
 use Rattle.flags.specs.declared.Around.{Around}
 use Rattle.names.specs.Contract.{withName, nameIn}
-use Rattle.forms.specs.Contract.{EntersLambda, LeavesLambda, EntersLet, LeavesLet, ClearsContext, BeforeDefine, AfterDefine, EntersChild, EntersChildren}
-use Rattle.registers.specs.KeptLaws.{Sides, Outside, Begun, Unnamed, unnamedOf, Still, stillOf, enter-let-sides, leave-let-outside, leave-lambda-begun, one-still, each-still, before-define-unnamed, after-define-unnamed, clear-context-is}
+use Rattle.forms.specs.Contract.{EntersLambda, LeavesLambda, EntersLet, LeavesLet, ClearsContext, BeforeDefine, AfterDefine, EntersChildren}
+use Rattle.registers.specs.KeptLaws.{Sides, Outside, Begun, Unnamed, unnamedOf, Still, stillOf, enter-let-sides, leave-let-outside, leave-lambda-begun, each-still, before-define-unnamed, after-define-unnamed, clear-context-is}
 
 abbrev mapOf : ℕ → ℕ → Map
 mapOf i j = record { depth = i; length = j }
@@ -163,9 +163,6 @@ module _ {p q : Pass} {rs F F′ w w′ : List ℕ} {at : ℕ} where
   define-closed {direct} {c} k = record {
     is = λ classes C A s n x t e h f. defined-tied (f .tied) (after-define-unnamed classes direct (isLambda t) c x t s) (k .is classes C A s n x t e h f);
   }
-
-  pub child-named : {classes : List ℕ} {kind : IdentifierStatus} → EntersChild classes rs at kind p F w q F′ w′ → EntersChild classes rs at kind p F w (named q p) F′ w′
-  child-named {classes} {kind} k = record { is = λ C A s t e f. named-tied (f .tied) (one-still classes kind t s) (k .is C A s t e f) }
 
   pub children-named : {n : ℕ} {classes : List ℕ} {kind : IdentifierStatus} → EntersChildren classes rs at n kind p F w q F′ w′
       → EntersChildren classes rs at n kind p F w (named q p) F′ w′

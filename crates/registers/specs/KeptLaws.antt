@@ -179,7 +179,7 @@ module _ (classes : List ℕ) where
   define-still kind a x b s = live-still (ltb 1 (depth s) && hasAtTop (s .scope .names) (x .name)) (x .at) (map.define (x .name) x (s .scope .names)) s
 
   module _ (kind : IdentifierStatus) where
-    pub one-still : (t : Tree) (s : State) → stillOf (enterOne classes kind t s) ≡ stillOf s
+    one-still : (t : Tree) (s : State) → stillOf (enterOne classes kind t s) ≡ stillOf s
     one-still (ident x) s = refl
     one-still (const n q) s = refl
     one-still (if n a b c) s = refl

@@ -19,7 +19,6 @@ use forms::calls::clear_context;
 use forms::calls::end_call;
 use forms::defines::after_define;
 use forms::defines::before_define;
-use forms::defines::enter_child;
 use forms::defines::enter_children;
 use forms::lambda::enter_lambda;
 use forms::lambda::leave_lambda;
@@ -35,12 +34,11 @@ use walk::uses::Names;
 ghost use mathlib.Core.Path.{_≡_};
 ghost use Prim.Native.Nat.{_<_};
 ghost use lib.ListN.{length};
-ghost use Rattle.semantic.specs.declared.IdentifierStatus.the-variants.{Global};
 ghost use Rattle.pass.specs.Read.{read};
 ghost use Rattle.pass.specs.Run.{rowsMost, factsLength};
 ghost use Rattle.work.specs.Passes.{inContext};
 ghost use Rattle.names.specs.Contract.{Room, Defined, EntersValue, Readable, Does, Settable, Mutates};
-ghost use Rattle.forms.specs.Contract.{LetFits, EntersLet, LetEnds, LeavesLet, DefineFits, BeforeDefine, AfterDefine, LambdaFits, EntersLambda, LambdaEnds, LeavesLambda, ChildFits, EntersChild, ChildrenFit, EntersChildren, CallFits, EndsCall, ClearsContext};
+ghost use Rattle.forms.specs.Contract.{LetFits, EntersLet, LetEnds, LeavesLet, DefineFits, BeforeDefine, AfterDefine, LambdaFits, EntersLambda, LambdaEnds, LeavesLambda, ChildrenFit, EntersChildren, CallFits, EndsCall, ClearsContext};
 ghost use Rattle.registers.specs.Registers.{passIn};
 
 pub fn visit_atom(
@@ -266,22 +264,6 @@ pub fn close_set(name: u32, r: &[usize; REGISTERS], facts: &mut [u32], work: &mu
 {
     let p = load(r);
     mutate(name, p, facts, work);
-}
-
-pub fn enter_global(
-    classes: &[u8],
-    all: &[u32],
-    at: usize,
-    r: &mut [usize; REGISTERS],
-    facts: &mut [u32],
-    work: &mut [u32],
-)
-    requires { ⌜ ChildFits (length (now classes)) (now all) at (passIn (now r)) (now facts) (now work) ⌝ }
-    ensures { λ _. ⌜ EntersChild (now (classes .entry)) (now (all .entry)) at Global (passIn (now (r .entry))) (now (facts .entry)) (now (work .entry)) (passIn (now (r .exit))) (now (facts .exit)) (now (work .exit)) ⌝ }
-{
-    let p = load(r);
-    let q = enter_child(classes, all, at, IdentifierStatus::Global, p, facts, work);
-    put_entered(r, q.scope.length, q.nine);
 }
 
 pub fn enter_value(

@@ -1,18 +1,18 @@
 -- The lambda defines at top level enter: those of one tree, and those of all trees, one after another.
 use Prim.Native.Nat.{ℕ, _+_, _≤_, _<_}
-use mathlib.Core.List.{List}
+use mathlib.Core.List.{List, append-nil}
 use mathlib.Core.Path.{_≡_, refl, ap, sym, subst, _∙_}
 use native.Mathlib.Omega.{arith}
 use lib.ListN.{length}
 use Rattle.tree.specs.Record.{records}
 use Rattle.tree.specs.RecordLaws.{nth}
-use Rattle.tree.specs.Tree.{Tree, Trees, ident, const, if, letin, define, lambda, begin, call, set!, nil, cons, many, size, sizes}
+use Rattle.tree.specs.Tree.{Tree, Trees, ident, const, if, letin, define, lambda, begin, call, set!, nil, cons, many, flat, flats, size, sizes, Nums}
 use Rattle.tree.specs.TreeLaws.{length-flats, size-pos}
 use Rattle.tree.specs.Define.{topOf, topLevel}
 use Rattle.tree.specs.Parts.{own}
 use Rattle.tree.specs.Accepted.{Accepted}
 use Rattle.tree.specs.Acceptance.{holds}
-use Rattle.tree.specs.Stands.{Stands, StandAll}
+use Rattle.tree.specs.Stands.{Within, Stands, StandAll}
 use Rattle.tree.specs.StandsLaws.{root, root-form, first-tree, later-trees, accepted-stand}
 use Rattle.tree.specs.StandsForms.{begin-of}
 use Rattle.semantic.specs.declared.IdentifierStatus.the-variants.{Global}
@@ -24,8 +24,8 @@ use Rattle.work.specs.Known.{Known}
 use Rattle.work.specs.Tied.{raw, Tied}
 use Rattle.work.specs.declared.Pass.{Pass}
 use Rattle.walk.specs.Contract.{SomeTree, Extends}
-use Rattle.forms.specs.Contract.{Fits, NamesRoom, ChildFits, EntersChild, ChildrenFit, EntersChildren}
-use Rattle.forms.specs.Defines.{enterEach, tops-entered}
+use Rattle.forms.specs.Contract.{Fits, NamesRoom, ChildrenFit, EntersChildren}
+use Rattle.forms.specs.Defines.{tops-entered}
 use Rattle.visits.specs.Tops.{TopEnters, EntersTop, TopsEnter, EntersTops}
 use Rattle.visits.proofs.Views.{small, stand-all-at, names-room}
 
@@ -50,6 +50,11 @@ lone (set! n x e) h = refl
 pub lone-top : {N : ℕ} {rs : List ℕ} {at : ℕ} {t : Tree} → Stands N rs at t → (nth rs at .form ≡ 7 → ⊥) → topOf t ≡ cons t nil
 lone-top {t = t} s h = lone t (λ e. h (root-form s ∙ e))
 
+-- and one tree stands as one of many do
+lone-stands : {N : ℕ} {rs : List ℕ} {at : ℕ} {t : Tree} → Stands N rs at t → StandAll N rs at (cons t nil)
+unfolding flats Nums
+lone-stands {N} {rs} {at} {t} s = record { within = subst (Within N rs at) (sym (append-nil (flat t))) (s .within); num = (s .num, tt) }
+
 -- Of one tree
 
 module _ {N : ℕ} {rs : List ℕ} {at : ℕ} {p : Pass} {F w : List ℕ} (x : TopEnters N rs at p F w) where
@@ -73,14 +78,15 @@ module _ {N : ℕ} {rs : List ℕ} {at : ℕ} {p : Pass} {F w : List ℕ} (x : T
         room = subst (λ (j : ℕ). NamesRoom p j) (ap (λ (t : Tree). many (topOf t)) (v .is) ∙ sym m) (x .room);
       }
 
-  -- any other tree
-  pub child-fits : (nth rs at .form ≡ 7 → ⊥) → ChildFits N rs at p F w
+  -- any other tree, as one child
+  pub child-fits : (nth rs at .form ≡ 7 → ⊥) → ChildrenFit N rs at 1 p F w
   child-fits h = record {
     captured = x .captured;
     arguments = x .arguments;
     s = x .s;
-    t = x .t;
-    stands = x .stands;
+    es = cons (x .t) nil;
+    stand = lone-stands (x .stands);
+    count = refl;
     fits = x .fits;
     room = subst (λ (j : ℕ). NamesRoom p j) (ap many (lone-top (x .stands) h)) (x .room);
   }
@@ -97,12 +103,11 @@ module _ {classes rs : List ℕ} {at : ℕ} {p p′ : Pass} {F w F′ w′ : Lis
         (subst (Tied (raw p′ F′ C A w′)) (tops-entered classes (v .es) s) i);
   }
 
-  pub child-enters : (nth rs at .form ≡ 7 → ⊥) → EntersChild classes rs at Global p F w p′ F′ w′ → EntersTop classes rs at p F w p′ F′ w′
-  unfolding enterEach
+  pub child-enters : (nth rs at .form ≡ 7 → ⊥) → EntersChildren classes rs at 1 Global p F w p′ F′ w′ → EntersTop classes rs at p F w p′ F′ w′
   child-enters h o = record {
     is = λ C A s t u f.
         subst (λ (us : Trees). Tied (raw p′ F′ C A w′) (enterTops classes us s)) (sym (lone-top u h))
-        (subst (Tied (raw p′ F′ C A w′)) (tops-entered classes (cons t nil) s) (o .is C A s t u f));
+        (subst (Tied (raw p′ F′ C A w′)) (tops-entered classes (cons t nil) s) (o .is C A s (cons t nil) (lone-stands u) refl f));
   }
 
 -- no define is in it

@@ -4,7 +4,6 @@ use flags::Flags;
 use registers::REGISTERS;
 use registers::load;
 use registers::steps::enter_defines;
-use registers::steps::enter_global;
 use registers::steps::enter_value;
 use registers::steps::set_context;
 use registers::store;
@@ -54,7 +53,16 @@ fn enter_top(
         return;
     }
     if form == 5 {
-        enter_global(classes, all, at, r, facts, work);
+        enter_defines(
+            classes,
+            all,
+            at,
+            1,
+            IdentifierStatus::Global,
+            r,
+            facts,
+            work,
+        );
     }
 }
 

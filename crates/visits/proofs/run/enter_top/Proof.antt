@@ -41,8 +41,8 @@ returns c =
 no-begin : (c : tie.Else1) → let o = c .before .before .before .before .before .before .args in nth (o .all .now) (o .at) .form ≡ 7 → ⊥
 no-begin c e = c .if1 .left (c .before .form .ensures ∙ e)
 
-enter-global-requires : tie.Need-enter-global-requires
-enter-global-requires c κs = let test = c .before .before .before .before in child-fits (test .before .before .before .before .before .before .pre) (no-begin test)
+enter-defines-requires-2 : tie.Need-enter-defines-requires-2
+enter-defines-requires-2 c κs = let test = c .before .before .before .before in child-fits (test .before .before .before .before .before .before .pre) (no-begin test)
 
 same-length-3 : tie.Need-same-length-3
 same-length-3 c = search needs
@@ -51,7 +51,7 @@ same-length-4 : tie.Need-same-length-4
 same-length-4 c = search needs
 
 returns-2 : tie.Need-returns-2
-returns-2 c = child-enters (no-begin (c .before .before .before .before .before .before .before .before .before)) (c .before .before .before .before .enter-global .ensures)
+returns-2 c = child-enters (no-begin (c .before .before .before .before .before .before .before .before .before)) (c .before .before .before .before .enter-defines2 .ensures)
 
 returns-3 : tie.Need-returns-3
 returns-3 c = none-enters (no-begin (c .before)) (λ e. c .if2 .left (c .before .before .form .ensures ∙ e))
@@ -68,7 +68,7 @@ enter-top-spec =
     same-length
     same-length-2
     returns
-    enter-global-requires
+    enter-defines-requires-2
     same-length-3
     same-length-4
     returns-2
