@@ -23,6 +23,7 @@ use Rattle.work.specs.Tied.{raw, Tied}
 use Rattle.work.specs.declared.Pass.{Pass}
 use Rattle.walk.specs.declared.uses.Names.{Names}
 use Rattle.walk.specs.declared.body.Body.{Body}
+use Rattle.lists.specs.declared.amend.Lambda.{Lambda}
 use Rattle.flags.specs.declared.Around.{Around}
 use Rattle.names.specs.Contract.{withName, nameIn}
 use Rattle.forms.specs.Contract.{EntersLambda, LeavesLambda, EntersLet, LeavesLet, ClearsContext, BeforeDefine, AfterDefine, EntersChildren}
@@ -142,7 +143,7 @@ module _ {p q : Pass} {rs F F′ w w′ : List ℕ} {at : ℕ} where
   pub lambda-opened : {n : Names} {C C′ A : List ℕ} → EntersLambda rs at n p F C A w q F′ C′ w′ → EntersLambda rs at n p F C A w (opened q p) F′ C′ w′
   lambda-opened k = record { is = λ s xs m e t f h. opened-tied (f .tied) m xs (k .is s xs m e t f h) }
 
-  pub lambda-closed : {d : _} {escapes : Bool} {C C′ A A′ : List ℕ} → LeavesLambda rs at d escapes p F C A w q F′ C′ A′ w′
+  pub lambda-closed : {d : Lambda} {escapes : Bool} {C C′ A A′ : List ℕ} → LeavesLambda rs at d escapes p F C A w q F′ C′ A′ w′
       → LeavesLambda rs at d escapes p F C A w (closed q p) F′ C′ A′ w′
   lambda-closed {escapes = escapes} k = record { is = λ s xs b m e t y f h. closed-tied (f .tied) m xs b escapes (k .is s xs b m e t y f h) }
 

@@ -1,26 +1,26 @@
 -- What the steps of a lambda, a let, a define and a set! keep of a state.
 use Prim.Native.Nat.{ℕ, suc, _+_}
 use mathlib.Core.List.{List, [], _∷_}
-use mathlib.Core.Bool.{Bool, true, false, cond, _&&_}
+use mathlib.Core.Bool.{Bool, true, false, cond}
 use mathlib.Core.Option.{Option, none, some}
 use mathlib.Core.Path.{_≡_, refl, ap, _∙_}
 use lib.ListN.{length}
 use lib.Dec.{ltb}
 use Rattle.tree.specs.Check.{Refusal}
 use Rattle.tree.specs.Tree.{Ident, Node, Tree, Trees, ident, const, if, letin, define, lambda, begin, call, set!, nil, cons}
-use Rattle.scope_map.specs.ScopeMap.{ScopeMap, Live, newestLayer, hasAtTop}
-use Rattle.scope_map.specs.ScopeMap as map
+use Rattle.scope_map.specs.ScopeMap.{ScopeMap, Live, newestLayer}
 use Rattle.semantic.specs.Information.{NONE}
 use Rattle.semantic.specs.Rows.{Row, Item}
 use Rattle.semantic.specs.declared.IdentifierStatus.{IdentifierStatus}
 use Rattle.semantic.specs.declared.IdentifierStatus.the-variants.{Local}
 use Rattle.semantic.specs.declared.FunctionInformation.{FunctionInformation}
-use Rattle.pass.specs.State.{Entry, Capture, Noted, State, withContext, withNames, insert, amend, putEntry, rowAt, entryAt, depth}
-use Rattle.pass.specs.Read.{noteLive, enter, enterDefine}
+use Rattle.pass.specs.State.{Entry, Capture, Noted, State, topLevelEntry, withContext, insert, amend, rowAt, entryAt, depth}
+use Rattle.pass.specs.Read.{enter, enterDefine}
 use Rattle.pass.specs.Lists.{sortById, capturedMost, storeCaptured, storeArguments, rewriteCaptured}
 use Rattle.pass.specs.Lambda.{isHeap, noteHeap, enterName, enterNames, markLast, markLasts, openScope, openLet, closeScope, closeCaptures, closeLet, atBottom, enterLet, endParameters, functionIn, makeFunction, amendFunction, functionEnds, leaveLambda, leaveNames, entered, makeLet, leaveLet}
 use Rattle.pass.specs.Visit.{isLambda, isSelf, clearContext, beforeDefine, afterDefine}
 use Rattle.pass.specs.Laws.Stage.Cases.{by-let}
+use Rattle.names.specs.EnteredLaws.{Aside, asideOf, enter-aside, enter-second}
 use Rattle.forms.specs.Defines.{enterIf, enterOne, enterEach}
 
 -- Names enter: the context and the captures are kept
@@ -32,13 +32,8 @@ pub record Sides : Type 0 where
 abbrev pub sidesOf : State → Sides
 sidesOf s = record { context = s .context; captures = s .captures }
 
-live-sides : (b : Bool) (i : ℕ) (s : State) → sidesOf (noteLive b i s) ≡ sidesOf s
-live-sides true i s = refl
-live-sides false i s = refl
-
 enter-sides : (x : Ident) (e : Entry) (s : State) → sidesOf (enter x e s) ≡ sidesOf s
-unfolding enter putEntry
-enter-sides x e s = live-sides (ltb 1 (depth s) && hasAtTop (s .scope .names) (x .name)) (x .at) s
+enter-sides x e s = ap (λ (o : Aside). record { context = o .context; captures = o .captures }) (enter-aside x e s)
 
 heap-sides : (o : Option ℕ) (x : Ident) (s : State) → sidesOf (noteHeap o x s) ≡ sidesOf s
 heap-sides none x s = refl
@@ -169,14 +164,18 @@ pub record Still : Type 0 where
 abbrev pub stillOf : State → Still
 stillOf s = record { context = s .context; unnamed = unnamedOf s }
 
-live-still : (b : Bool) (i : ℕ) (m : ScopeMap Ident) (s : State) → stillOf (withNames m (noteLive b i s)) ≡ stillOf (withNames m s)
-live-still true i m s = refl
-live-still false i m s = refl
+abbrev stillIn : Aside → Option Refusal → Still
+stillIn o r = record {
+  context = o .context;
+  unnamed = record { depth = o .depth; captures = o .captures; capturedTop = o .capturedTop; argumentsTop = o .argumentsTop; ten = o .ten; second = r };
+}
 
 module _ (classes : List ℕ) where
   define-still : (kind : IdentifierStatus) (a : ℕ) (x : Ident) (b : Tree) (s : State) → stillOf (enterDefine classes kind a x b s) ≡ stillOf s
-  unfolding enterDefine enter putEntry insert
-  define-still kind a x b s = live-still (ltb 1 (depth s) && hasAtTop (s .scope .names) (x .name)) (x .at) (map.define (x .name) x (s .scope .names)) s
+  unfolding enterDefine insert
+  define-still kind a x b s =
+      ap (λ (o : Aside). stillIn o (enter x topLevelEntry s .noted .second)) (enter-aside x topLevelEntry s)
+      ∙ ap (stillIn (asideOf s)) (enter-second x topLevelEntry s)
 
   module _ (kind : IdentifierStatus) where
     one-still : (t : Tree) (s : State) → stillOf (enterOne classes kind t s) ≡ stillOf s
