@@ -18,6 +18,7 @@ use Rattle.pass.specs.Run.{fresh, settled, refusedFirst, nineIn, tenIn, outcome
 use Rattle.work.specs.Passes.{passNew}
 use Rattle.work.specs.Coded.{secondOf}
 use Rattle.work.specs.Works.{Works, Beside}
+use Rattle.work.specs.WorksLaws.{second-is}
 use Rattle.work.specs.Tied.{Raw, raw, Tied}
 use Rattle.work.specs.declared.Pass.{Pass}
 use Rattle.visits.specs.Runs.{anew, again, Ready, Runs}
@@ -56,9 +57,6 @@ again-tied w′ t z = record { facts = t .facts; captured = t .captured; argumen
 
 pub refused-as : {p : Pass} {w : List ℕ} {s : State} → Works p w s → firstIn p ≡ refusedFirst (s .noted)
 refused-as k = ap (λ (b : Beside). nineIn (b .nine) (tenIn (b .ten))) (k .beside)
-
-second-as : {p : Pass} {w : List ℕ} {s : State} → Works p w s → secondOf (p .second) ≡ s .noted .second
-second-as k = ap (λ (b : Beside). b .second) (k .beside)
 
 -- what is left of tables that hold a state is the outcome
 tied-outcome : {p : Pass} {F C A w : List ℕ} {s : State} (o : Option Refusal) → Tied (raw p F C A w) s
@@ -134,6 +132,6 @@ module _ {classes rs F C A w : List ℕ} (b : Begins classes rs (tables F C A w)
       settled-ends a′ e′ z r′ g′ = record {
         sound = λ us k.
             let u = tied-as settled us k (r′ .is (second-ready e′ z)) in
-            rw (g′ ∙ second-as (u .works), unnoted us k) (tied-outcome (settled classes us .noted .second) u);
+            rw (g′ ∙ second-is (u .works), unnoted us k) (tied-outcome (settled classes us .noted .second) u);
         rest = run-rested classes (fresh classes (b .ts) .facts) (b .accepted) (r′ .is (second-ready e′ z) .works);
       }

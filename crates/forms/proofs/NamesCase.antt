@@ -14,8 +14,7 @@ use Rattle.pass.specs.Read.{enter}
 use Rattle.pass.specs.Lists.{listIn}
 use Rattle.pass.specs.Lambda.{isHeap, noteHeap, enterName, enterNames}
 use Rattle.pass.specs.Run.{itemsLength}
-use Rattle.work.specs.Works.{Beside}
-use Rattle.work.specs.WorksLaws.{names-many}
+use Rattle.work.specs.WorksLaws.{names-many, second-is}
 use Rattle.work.specs.Tied.{Raw, raw, Tied}
 use Rattle.work.specs.TiedLaws.{tied-works}
 use Rattle.work.specs.declared.Pass.{Pass}
@@ -94,7 +93,7 @@ module _ {rs : List ℕ} {n : Names} {g : Entering} {p : Pass} {F A w : List ℕ
             let a = name-aside (g .kind) (g .base) (heapsIn (g .heaps)) before (isHeap before j) (x .x) j h (l .s) in
             record {
               good = good-name (g .kind) (g .base) (heapsIn (g .heaps)) before (isHeap before j) (x .x) j h (x .here .known) (l .fits .good);
-              tied = tied-works _ t refl (works-entered (l .fits .tied .works) (t .works) a (ap (λ (k : Beside). k .second) (t .works .beside)));
+              tied = tied-works _ t refl (works-entered (l .fits .tied .works) (t .works) a (second-is (t .works)));
             }
 
         pub coming-goes : {h′ : ℕ} → h′ ≡ cond b (suc h) h → Coming rs n g p F A w (j + 1) h′ (withEntered (enteredIn q′) q) F″ w″

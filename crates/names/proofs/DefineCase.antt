@@ -23,8 +23,8 @@ use Rattle.pass.specs.Read.{noteLive, enter, statusAt, defineFact, enterDefine,
 use Rattle.pass.specs.Laws.Sound.Each.{each-mark}
 use Rattle.pass.specs.Laws.Sound.Names.{marked-uses}
 use Rattle.work.specs.Coded.{coded, recordIn}
-use Rattle.work.specs.Works.{Beside, Works}
-use Rattle.work.specs.WorksLaws.{depth-is}
+use Rattle.work.specs.Works.{Works}
+use Rattle.work.specs.WorksLaws.{depth-is, second-is}
 use Rattle.work.specs.ScopeLaws.{newest-known}
 use Rattle.work.specs.Leaves.{Becomes, Tells, StoresEntry}
 use Rattle.work.specs.Scope.{TellsId, isLiveRow, inRow, Defines}
@@ -88,7 +88,7 @@ passed {at = at} {r = r} e f o = record { is = rw (e, f) at o }
 pub enters-changed : {rs : List ℕ} {at : ℕ} {e : Coded} {p q : Pass} {w w′ : List ℕ} → Enters rs at e p w q w′ → Enters rs at e p w (withName (nameIn q) p) w′
 enters-changed k = record {
   is = λ s x v kx px ev h.
-      works-entered h (k .is s x v kx px ev h) (enter-aside x v s) (ap (λ (b : Beside). b .second) (h .beside) ∙ sym (enter-second x v s));
+      works-entered h (k .is s x v kx px ev h) (enter-aside x v s) (second-is h ∙ sym (enter-second x v s));
 }
 
 pub top-level-fits : {e : Coded} → e ≡ coded topLevelEntry → e .uses < 536870912

@@ -13,9 +13,9 @@ use Rattle.scope_map.specs.Held.{Held}
 use Rattle.scope_map.specs.declared.ScopeMap.{ScopeMap as Map}
 use Rattle.pass.specs.State.{State, Capture, Entry, withNames, putEntry, depth}
 use Rattle.pass.specs.Read.{noteLive, enter}
-use Rattle.work.specs.Coded.{notedOf, secondOf}
-use Rattle.work.specs.Works.{rowOf, Beside, Works}
-use Rattle.work.specs.WorksLaws.{depth-is, context-is, captured-top, arguments-top}
+use Rattle.work.specs.Coded.{secondOf}
+use Rattle.work.specs.Works.{rowOf, Works}
+use Rattle.work.specs.WorksLaws.{depth-is, context-is, captured-top, arguments-top, nine-is, ten-is}
 use Rattle.work.specs.WorksKept.{works-as}
 use Rattle.work.specs.Passes.{withSecond}
 use Rattle.work.specs.declared.Pass.{Pass}
@@ -57,7 +57,7 @@ module _ (x : Ident) (e : Entry) (s : State) where
   unfolding enter putEntry
   enter-second = live-second (ltb 1 (depth s) && hasAtTop (s .scope .names) (x .name)) (x .at) s
 
-map-is : {m k : Map} → m .depth ≡ k .depth → m .length ≡ k .length → m ≡ k
+pub map-is : {m k : Map} → m .depth ≡ k .depth → m .length ≡ k .length → m ≡ k
 map-is {m} {k} d l = let z : record { depth = m .depth; length = m .length } ≡ k = rw (d, l) in z
 
 -- one struct alone holds a map
@@ -71,9 +71,8 @@ pub works-entered : {p q : Pass} {w w′ : List ℕ} {s t : State} → Works p w
 works-entered {p} {q} {t = t} a b e {m} second =
     let depth = depth-is a ∙ ap (λ (k : Aside). k .depth) (sym e) ∙ sym (depth-is b) in
     let captures = held-same (a .captures) (b .captures) (ap (λ (k : Aside). mapValues rowOf (k .captures)) (sym e)) in
-    let ten : notedOf (p .ten) ≡ t .noted .ten = ap (λ (k : Beside). k .ten) (a .beside) ∙ ap (λ (k : Aside). k .ten) (sym e) in
+    let ten = ten-is a ∙ ap (λ (k : Aside). k .ten) (sym e) in
     let context = context-is a ∙ ap (λ (k : Aside). k .context) (sym e) in
     let captured = captured-top a ∙ ap (λ (k : Aside). k .capturedTop) (sym e) in
     let arguments = arguments-top a ∙ ap (λ (k : Aside). k .argumentsTop) (sym e) in
-    let nine = ap (λ (k : Beside). k .nine) (b .beside) in
-    works-as b _ t (map-is depth refl) captures refl refl refl (rw (context, captured, arguments, nine, ten, second))
+    works-as b _ t (map-is depth refl) captures refl refl refl (rw (context, captured, arguments, nine-is b, ten, second))

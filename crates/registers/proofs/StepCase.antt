@@ -4,20 +4,18 @@ use mathlib.Core.List.{List}
 use mathlib.Core.Bool.{Bool}
 use mathlib.Core.Option.{Option}
 use mathlib.Core.Path.{_≡_, refl, ap, sym, subst, _∙_}
-use lib.ListN.{length}
 use Rattle.tree.specs.Tree.{Ident, Node, Tree}
-use Rattle.scope_map.specs.ScopeMap.{ScopeMap}
-use Rattle.scope_map.specs.declared.ScopeMap.{ScopeMap as Map}
+use Rattle.scope_map.specs.MapLaws.{mapValues}
 use Rattle.semantic.specs.declared.IdentifierStatus.{IdentifierStatus}
-use Rattle.pass.specs.State.{State, Capture, withContext, depth}
+use Rattle.pass.specs.State.{State, withContext, depth}
 use Rattle.pass.specs.Lambda.{enterLambda, leaveLambda, enterLet, leaveLet}
 use Rattle.pass.specs.Visit.{isLambda, clearContext}
 use Rattle.pass.specs.Laws.Stage.Entering.{enter-let-apart}
 use Rattle.pass.specs.Laws.Stage.Filled.{enter-lambda-stored}
 use Rattle.work.specs.Coded.{notedOf, secondOf}
-use Rattle.work.specs.Works.{Beside, Works}
+use Rattle.work.specs.Works.{rowOf, Works}
 use Rattle.work.specs.WorksKept.{works-as, context-kept}
-use Rattle.work.specs.WorksLaws.{context-is, depth-is, captured-top, arguments-top, captures-depth, captures-many}
+use Rattle.work.specs.WorksLaws.{context-is, depth-is, captured-top, arguments-top, nine-is, ten-is, second-is}
 use Rattle.work.specs.Passes.{inContext, inScope, inCaptures, withTops, withNotes}
 use Rattle.work.specs.Tied.{raw, Tied}
 use Rattle.work.specs.declared.Pass.{Pass}
@@ -26,32 +24,18 @@ use Rattle.walk.specs.declared.body.Body.{Body}
 use Rattle.lists.specs.declared.amend.Lambda.{Lambda}
 use Rattle.flags.specs.declared.Around.{Around}
 use Rattle.names.specs.Contract.{withName, nameIn}
+use Rattle.names.specs.EnteredLaws.{map-is, held-same}
 use Rattle.forms.specs.Contract.{EntersLambda, LeavesLambda, EntersLet, LeavesLet, ClearsContext, BeforeDefine, AfterDefine, EntersChildren}
 use Rattle.registers.specs.KeptLaws.{Sides, Outside, Begun, Unnamed, unnamedOf, Still, stillOf, enter-let-sides, leave-let-outside, leave-lambda-begun, each-still, before-define-unnamed, after-define-unnamed, clear-context-is}
 
-abbrev mapOf : ℕ → ℕ → Map
-mapOf i j = record { depth = i; length = j }
-
 module _ {p : Pass} {w : List ℕ} {s : State} (k : Works p w s) where
-  nine-is : notedOf (p .nine) ≡ s .noted .nine
-  nine-is = ap (λ (b : Beside). b .nine) (k .beside)
-
-  ten-is : notedOf (p .ten) ≡ s .noted .ten
-  ten-is = ap (λ (b : Beside). b .ten) (k .beside)
-
-  second-is : secondOf (p .second) ≡ s .noted .second
-  second-is = ap (λ (b : Beside). b .second) (k .beside)
-
   -- captures that are kept are counted alike
   captures-same : {q : Pass} {w′ : List ℕ} {t : State} → Works q w′ t → t .captures ≡ s .captures → p .captures ≡ q .captures
-  captures-same {q} l e =
-      let d : p .captures .depth ≡ q .captures .depth = captures-depth k ∙ ap (λ (m : ScopeMap Capture). m .depth) (sym e) ∙ sym (captures-depth l) in
-      let n : p .captures .length ≡ q .captures .length = captures-many k ∙ ap (λ (m : ScopeMap Capture). length (m .live)) (sym e) ∙ sym (captures-many l) in
-      ap (λ (i : ℕ). mapOf i (p .captures .length)) d ∙ ap (λ (i : ℕ). mapOf (q .captures .depth) i) n
+  captures-same l e = held-same (k .captures) (l .captures) (ap (mapValues rowOf) (sym e))
 
   -- a scope of the depth that is kept, and of the length after the step, is the scope after it
-  scope-same : {q : Pass} {w′ : List ℕ} {t : State} → Works q w′ t → depth t ≡ depth s → mapOf (p .scope .depth) (q .scope .length) ≡ q .scope
-  scope-same {q} l e = ap (λ (i : ℕ). mapOf i (q .scope .length)) (depth-is k ∙ sym e ∙ sym (depth-is l))
+  scope-same : {q : Pass} {w′ : List ℕ} {t : State} → Works q w′ t → depth t ≡ depth s → record { depth = p .scope .depth; length = q .scope .length } ≡ q .scope
+  scope-same l e = map-is (depth-is k ∙ sym e ∙ sym (depth-is l)) refl
 
 -- another pass with the same maps, which tells the rest right
 tied-as : {q : Pass} {F C A w : List ℕ} {t : State} → Tied (raw q F C A w) t → (o : Pass) → o .scope ≡ q .scope → o .captures ≡ q .captures

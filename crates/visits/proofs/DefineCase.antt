@@ -17,7 +17,7 @@ use Rattle.pass.specs.Visitable.{Visitable}
 use Rattle.pass.specs.Laws.Visitable.Parts.{define-body}
 use Rattle.pass.specs.Laws.Visitable.Leaves.{define-begins, define-ends}
 use Rattle.work.specs.Known.{Known}
-use Rattle.work.specs.Works.{Beside}
+use Rattle.work.specs.WorksLaws.{context-is}
 use Rattle.work.specs.Tied.{raw, Tied}
 use Rattle.work.specs.declared.Pass.{Pass}
 use Rattle.walk.specs.Contract.{SomeTreeOf, TellsBody}
@@ -131,7 +131,7 @@ module _ {classes rs part : List ℕ} {at : ℕ} {g : Coded} {p : Pass} {F C A w
               let v = view x e in
               let u = define-ends small classes at (x .f) (x .s) (v .n) (v .y) (v .b) (v .fits) in
               let s = visit classes (v .b) (defineFlags (x .f)) (beforeDefine classes (x .f .direct) (isLambda (v .b)) (v .y) (v .b) (x .s)) in
-              let c : p .context ≡ x .s .context = ap (λ (k : Beside). k .context) (x .tied .works .beside) in
+              let c : p .context ≡ x .s .context = context-is (x .tied .works) in
               let z = y .is classes C₂ A₂ s (v .n) (v .y) (v .b) (v .stands) (b .is (v .b) (v .parts .body)) (record { good = u .reliable .good; tied = r .state (body-fits x) }) in
               let t : Tied (raw p₃ F₃ C₂ A₂ w₃) (afterDefine classes (x .f .direct) (isLambda (v .b)) (p .context) (v .y) (v .b) s)
               = subst (λ (i : Bool). Tied (raw p₃ F₃ C₂ A₂ w₃) (afterDefine classes i (isLambda (v .b)) (p .context) (v .y) (v .b) s)) (x .flags .direct) z in

@@ -20,7 +20,7 @@ use Rattle.pass.specs.Visitable.{Visitable}
 use Rattle.pass.specs.Laws.Visitable.Parts.{let-initials, let-body}
 use Rattle.pass.specs.Laws.Visitable.Leaves.{let-begins, let-ends}
 use Rattle.work.specs.Known.{Known}
-use Rattle.work.specs.Works.{Beside}
+use Rattle.work.specs.WorksLaws.{context-is}
 use Rattle.work.specs.Passes.{inContext}
 use Rattle.work.specs.Tied.{raw, Tied}
 use Rattle.work.specs.declared.Pass.{Pass}
@@ -109,7 +109,7 @@ module _ {classes rs part : List ℕ} {at : ℕ} {g : Coded} {p : Pass} {F C A w
       unfolding initials-fit middle
       middle-tied x =
           let z = tied-context (p .context) (o .state (initials-fit x)) in
-          let b : p .context ≡ x .s .context = ap (λ (i : Beside). i .context) (x .tied .works .beside) in
+          let b : p .context ≡ x .s .context = context-is (x .tied .works) in
           subst (λ (i : ℕ). Tied (raw (inContext (p .context) p₁) F₁ C₁ A₁ w₁) (withContext i (visitArguments classes (view x e .es) (notTail (x .f)) (withContext NONE (x .s))))) b z
 
       pub names-fit : Fit classes rs part at g (raw p F C A w)

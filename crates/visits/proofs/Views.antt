@@ -24,7 +24,8 @@ use Rattle.pass.specs.Stage.{endOf}
 use Rattle.pass.specs.Visitable.{Room, Visitable, VisitableArguments, VisitableChildren}
 use Rattle.pass.specs.Visitable as pass
 use Rattle.work.specs.Known.{Known}
-use Rattle.work.specs.Works.{Beside, recordAt, rowOf}
+use Rattle.work.specs.Works.{recordAt, rowOf}
+use Rattle.work.specs.WorksLaws.{captured-top}
 use Rattle.work.specs.Tied.{Raw, Tied}
 use Rattle.lists.specs.Contract.{Inside}
 use Rattle.flags.specs.Part.{atPart, Hands}
@@ -97,7 +98,7 @@ lists-fit {z} {s} {i} {j} t e h v f =
 pub end-fits : {P : Ident → Type 0} {z : Raw} {s : State} {i j : ℕ} → Tied z s → i ≡ j → pass.LambdaEnds P i s → EndFits (z .pass) s j
 end-fits {s = s} t e b =
     let f = ap (λ (k : ℕ). functionIn (rowAt s k)) e in
-    record { made = λ h. b .made (f ∙ h); amended = λ v h. b .amended v (f ∙ h); captured = omega (arith, ap (λ (o : Beside). o .capturedTop) (t .works .beside), b .captured) }
+    record { made = λ h. b .made (f ∙ h); amended = λ v h. b .amended v (f ∙ h); captured = omega (arith, captured-top (t .works), b .captured) }
 
 -- a let that begins, and one that ends
 

@@ -10,7 +10,7 @@ use Rattle.table.specs.RegionLaws.{region-length}
 use Rattle.scope_map.specs.MapLaws.{map-length}
 use Rattle.pass.specs.State.{State}
 use Rattle.pass.specs.Run.{rowsMost, itemsMost}
-use Rattle.work.specs.Coded.{entryWidth, putEntryRow, entry-long, putBinder}
+use Rattle.work.specs.Coded.{notedOf, secondOf, entryWidth, putEntryRow, entry-long, putBinder}
 use Rattle.work.specs.Works.{workLong, entriesFirst, entriesLength, bindersFirst, bindersLength, recordAt, rowOf, Beside, Works, Spacious}
 use Rattle.work.specs.declared.Pass.{Pass}
 
@@ -58,3 +58,12 @@ module _ {p : Pass} {w : List ℕ} {s : State} (k : Works p w s) where
 
   pub arguments-top : p .«arguments_top» ≡ s .facts .argumentsTop
   arguments-top = ap (λ (b : Beside). b .argumentsTop) (k .beside)
+
+  pub nine-is : notedOf (p .nine) ≡ s .noted .nine
+  nine-is = ap (λ (b : Beside). b .nine) (k .beside)
+
+  pub ten-is : notedOf (p .ten) ≡ s .noted .ten
+  ten-is = ap (λ (b : Beside). b .ten) (k .beside)
+
+  pub second-is : secondOf (p .second) ≡ s .noted .second
+  second-is = ap (λ (b : Beside). b .second) (k .beside)
