@@ -8,6 +8,7 @@ pub mod Places
 pub mod Missing
 pub mod Naming
 pub mod Repeated
+pub mod Ordered
 pub mod Chaining
 pub mod Nesting
 pub mod Holding

@@ -18,6 +18,7 @@ pub mod Answer
 pub mod FirstLaws
 pub mod Found
 pub mod Seen
+pub mod InOrder
 pub mod Chain
 pub mod Walked
 pub mod Limits

@@ -9,15 +9,21 @@ ghost use Rattle.tree.specs.Record.{records};
 ghost use Rattle.tree.specs.RecordLaws.{nth};
 ghost use Rattle.tree.specs.Check.{member, repeated};
 ghost use Rattle.tree.specs.Found.{foundOf};
+ghost use Rattle.tree.specs.Clear.{Tells};
 ghost use Rattle.tree.specs.Seen.{seen};
+ghost use Rattle.tree.specs.InOrder.{InOrder};
 ghost use Rattle.tree.specs.Chain.{bucketOf, Chain, Chains};
 use crate::MOST_RECORDS;
 use crate::record;
 use crate::scan::Found;
+use crate::sweep::pick;
 use table::wide;
 
 // Trees of at most this many records have tables of as many links: to clear those of 4096 would be a third of the whole pass at 30 records.
 const FEW: usize = 512;
+
+// Ids are below this.
+const IDS: usize = 4294967296;
 
 // A prime near 2^32 by the golden ratio.
 const MULTIPLIER: usize = 2654435761;
@@ -56,7 +62,7 @@ fn stands(rs: &[u32], before: &[u16], last: usize, id: u32) -> bool
 }
 
 // The first or the second, as asked.
-fn pick(first: bool, a: u16, b: u16) -> u16
+fn pick_link(first: bool, a: u16, b: u16) -> u16
     ensures { λ r. ⌜ r ≡ cond first a b ⌝ }
 {
     if first { a } else { b }
@@ -75,12 +81,12 @@ fn repeats(rs: &[u32], i: usize, newest: &mut [u16], before: &mut [u16]) -> bool
     let none = id == 0;
     let b = bucket(id, newest.len());
     let head = newest[b];
-    let last = pick(none, 0, head);
+    let last = pick_link(none, 0, head);
     if stands(rs, before, link(last), id) {
         return true;
     }
     before[i] = last;
-    newest[b] = pick(none, head, (i + 1) as u16);
+    newest[b] = pick_link(none, head, (i + 1) as u16);
     false
 }
 
@@ -119,11 +125,37 @@ fn repeated_many(rs: &[u32]) -> Found
     repeated_in(rs, &mut newest, &mut before)
 }
 
-// 8: an id used twice, at the record that repeats an earlier one.
+// Whether the ids rise from record to record, or fall. Which records have an id comes mixed: the numbers are picked.
+fn ordered(rs: &[u32], rising: bool) -> bool
+    ensures { λ r. ⌜ Tells r (InOrder rising (now (rs .entry))) ⌝ }
+{
+    let n = record::len(rs);
+    let mut last = pick(rising, 0, IDS);
+    let mut i = 0;
+    while i < n {
+        let id = wide(record::id(rs, i));
+        let same = id == 0;
+        let next = pick(same, last, id);
+        if pick(rising, next, last) < pick(rising, last, next) + pick(same, 0, 1) {
+            return false;
+        }
+        last = next;
+        i += 1;
+    }
+    true
+}
+
+// 8: an id used twice, at the record that repeats an earlier one. Ids mostly come in order: then none repeats, and no table is needed.
 pub fn repeated_id(rs: &[u32]) -> Found
     requires { ⌜ length (records (now rs)) ≤ 4096 ⌝ }
     ensures { λ r. ⌜ foundOf r ≡ repeated [] (records (now (rs .entry))) ⌝ }
 {
+    if ordered(rs, true) {
+        return Found::Nothing;
+    }
+    if ordered(rs, false) {
+        return Found::Nothing;
+    }
     if record::len(rs) <= FEW {
         return repeated_few(rs);
     }

@@ -24,7 +24,7 @@ struct Innermost {
     under: usize,
 }
 
-fn pick(first: bool, a: usize, b: usize) -> usize
+pub fn pick(first: bool, a: usize, b: usize) -> usize
     ensures { λ r. ⌜ r ≡ cond first a b ⌝ }
 {
     if first { a } else { b }

@@ -23,21 +23,21 @@ mul-head c = search needs
 slice-read-head : tie.Need-slice-read-head
 slice-read-head c = search needs
 
-pick-requires : tie.Need-pick-requires
-pick-requires c κs = search needs
+pick-link-requires : tie.Need-pick-link-requires
+pick-link-requires c κs = search needs
 
 link-requires : tie.Need-link-requires
 link-requires c κs = search needs
 
 -- what is picked of the links
-at-pick : (c : tie.After-pick) → let d = c .before .before in let s = d .before .before .before .before .before in
+at-pick : (c : tie.After-pick-link) → let d = c .before .before in let s = d .before .before .before .before .before in
     let head = getD (s .args .newest .now) (d .bucket .result) 0 in
-    Picked (s .args .rs .now) (s .args .newest .now) (s .args .before .now) (s .args .i) (d .before .id .result) (d .bucket .result) (c .pick .result)
+    Picked (s .args .rs .now) (s .args .newest .now) (s .args .before .now) (s .args .i) (d .before .id .result) (d .bucket .result) (c .pick-link .result)
     (cond (eqb (d .before .id .result) 0) head (s .args .i + 1))
 at-pick c =
     let d = c .before .before in
     let s = d .before .before .before .before .before in
-    rw (c .pick .ensures) (picked (s .pre .1 .1) (d .before .id .ensures) (d .bucket .ensures .0) (omega arith) (omega arith))
+    rw (c .pick-link .ensures) (picked (s .pre .1 .1) (d .before .id .ensures) (d .bucket .ensures .0) (omega arith) (omega arith))
 
 compared : (c : tie.After-stands) → let s = c .before .before .before .before .before .before .before .before .before .before in c .stands .result ≡ again (s .args .rs .now) (s .args .i)
 compared c = at-pick (c .before .before .before) .along (rw (← c .before .link .ensures) (c .stands .ensures))
@@ -57,14 +57,14 @@ mul-before c = search needs
 slice-write-before : tie.Need-slice-write-before
 slice-write-before c = search needs
 
-add-pick : tie.Need-add-pick
-add-pick c = search needs
+add-pick-link : tie.Need-add-pick-link
+add-pick-link c = search needs
 
-cast-pick : tie.Need-cast-pick
-cast-pick c = search needs
+cast-pick-link : tie.Need-cast-pick-link
+cast-pick-link c = search needs
 
-pick-requires-2 : tie.Need-pick-requires-2
-pick-requires-2 c κs = search needs
+pick-link-requires-2 : tie.Need-pick-link-requires-2
+pick-link-requires-2 c κs = search needs
 
 mul-newest : tie.Need-mul-newest
 mul-newest c = search needs
@@ -79,7 +79,7 @@ same-length-3 : tie.Need-same-length-3
 same-length-3 c = search needs
 
 returns-2 : tie.Need-returns-2
-returns-2 c = (sym (c .before .if1 .left) ∙ compared (c .before .before), λ f. rw (c .pick2 .ensures) (at-pick (c .before .before .before .before .before) .chained))
+returns-2 c = (sym (c .before .if1 .left) ∙ compared (c .before .before), λ f. rw (c .pick-link2 .ensures) (at-pick (c .before .before .before .before .before) .chained))
 
 pub repeats-spec : {M : Type 1} → statement M
 repeats-spec =
@@ -89,16 +89,16 @@ repeats-spec =
     bucket-requires
     mul-head
     slice-read-head
-    pick-requires
+    pick-link-requires
     link-requires
     stands-requires
     same-length
     returns
     mul-before
     slice-write-before
-    add-pick
-    cast-pick
-    pick-requires-2
+    add-pick-link
+    cast-pick-link
+    pick-link-requires-2
     mul-newest
     slice-write-newest
     same-length-2
