@@ -27,6 +27,7 @@ ghost use Rattle.semantic.specs.declared.IdentifierStatus.the-variants.{HeapAll
 ghost use Rattle.pass.specs.Lambda.{orZero};
 ghost use Rattle.pass.specs.Run.{rowsMost, itemsMost, factsLength, itemsLength};
 ghost use Rattle.work.specs.Coded.{coded};
+ghost use Rattle.work.specs.Scope.{StartsLayer};
 ghost use Rattle.lists.specs.Contract.{Inside};
 ghost use Rattle.forms.specs.Contract.{heapsIn, withEntered, enteredIn, NamesFit, EntersNames};
 ghost use Rattle.forms.specs.Bound.{TellsHeap, NameFits, EntersWith, nameEntry, NotesHeap, EntersName, SlotsFit, Marked, MarksLast, MarksLasts, BinderFits, LayerFits, NamesStore, StoresArgument, StoresLayer, StoresNames, NamesEnd, EndsParameters, LeavesNames};
@@ -244,14 +245,14 @@ pub fn mark_last(last: u32, facts: &mut [u32])
     }
 }
 
-// The last uses of the names in the newest layer.
-pub fn mark_lasts(p: Pass, facts: &mut [u32], work: &[u32])
-    requires { ⌜ Marked p (now facts) (now work) ⌝ }
+// The last uses of the names in the newest layer, which stand from row `low` on.
+pub fn mark_lasts(p: Pass, low: usize, facts: &mut [u32], work: &[u32])
+    requires { ⌜ Marked p (now facts) (now work) × StartsLayer p (now work) low ⌝ }
     ensures { λ _. ⌜ MarksLasts p (now (facts .entry)) (now (work .entry)) (now (facts .exit)) ⌝ }
 {
     let scope = p.scope;
     let end = scope.length;
-    let mut i = newest_layer(p, work);
+    let mut i = low;
     while i < end {
         let r = live_at(p, work, i);
         let e = load_entry(work, wide(r.value));

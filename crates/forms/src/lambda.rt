@@ -24,6 +24,7 @@ use work::captures::close_captures;
 use work::captures::open_captures;
 use work::narrow;
 use work::scope::close_scope;
+use work::scope::newest_layer;
 use work::scope::open_scope;
 ghost use mathlib.Core.Path.{_≡_};
 ghost use Prim.Native.Nat.{_≤_, _<_};
@@ -128,8 +129,9 @@ fn close_lambda(all: &[u32], names: Names, p: Pass, facts: &mut [u32], work: &mu
     requires { ⌜ NamesEnd (now all) names p (now facts) (now work) ⌝ }
     ensures { λ r. ⌜ Closes (now (all .entry)) names p (now (facts .entry)) (now (work .entry)) r (now (facts .exit)) (now (work .exit)) ⌝ }
 {
-    mark_lasts(p, facts, work);
-    let o = close_scope(p, work);
+    let low = newest_layer(p, work);
+    mark_lasts(p, low, facts, work);
+    let o = close_scope(p, low, work);
     let q = close_captures(o, work);
     end_parameters(all, names, q, facts, work);
     q

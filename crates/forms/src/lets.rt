@@ -17,6 +17,7 @@ use walk::uses::Names;
 use work::Pass;
 use work::narrow;
 use work::scope::close_scope;
+use work::scope::newest_layer;
 use work::scope::open_scope;
 ghost use mathlib.Core.Path.{_≡_};
 ghost use mathlib.Core.List.{List};
@@ -136,7 +137,8 @@ fn close_let(opened: bool, p: Pass, work: &mut [u32]) -> Pass
     ensures { λ r. ⌜ Becomes p (now (work .entry)) (closeLet opened) r (now (work .exit)) ⌝ }
 {
     if opened {
-        return close_scope(p, work);
+        let low = newest_layer(p, work);
+        return close_scope(p, low, work);
     }
     p
 }

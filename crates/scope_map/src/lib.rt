@@ -88,15 +88,23 @@ impl ScopeMap {
         0
     }
 
-    // The bottom layer is never popped.
+    // The newest layer goes, unless it is the bottom one.
     pub fn pop_layer(self, t: &mut [u32]) -> Self
         requires { ⌜ Roomy (self .length) (now t) ⌝ }
+        ensures { λ r. ⌜ Becomes self (now (t .entry)) popLayer r (now (t .exit)) ⌝ }
+    {
+        let start = self.newest_layer(t);
+        self.pop_from(t, start)
+    }
+
+    // The same, where the first row of the newest layer is known.
+    pub fn pop_from(self, t: &mut [u32], start: usize) -> Self
+        requires { ⌜ Roomy (self .length) (now t) × Starts self (now t) start ⌝ }
         ensures { λ r. ⌜ Becomes self (now (t .entry)) popLayer r (now (t .exit)) ⌝ }
     {
         if self.depth <= 1 {
             return self;
         }
-        let start = self.newest_layer(t);
         leave_rows(t, start, self.length);
         ScopeMap {
             depth: self.depth - 1,

@@ -152,7 +152,7 @@ module _ {p : Pass} {w : List ℕ} where
         ∙ ap length (sym (map-belowLayer recordAt (m .depth) (m .live)))
         ∙ map-length recordAt (belowLayer (m .depth) (m .live)) in
         rw z (layer-since (m .depth) (m .live));
-    most = t .most;
+    rows = t;
   }
 
 -- The live name in a row

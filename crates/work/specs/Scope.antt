@@ -1,18 +1,19 @@
 -- What the functions over the live names promise.
-use Prim.Native.Nat.{ℕ, suc, _-_, _≤_}
+use Prim.Native.Nat.{ℕ, suc, _-_}
 use mathlib.Core.List.{List, _∷_, reverse}
 use mathlib.Core.Bool.{Bool, _&&_}
 use mathlib.Core.Path.{_≡_}
 use lib.Dec.{ltb}
 use lib.ListN.{length, take, drop}
+use Rattle.table.specs.Region.{region}
 use Rattle.tree.specs.Tree.{Ident}
 use Rattle.tree.specs.Accepted.{All}
 use Rattle.scope_map.specs.ScopeMap.{Live, hasAtTop, remove, define, newestLayer}
-use Rattle.scope_map.specs.Held.{withRow}
+use Rattle.scope_map.specs.Held.{withRow, Starts}
 use Rattle.scope_map.specs.declared.Row.{Row}
 use Rattle.pass.specs.State.{State, withNames, newest, idOf, depth}
 use Rattle.work.specs.Known.{Known}
-use Rattle.work.specs.Works.{Works}
+use Rattle.work.specs.Works.{scopeLength, Works}
 use Rattle.work.specs.Passes.{inScope}
 use Rattle.work.specs.declared.Pass.{Pass}
 
@@ -68,4 +69,4 @@ pub record TellsLive (p : Pass) (w : List ℕ) (i : ℕ) (r : Row) : Type 0 wher
 -- the newest layer's names are those from row r on
 pub record StartsLayer (p : Pass) (w : List ℕ) (r : ℕ) : Type 0 where
   pub is : (s : State) → Works p w s → newestLayer (s .scope .names) ≡ since r (s .scope .names .live)
-  pub most : r ≤ p .scope .length
+  pub rows : Starts (p .scope) (region w 0 scopeLength) r

@@ -108,13 +108,14 @@ pub fn open_scope(p: Pass) -> Pass
     q
 }
 
-pub fn close_scope(p: Pass, work: &mut [u32]) -> Pass
-    requires { ⌜ Spacious p (now work) ⌝ }
+// `low` is the first row of the newest layer's names.
+pub fn close_scope(p: Pass, low: usize, work: &mut [u32]) -> Pass
+    requires { ⌜ Spacious p (now work) × StartsLayer p (now work) low ⌝ }
     ensures { λ r. ⌜ Becomes p (now (work .entry)) closeScope r (now (work .exit)) ⌝ }
 {
     let names = p.scope;
     let end = ENTRIES;
-    let fewer = names.pop_layer(&mut work[..end]);
+    let fewer = names.pop_from(&mut work[..end], low);
     let mut q = p;
     q.scope = fewer;
     q

@@ -10,31 +10,28 @@ use Rattle.forms.proofs.bound.mark_lasts.Statement.{statement}
 use Rattle.forms.proofs.bound.mark_lasts.Tie as tie
 
 abbrev Inv-loop : tie.InvT-loop
-Inv-loop p facts₀ work end i₀ facts i = (length facts ≡ length facts₀) × Lasting p facts₀ work i facts
+Inv-loop p low facts₀ work end i₀ facts i = (length facts ≡ length facts₀) × Lasting p facts₀ work i facts
 
 abbrev μ-loop : tie.MeasureT-loop
-μ-loop p facts₀ work end i₀ facts i = end - i
-
-newest-layer-requires : tie.Need-newest-layer-requires Inv-loop μ-loop
-newest-layer-requires c κs = spacious (c .before .before .before .pre .fits .tied .works)
+μ-loop p low facts₀ work end i₀ facts i = end - i
 
 loop-holds : tie.Need-loop-holds Inv-loop μ-loop
-loop-holds c = (refl, lasting-starts (c .newest-layer .ensures))
+loop-holds c = (refl, lasting-starts (c .before .before .before .pre .1))
 
 live-at-requires : tie.Need-live-at-requires Inv-loop μ-loop
-live-at-requires c κs = (spacious (c .before .before .before .before .before .before .pre .fits .tied .works), c .loop-test .taken)
+live-at-requires c κs = (spacious (c .before .before .before .before .before .pre .0 .fits .tied .works), c .loop-test .taken)
 
 wide-requires : tie.Need-wide-requires Inv-loop μ-loop
 wide-requires c κs = search needs
 
 load-entry-requires : tie.Need-load-entry-requires Inv-loop μ-loop
-load-entry-requires c κs = (c .before .before .before .before .before .before .before .before .pre .fits .tied .works .long, omega (arith, c .wide .ensures, lasting-binder (c .before .before .before .loop .inv .1) (c .before .before .before .before .before .before .before .before .pre) (c .before .live-at .ensures)))
+load-entry-requires c κs = (c .before .before .before .before .before .before .before .pre .0 .fits .tied .works .long, omega (arith, c .wide .ensures, lasting-binder (c .before .before .before .loop .inv .1) (c .before .before .before .before .before .before .before .pre .0) (c .before .live-at .ensures)))
 
 mark-last-requires : tie.Need-mark-last-requires Inv-loop μ-loop
-mark-last-requires c κs = (lasting-last (c .before .before .before .before .before .loop .inv .1) (c .before .before .before .before .before .before .before .before .before .before .pre) (c .before .load-entry .ensures), lasting-facts (c .before .before .before .before .before .loop .inv .1) (c .before .before .before .before .before .before .before .before .before .before .pre))
+mark-last-requires c κs = (lasting-last (c .before .before .before .before .before .loop .inv .1) (c .before .before .before .before .before .before .before .before .before .pre .0) (c .before .load-entry .ensures), lasting-facts (c .before .before .before .before .before .loop .inv .1) (c .before .before .before .before .before .before .before .before .before .pre .0))
 
 add-i : tie.Need-add-i Inv-loop μ-loop
-add-i c = record { fits = omega (arith, spacious (c .before .before .before .before .before .before .before .before .before .before .before .before .before .pre .fits .tied .works) .names) }
+add-i c = record { fits = omega (arith, spacious (c .before .before .before .before .before .before .before .before .before .before .before .before .pre .0 .fits .tied .works) .names) }
 
 loop-less : tie.Need-loop-less Inv-loop μ-loop
 loop-less c = omega arith
@@ -54,7 +51,6 @@ mark-lasts-spec =
     (tie.spec
     Inv-loop
     μ-loop
-    newest-layer-requires
     loop-holds
     live-at-requires
     wide-requires

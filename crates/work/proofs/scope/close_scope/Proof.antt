@@ -8,14 +8,14 @@ use borrow.Author.Needs.{needs}
 use Rattle.work.proofs.scope.close_scope.Statement.{statement}
 use Rattle.work.proofs.scope.close_scope.Tie as tie
 
-slice-relend-prefix-pop-layer : tie.Need-slice-relend-prefix-pop-layer
-slice-relend-prefix-pop-layer c = search needs
+slice-relend-prefix-pop-from : tie.Need-slice-relend-prefix-pop-from
+slice-relend-prefix-pop-from c = search needs
 
-slice-aggregate-pop-layer : tie.Need-slice-aggregate-pop-layer
-slice-aggregate-pop-layer c = names-length (c .before .before .before .pre)
+slice-aggregate-pop-from : tie.Need-slice-aggregate-pop-from
+slice-aggregate-pop-from c = names-length (c .before .before .before .pre .0)
 
-pop-layer-requires : tie.Need-pop-layer-requires
-pop-layer-requires c κs = names-room (c .before .before .before .pre)
+pop-from-requires : tie.Need-pop-from-requires
+pop-from-requires c κs = (names-room (c .before .before .before .pre .0), c .before .before .before .pre .1 .rows)
 
 same-length : tie.Need-same-length
 same-length c = search needs
@@ -23,15 +23,15 @@ same-length c = search needs
 returns : tie.Need-returns
 unfolding closeScope
 returns c =
-    let d = c .before .before .pop-layer in
-    names-replaced (c .before .before .before .before .before .before .pre) (d .kept .1 .0) popLayer (map-popLayer recordAt) (d .ensures)
+    let d = c .before .before .pop-from in
+    names-replaced (c .before .before .before .before .before .before .pre .0) (d .kept .1 .0) popLayer (map-popLayer recordAt) (d .ensures)
 
 pub close-scope-spec : {M : Type 1} → statement M
 close-scope-spec =
     tie.close
     (tie.spec
-    slice-relend-prefix-pop-layer
-    slice-aggregate-pop-layer
-    pop-layer-requires
+    slice-relend-prefix-pop-from
+    slice-aggregate-pop-from
+    pop-from-requires
     same-length
     returns)
