@@ -275,9 +275,9 @@ fn amend_long(
     amend_rows(&index, &counts, &mut seen, all, d, e, p, captured, work)
 }
 
-// A short list with few live names is amended by search. The arrays of `amend_long` are not to lie in the frame of that usual case: it is
-// called in two places, so that it is compiled as a function of its own. What is called is handed copies: what is handed by address is kept
-// in memory from the start.
+// A short list with few live names is amended by search. The names of the bottom layer are not looked at, and are counted only where all live
+// names would be too many. The arrays of `amend_long` are not to lie in the frame of the usual case: it is called in two places, so that it is
+// compiled as a function of its own. What is called is handed copies: what is handed by address is kept in memory from the start.
 pub fn amend_list(
     all: &[u32],
     l: Lambda,
@@ -300,9 +300,7 @@ pub fn amend_list(
         return amend_long(&*all, ending, e, o, captured, work);
     }
     let scope = p.scope;
-    let low = above_bottom(p, work);
-    let many = scope.length - low;
-    if SEARCHED < n * many {
+    if SEARCHED < n * scope.length && SEARCHED < n * (scope.length - above_bottom(p, work)) {
         let ending = d;
         let o = p;
         return amend_long(&*all, ending, e, o, captured, work);

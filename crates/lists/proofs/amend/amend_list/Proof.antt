@@ -30,16 +30,25 @@ returns-2 c =
     let at-amend-long = c .before .before .before .before in
     amends-same (at-amend-long .before .before .before .before .ending-of .ensures .0) (at-amend-long .amend-long .ensures)
 
-above-bottom-requires : tie.Need-above-bottom-requires
-above-bottom-requires c κs = search needs
-
-sub-many : tie.Need-sub-many
-sub-many c = search needs
-
 mul-if3 : tie.Need-mul-if3
 mul-if3 c =
+    let at-if2 = c .before .before in
+    let start = at-if2 .before .before .before .before .before .before .before in
+    scaled-fits _ 129 _ (omega (arith, at-if2 .if2 .left)) (omega (arith, spacious (start .pre .2 .tied .works) .names))
+
+above-bottom-requires : tie.Need-above-bottom-requires
+above-bottom-requires c κs =
     let start = c .before .before .before .before .before .before .before .before .before .before .before in
-    scaled-fits _ 129 _ (omega (arith, c .before .before .before .before .if2 .left)) (omega (arith, spacious (start .pre .2 .tied .works) .names))
+    spacious (start .pre .2 .tied .works)
+
+sub-if4 : tie.Need-sub-if4
+sub-if4 c = search needs
+
+mul-if4 : tie.Need-mul-if4
+mul-if4 c =
+    let at-if2 = c .before .before .before .before .before .before in
+    let start = at-if2 .before .before .before .before .before .before .before in
+    scaled-fits _ 129 _ (omega (arith, at-if2 .if2 .left)) (omega (arith, spacious (start .pre .2 .tied .works) .names))
 
 amend-long-requires-2 : tie.Need-amend-long-requires-2
 amend-long-requires-2 c κs = search needs
@@ -53,7 +62,7 @@ same-length-4 c = search needs
 returns-3 : tie.Need-returns-3
 returns-3 c =
     let at-amend-long2 = c .before .before .before .before in
-    amends-same (at-amend-long2 .before .before .before .before .before .before .before .before .before .ending-of .ensures .0) (at-amend-long2 .amend-long2 .ensures)
+    amends-same (at-amend-long2 .before .before .before .before .before .before .before .before .before .before .before .ending-of .ensures .0) (at-amend-long2 .amend-long2 .ensures)
 
 slice-aggregate-amend-rows : tie.Need-slice-aggregate-amend-rows
 slice-aggregate-amend-rows c = search needs
@@ -66,7 +75,7 @@ slice-aggregate-amend-rows-3 c = search needs
 
 amend-rows-requires : tie.Need-amend-rows-requires
 amend-rows-requires c κs =
-    let at-ending-of = c .before .before .before .before .before .before .before .before .before .before .before in
+    let at-ending-of = c .before .before .before .before .before .before .before .before .before in
     let start = at-ending-of .before .before .before .before .before .before in
     (start .pre .0, at-ending-of .ending-of .ensures .1, start .pre .2, search needs, search needs)
 
@@ -79,7 +88,7 @@ same-length-6 c = search needs
 returns-4 : tie.Need-returns-4
 returns-4 c =
     let at-amend-rows = c .before .before .before .before .before in
-    amends-same (at-amend-rows .before .before .before .before .before .before .before .before .before .before .before .before .ending-of .ensures .0) (at-amend-rows .amend-rows .ensures)
+    amends-same (at-amend-rows .before .before .before .before .before .before .before .before .before .before .ending-of .ensures .0) (at-amend-rows .amend-rows .ensures)
 
 pub amend-list-spec : {M : Type 1} → statement M
 amend-list-spec =
@@ -92,9 +101,10 @@ amend-list-spec =
     same-length
     same-length-2
     returns-2
-    above-bottom-requires
-    sub-many
     mul-if3
+    above-bottom-requires
+    sub-if4
+    mul-if4
     amend-long-requires-2
     same-length-3
     same-length-4
