@@ -1,20 +1,27 @@
 -- The checks before the runs, and what an operation answers.
-use Prim.Native.Nat.{ℕ, _%_}
+use Prim.Native.Nat.{ℕ, _+_, _%_, _≤_, _<_}
 use mathlib.Core.Bool.{true, false, true≢false, and-eq-true-iff}
 use mathlib.Core.List.{List}
 use mathlib.Core.Option.{Option, none, some, Option·some-ne-none}
 use mathlib.Core.Path.{_≡_, refl, ap, sym, _∙_}
-use lib.ListN.{length}
+use native.Mathlib.Omega.{arith}
+use lib.ListN.{length, replicate, length-replicate}
 use lib.Dec.{eqb}
-use Rattle.tree.specs.Record.{width}
+use Rattle.tree.specs.Record.{width, records}
 use Rattle.tree.specs.Tree.{Trees}
 use Rattle.tree.specs.Check.{Refusal, refusal}
 use Rattle.tree.specs.Acceptance.{accepted, only}
-use Rattle.pass.specs.Run.{Tables, Outcome, lengthsFit, fitting, Answers}
+use Rattle.tree.specs.Starts.{TellsStarts}
+use Rattle.pass.specs.Run.{rowsMost, Tables, Outcome, lengthsFit, fitting, Answers}
 use Rattle.analysis.specs.Answer.{refusalIn}
 use Rattle.analysis.specs.declared.Answer.{Answer}
 use Rattle.analysis.specs.declared.Answer.the-variants as answer
-use Rattle.analysis.specs.Steps.{left, cleared, Blank, Begins, Ends, Checks}
+use Rattle.analysis.specs.Steps.{left, cleared, StartsFit, Blank, Begins, Ends, Checks}
+use Rattle.analysis.proofs.Start.{few-records}
+
+-- a table of n + 1 numbers, where there are at most n records
+pub starts-fit : {rs : List ℕ} (n : ℕ) → (length (records rs) ≤ rowsMost → length (records rs) ≤ n) → StartsFit rs (replicate (n + 1) 0)
+starts-fit n f = record { room = λ h. omega (arith, length-replicate {A = ℕ} (n + 1) 0, f h) }
 
 none-found : {a : Answer} {o : Option Refusal} → refusalIn a ≡ o → a ≡ answer.Accepted → o ≡ none
 none-found e h = sym e ∙ ap refusalIn h
@@ -34,6 +41,12 @@ module _ {classes rs : List ℕ} {a : Answer} (e : refusalIn a ≡ refusal (leng
     sound = λ ts k. absurd (Option·some-ne-none _ (sym (ap refusalIn h) ∙ e ∙ only (length classes) rs ts k));
     rest = λ g. absurd (Option·some-ne-none _ (sym (ap refusalIn h) ∙ g));
   }
+
+-- where the records are trees, the checks tell where those start
+pub begun-told : {classes rs tops tops′ : List ℕ} {t : Tables} {o : Option Refusal} → Begins classes rs t → StartsFit rs tops
+    → o ≡ refusal (length classes) rs → (o ≡ none → length (records rs) < length tops → TellsStarts (length classes) rs tops′)
+    → TellsStarts (length classes) rs tops′
+begun-told {classes} {rs} b s e f = f (e ∙ only (length classes) rs (b .ts) (b .accepted)) (s .room (few-records (b .accepted)))
 
 -- Check 1
 

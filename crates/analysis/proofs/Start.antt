@@ -9,10 +9,9 @@ use Rattle.table.specs.Layout.{layout, drop-layout, zeros-layout}
 use Rattle.table.specs.Region.{region}
 use Rattle.table.specs.RegionLaws.{Elsewhere, replaced-region, replaced-elsewhere}
 use Rattle.tree.specs.Record.{records}
-use Rattle.tree.specs.RecordLaws.{records-numbers}
-use Rattle.tree.specs.Tree.{Trees, flats, sizes}
-use Rattle.tree.specs.TreeLaws.{length-flats}
+use Rattle.tree.specs.Tree.{Trees}
 use Rattle.tree.specs.Accepted.{Accepted}
+use Rattle.tree.specs.Acceptance.{many-records}
 use Rattle.scope_map.specs.ScopeMap.{new}
 use Rattle.scope_map.specs.MapLaws.{mapValues, map-new}
 use Rattle.scope_map.specs.Hints.{rowsLength, hintsLength, mapLength}
@@ -132,11 +131,13 @@ works-rested {w = w} {s} n k h z =
           ∙ ap (λ (j : ℕ). replicate j 0) many;
     }
 
+-- the records are not too many
+pub few-records : {N : ℕ} {rs : List ℕ} {ts : Trees} → Accepted N rs ts → length (records rs) ≤ rowsMost
+few-records a = omega (arith, a .few, many-records a)
+
 pub run-rested : (classes : List ℕ) (f : Facts) {N : ℕ} {rs : List ℕ} {ts : Trees} {p : Pass} {w : List ℕ} → Accepted N rs ts
     → Works p w (run classes ts f) → Rested (length (records rs)) w
-run-rested classes f {rs = rs} {ts} a k =
-    let many : length (records rs) ≡ sizes ts = ap length (ap records (a .flat) ∙ records-numbers (flats ts)) ∙ length-flats ts in
-    works-rested (length (records rs)) k (omega (arith, a .few)) (λ i h. run-owned classes a f i (omega arith))
+run-rested classes f {rs = rs} a k = works-rested (length (records rs)) k (few-records a) (λ i h. run-owned classes a f i (omega (arith, many-records a)))
 
 -- all entries are made zero where those of n records are
 pub names-cleared : (w : List ℕ) (n : ℕ) → length w ≡ workLong → Rested n w

@@ -1,5 +1,5 @@
 -- What the steps of an operation promise: each of every tree that the records are.
-use Prim.Native.Nat.{ℕ, _+_, _-_, _*_, _≤_}
+use Prim.Native.Nat.{ℕ, _+_, _-_, _*_, _≤_, _<_}
 use mathlib.Core.Bool.{Bool, true, false}
 use mathlib.Core.List.{List}
 use mathlib.Core.Option.{Option, none, some}
@@ -50,6 +50,10 @@ pub record Emptied (w : List ℕ) : Type 0 where
   pub long : length w ≡ workLength
   pub entries : region w entriesFirst entriesLength ≡ replicate entriesLength 0
   pub binders : region w bindersFirst bindersLength ≡ replicate bindersLength 0
+
+-- a table of more numbers than there are records, where those are not too many
+pub record StartsFit (rs tops : List ℕ) : Type 0 where
+  pub room : length (records rs) ≤ rowsMost → length (records rs) < length tops
 
 -- tables without facts, with which a run can start
 pub record Blank (t : Tables) : Type 0 where

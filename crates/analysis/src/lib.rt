@@ -17,10 +17,11 @@ ghost use Prim.Native.Nat.{_-_, _≤_};
 ghost use mathlib.Core.Option.{none};
 ghost use lib.ListN.{length, replicate};
 ghost use Rattle.tree.specs.Answer.{refusalOf};
+ghost use Rattle.tree.specs.Starts.{TellsStarts};
 ghost use Rattle.pass.specs.Run.{Fresh, Settled, Answers, workLength, zeros, lengthsFit, fitting, freshOutcome, settledOutcome};
 ghost use Rattle.work.specs.Coded.{secondOf};
 ghost use Rattle.analysis.specs.Answer.{tables, refusalIn, outcomeOf};
-ghost use Rattle.analysis.specs.Steps.{firstIn, outcomeBy, left, zeroed, namesCleared, Rested, Blank, Begins, Ends, Checks};
+ghost use Rattle.analysis.specs.Steps.{firstIn, outcomeBy, left, zeroed, namesCleared, Rested, StartsFit, Blank, Begins, Ends, Checks};
 
 pub const FACTS: usize = 81920;
 
@@ -168,6 +169,7 @@ fn clear_start(facts: &mut [u32], captured: &mut [u32], arguments: &mut [u32], w
 }
 
 fn run_once(
+    tops: &[u16],
     classes: &[u8],
     records: &[u32],
     facts: &mut [u32],
@@ -175,10 +177,12 @@ fn run_once(
     arguments: &mut [u32],
     work: &mut [u32],
 ) -> Answer
+    requires { ⌜ TellsStarts (length (now classes)) (now records) (now tops) ⌝ }
     requires { ⌜ Begins (now classes) (now records) (tables (now facts) (now captured) (now arguments) (now work)) ⌝ }
     ensures { λ r. ⌜ Ends freshOutcome (now (classes .entry)) (now (records .entry)) (outcomeOf r (now (facts .exit)) (now (captured .exit)) (now (arguments .exit)) (now (work .exit))) ⌝ }
 {
     let p = run_with_scope(
+        tops,
         classes,
         records,
         Pass::new(0, 0),
@@ -191,6 +195,7 @@ fn run_once(
 }
 
 fn run_twice(
+    tops: &[u16],
     classes: &[u8],
     records: &[u32],
     facts: &mut [u32],
@@ -198,10 +203,12 @@ fn run_twice(
     arguments: &mut [u32],
     work: &mut [u32],
 ) -> Answer
+    requires { ⌜ TellsStarts (length (now classes)) (now records) (now tops) ⌝ }
     requires { ⌜ Begins (now classes) (now records) (tables (now facts) (now captured) (now arguments) (now work)) ⌝ }
     ensures { λ r. ⌜ Ends settledOutcome (now (classes .entry)) (now (records .entry)) (outcomeOf r (now (facts .exit)) (now (captured .exit)) (now (arguments .exit)) (now (work .exit))) ⌝ }
 {
     let p = run_with_scope(
+        tops,
         classes,
         records,
         Pass::new(0, 0),
@@ -216,6 +223,7 @@ fn run_twice(
     };
     clear_names(work, tree::record::len(records));
     let q = run_with_scope(
+        tops,
         classes,
         records,
         Pass::new(p.captured_top, p.arguments_top),
@@ -227,6 +235,35 @@ fn run_twice(
     refused_second(q)
 }
 
+fn run_listed(
+    tops: &mut [u16],
+    records: &[u32],
+    classes: &[u8],
+    twice: bool,
+    facts: &mut [u32],
+    captured: &mut [u32],
+    arguments: &mut [u32],
+    work: &mut [u32],
+) -> Answer
+    requires { ⌜ StartsFit (now records) (now tops) ⌝ }
+    requires { ⌜ Blank (tables (now facts) (now captured) (now arguments) (now work)) ⌝ }
+    ensures { λ r. ⌜ Checks (outcomeBy twice) (now (classes .entry)) (now (records .entry)) (outcomeOf r (now (facts .exit)) (now (captured .exit)) (now (arguments .exit)) (now (work .exit))) ⌝ }
+{
+    let a = answer_of(tree::check(records, classes.len(), tops));
+    let Answer::Accepted = a else {
+        return a;
+    };
+    if twice {
+        return run_twice(tops, classes, records, facts, captured, arguments, work);
+    }
+    run_once(tops, classes, records, facts, captured, arguments, work)
+}
+
+// A script of at most this many records has the smaller table.
+const FEW: usize = 512;
+
+// The table of where the trees start has one of two sizes: clearing the larger one shows in the time of a small script. So the runs are called in
+// two places.
 fn run_checked(
     records: &[u32],
     classes: &[u8],
@@ -239,14 +276,30 @@ fn run_checked(
     requires { ⌜ Blank (tables (now facts) (now captured) (now arguments) (now work)) ⌝ }
     ensures { λ r. ⌜ Checks (outcomeBy twice) (now (classes .entry)) (now (records .entry)) (outcomeOf r (now (facts .exit)) (now (captured .exit)) (now (arguments .exit)) (now (work .exit))) ⌝ }
 {
-    let a = answer_of(tree::check(records, classes.len()));
-    let Answer::Accepted = a else {
-        return a;
-    };
-    if twice {
-        return run_twice(classes, records, facts, captured, arguments, work);
+    if tree::record::len(records) <= FEW {
+        let mut tops = [0u16; FEW + 1];
+        return run_listed(
+            &mut tops,
+            records,
+            classes,
+            twice,
+            facts,
+            captured,
+            arguments,
+            work,
+        );
     }
-    run_once(classes, records, facts, captured, arguments, work)
+    let mut tops = [0u16; RECORDS + 1];
+    run_listed(
+        &mut tops,
+        records,
+        classes,
+        twice,
+        facts,
+        captured,
+        arguments,
+        work,
+    )
 }
 
 fn run(

@@ -12,6 +12,7 @@ pub mod Ordered
 pub mod Chaining
 pub mod Nesting
 pub mod Holding
+pub mod Listing
 pub mod Standing
 pub mod Sweeping
 pub mod Order

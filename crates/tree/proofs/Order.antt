@@ -1,13 +1,14 @@
 -- What is left of the checks once the first have passed.
 use Prim.Native.Nat.{ℕ, _%_, _≤_, _<_}
 use mathlib.Core.List.{List}
-use mathlib.Core.Option.{Option, some}
+use mathlib.Core.Option.{Option, none, some}
 use mathlib.Core.Path.{_≡_, sym, _∙_}
 use borrow.Author.Tests.{eq-eqb, ne-eqb, lt-ltb, le-ltb}
 use lib.ListN.{length}
 use Rattle.tree.specs.Record.{width, records}
 use Rattle.tree.specs.Check.{Refusal, orElse, check1, check2, refusal}
 use Rattle.tree.specs.Order.{from3, from8}
+use Rattle.tree.specs.Acceptance.Passes.{silent}
 use Rattle.tree.specs.Clear.{Clear}
 use Rattle.tree.specs.declared.scan.Found.{Found}
 use Rattle.tree.specs.declared.scan.Found.the-variants.{At, Nothing}
@@ -35,6 +36,10 @@ module _ (N : ℕ) (rs : List ℕ) where
 -- where none of the checks 3 to 7 applies, the last is left
 pub cleared : (N : ℕ) (rs : List ℕ) → Clear N rs → from3 N rs ≡ from8 N rs
 cleared N rs c = rw (c .fields, c .children, c .nesting, c .names, c .calls)
+
+-- where none refuses, none of them applies
+pub unrefused : (N : ℕ) (rs : List ℕ) → refusal N rs ≡ none → Clear N rs
+unrefused N rs e = let c = silent N rs e in record { fields = c .c3; children = c .c4; nesting = c .c5; names = c .c6; calls = c .c7 }
 
 -- of the checks from 3 on, check n is next
 pub record Next (N : ℕ) (rs : List ℕ) (n : ℕ) (check : ℕ → List ℕ → Option ℕ) (later : ℕ → List ℕ → Option Refusal) : Type 0 where

@@ -11,6 +11,7 @@ use Rattle.tree.specs.Record.{Record}
 use Rattle.tree.specs.Form.{namesOf, othersOf, childrenOf}
 use Rattle.tree.specs.Held.{toCome, Live}
 use Rattle.tree.specs.Place.{Open, closed, takeOne, taken, after, Placed, isNamePlace, placed, left}
+use Rattle.tree.specs.Starts.{atTop, topsIn}
 
 -- the children to come of all open records
 abbrev pub total : List Open → ℕ
@@ -104,3 +105,13 @@ module _ (l : List Record) (d : Record) (i : ℕ) (s : List Open) where
   pub placed-end : length l ≤ i → placed s (drop i l) ≡ []
   unfolding placed
   placed-end h = ap (placed s) (drop-of-length-le l h)
+
+  pub tops-next : i < length l → topsIn s i (drop i l) ≡ atTop s i (topsIn (after s (getD l i d)) (i + 1) (drop (i + 1) l))
+  unfolding topsIn
+  tops-next h =
+      let z : suc i ≡ i + 1 = omega arith in
+      ap (topsIn s i) (drop-cons l i d h) ∙ ap (λ (k : ℕ). atTop s i (topsIn (after s (getD l i d)) (i + 1) (drop k l))) z
+
+  pub tops-end : length l ≤ i → topsIn s i (drop i l) ≡ i ∷ []
+  unfolding topsIn
+  tops-end h = ap (topsIn s i) (drop-of-length-le l h)

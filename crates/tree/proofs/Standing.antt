@@ -1,12 +1,13 @@
--- Checks 4 and 5 in one pass: the open records are held, none nested too deep so far.
+-- Checks 4 and 5 in one pass: the open records are held, none nested too deep so far, and those at top level are listed.
 use Prim.Native.Nat.{ℕ, suc, _+_, _*_, _%_, _≤_, _<_}
 use mathlib.Core.List.{List, [], _∷_}
-use mathlib.Core.Bool.{Bool, true, false}
+use mathlib.Core.Bool.{Bool, true, false, cond}
 use mathlib.Core.Option.{none}
 use mathlib.Core.Path.{_≡_, refl, ap, sym, subst, _∙_}
 use native.Mathlib.Omega.{arith}
 use borrow.Author.Tests.{ltb-false, eqb-true, not-false, eq-eqb, le-ltb}
-use lib.ListN.{length, drop, replicate}
+use lib.Dec.{eqb}
+use lib.ListN.{length, drop, set, replicate}
 use Rattle.tree.specs.Record.{Record, records}
 use Rattle.tree.specs.RecordLaws.{blank, nth}
 use Rattle.tree.specs.Form.{childrenOf}
@@ -18,10 +19,11 @@ use Rattle.tree.specs.declared.sweep.Innermost.{Innermost}
 use Rattle.tree.specs.Held.{Live, inScript, Inner, Steps}
 use Rattle.tree.specs.Check.{when, check4, check5}
 use Rattle.tree.proofs.Places.{opened, after-live, closed-few, taken-length, placedAt, left-next, left-end, placed-next, placed-end}
+use Rattle.tree.proofs.Listing.{Listed, list-begin, list-next}
 use Rattle.tree.proofs.Holding.{script-length, script-below, script-some, later, later-some, script-after, inner-few, inner-some}
 
 -- the loop has come to record i, where s is open and a is the innermost; the script has more to come than there are records left
-pub record Standing (rs kept : List ℕ) (a : Innermost) (i : ℕ) : Type 0 where
+pub record Standing (rs tops kept : List ℕ) (a : Innermost) (top i : ℕ) : Type 0 where
   pub s : List Open
   pub m : ℕ
   pub live : Live s
@@ -32,9 +34,10 @@ pub record Standing (rs kept : List ℕ) (a : Innermost) (i : ℕ) : Type 0 wher
   pub few : a .word ≤ 4294967295
   pub deep : firstDeep [] (records rs) ≡ on i (firstDeep s (drop i (records rs)))
   pub rest : left [] (records rs) ≡ left s (drop i (records rs))
+  pub listed : Listed rs tops top i s
 
-pub stand-begin : (rs : List ℕ) → length (records rs) ≤ 4096 → {n : ℕ} → n ≡ length (records rs) → Standing rs (replicate 65 0) (record { word = 128 * (n + 1); under = 0 }) 0
-stand-begin rs h {n} e = record {
+pub stand-begin : (rs tops : List ℕ) → length (records rs) ≤ 4096 → length (records rs) < length tops → {n : ℕ} → n ≡ length (records rs) → Standing rs tops (replicate 65 0) (record { word = 128 * (n + 1); under = 0 }) 0 0
+stand-begin rs tops h g {n} e = record {
   s = [];
   m = n + 1;
   live = tt;
@@ -45,13 +48,14 @@ stand-begin rs h {n} e = record {
   few = omega arith;
   deep = sym (on-zero _);
   rest = refl;
+  listed = list-begin rs tops g;
 }
 
 when-none : (b : Bool) (i : ℕ) → when b i ≡ none → b ≡ false
 when-none true i e = let z : _≡_ {A = ℕ} 0 1 = cc in absurd (omega arith)
 when-none false i e = refl
 
-module _ {rs kept : List ℕ} {b : Innermost} {i : ℕ} (a : Standing rs kept b i) where
+module _ {rs tops kept : List ℕ} {b : Innermost} {top i : ℕ} (a : Standing rs tops kept b top i) where
   pub stand-nesting : b .word % 128 ≡ length (a .s)
   stand-nesting = omega (arith, a .held .is, script-below (a .m) (a .s), a .near)
 
@@ -81,6 +85,9 @@ module _ {rs kept : List ℕ} {b : Innermost} {i : ℕ} (a : Standing rs kept b 
     not-deep : firstDeep [] (records rs) ≡ on (i + 1) (firstDeep (after (a .s) (nth rs i)) (drop (i + 1) (records rs)))
     not-deep = at-record h ∙ first-next isDeep i (placedAt (a .s) (nth rs i)) _ (le-ltb 64 (suc (length (a .s))) (omega (arith, stand-nesting)))
 
+    next-listed : Listed rs (set tops top i) (top + cond (eqb (b .word % 128) 0) 1 0) (i + 1) (after (a .s) (nth rs i))
+    next-listed = rw stand-nesting (list-next (a .listed) h)
+
     module _ {kept′ : List ℕ} {children : ℕ} {d : Innermost} (t : Steps kept b children kept′ d) (ec : children ≡ childrenOf (nth rs i .form) (nth rs i .count)) where
       inner-next : Inner kept′ (inScript (later (a .m) (a .s)) (after (a .s) (nth rs i))) d
       unfolding after childrenOf
@@ -89,7 +96,7 @@ module _ {rs kept : List ℕ} {b : Innermost} {i : ℕ} (a : Standing rs kept b 
           subst (λ (l : List Open). Inner kept′ l d) (script-after (a .m) (a .s) o (omega (arith, a .more)))
           (t .is (inScript (a .m) (a .s)) o (omega (arith, script-length (a .m) (a .s), stand-nesting)) (a .held) ec)
 
-      pub stand-next : Standing rs kept′ d (i + 1)
+      pub stand-next : Standing rs (set tops top i) kept′ d (top + cond (eqb (b .word % 128) 0) 1 0) (i + 1)
       stand-next = record {
         s = after (a .s) (nth rs i);
         m = later (a .m) (a .s);
@@ -101,6 +108,7 @@ module _ {rs kept : List ℕ} {b : Innermost} {i : ℕ} (a : Standing rs kept b 
         few = t .few;
         deep = not-deep;
         rest = a .rest ∙ left-next (records rs) blank i (a .s) h;
+        listed = next-listed;
       }
 
   module _ (h : length (records rs) ≤ i) (N : ℕ) where

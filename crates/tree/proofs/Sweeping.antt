@@ -1,12 +1,13 @@
 -- Checks 3 to 7 in one pass: none of them applies so far.
 use Prim.Native.Nat.{ℕ, _+_, _-_, _*_, _%_, _≤_, _<_}
 use mathlib.Core.List.{List}
-use mathlib.Core.Bool.{not}
+use mathlib.Core.Bool.{not, cond}
 use mathlib.Core.Path.{_≡_, ap, sym}
 use native.Mathlib.Omega.{arith}
 use native.Mathlib.Decide.{decLt}
 use borrow.Author.Tests.{not-false}
-use lib.ListN.{length, replicate}
+use lib.Dec.{eqb}
+use lib.ListN.{length, set, replicate}
 use Rattle.tree.specs.Record.{Record, records}
 use Rattle.tree.specs.RecordLaws.{nth}
 use Rattle.tree.specs.Form.{namesOf, childrenOf}
@@ -25,19 +26,21 @@ few-after N r due u h (yes z) = omega (arith, no-children r (u .named z))
 few-after N r due u h (no z) = omega (arith, fit-names N r (u .fit))
 
 -- the loop has come to record i
-pub record Sweeping (N : ℕ) (rs kept : List ℕ) (inner : Innermost) (due i : ℕ) : Type 0 where
+pub record Sweeping (N : ℕ) (rs tops kept : List ℕ) (inner : Innermost) (due top i : ℕ) : Type 0 where
   pub fields : At (outside N) rs i
   pub calls : At emptyCall rs i
   pub names : Naming rs i due
   pub few : due ≤ 255
-  pub places : Standing rs kept inner i
+  pub places : Standing rs tops kept inner top i
 
-pub sweep-begin : (N : ℕ) (rs : List ℕ) → length (records rs) ≤ 4096 → {n : ℕ} → n ≡ length (records rs) → Sweeping N rs (replicate 65 0) (record { word = 128 * (n + 1); under = 0 }) 0 0
-sweep-begin N rs h e = record { fields = begin (outside N) rs; calls = begin emptyCall rs; names = naming-begin rs; few = omega arith; places = stand-begin rs h e }
+pub sweep-begin : (N : ℕ) (rs tops : List ℕ) → length (records rs) ≤ 4096 → length (records rs) < length tops → {n : ℕ} → n ≡ length (records rs) → Sweeping N rs tops (replicate 65 0) (record { word = 128 * (n + 1); under = 0 }) 0 0 0
+sweep-begin N rs tops h g e =
+    record { fields = begin (outside N) rs; calls = begin emptyCall rs; names = naming-begin rs; few = omega arith; places = stand-begin rs tops h g e }
 
-module _ {N : ℕ} {rs kept : List ℕ} {b : Innermost} {due i : ℕ} (a : Sweeping N rs kept b due i) where
+module _ {N : ℕ} {rs tops kept : List ℕ} {b : Innermost} {due top i : ℕ} (a : Sweeping N rs tops kept b due top i) where
   module _ (h : i < length (records rs)) (u : Sound N (nth rs i) due) {due′ : ℕ} (ed : due′ ≡ due - 1 + namesOf (nth rs i .form) (nth rs i .count)) where
-    pub sweep-next : {children : ℕ} {kept′ : List ℕ} {d : Innermost} → b .word % 128 < 64 → Steps kept b children kept′ d → children ≡ childrenOf (nth rs i .form) (nth rs i .count) → Sweeping N rs kept′ d due′ (i + 1)
+    pub sweep-next : {children : ℕ} {kept′ : List ℕ} {d : Innermost} → b .word % 128 < 64 → Steps kept b children kept′ d → children ≡ childrenOf (nth rs i .form) (nth rs i .count)
+        → Sweeping N rs (set tops top i) kept′ d due′ (top + cond (eqb (b .word % 128) 0) 1 0) (i + 1)
     sweep-next small t ec = record {
       fields = next (outside N) rs (a .fields) h (ap not (u .fit));
       calls = next emptyCall rs (a .calls) h (u .called);

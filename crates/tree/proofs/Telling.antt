@@ -9,9 +9,12 @@ use Rattle.tree.specs.Clear.{Tells}
 pub tells-no : {P : Type 0} → (P → ⊥) → Tells false P
 tells-no n = record { yes = λ f. absurd (true≢false (sym f)); all = λ p. absurd (n p) }
 
+pub tells-misses : {P : Type 0} {b : Bool} → Tells b P → b ≡ false → P → ⊥
+tells-misses u z p = true≢false (sym (u .all p) ∙ z)
+
 -- what needs P does not hold where P does not
 pub tells-without : {P Q : Type 0} {b : Bool} → Tells b P → b ≡ false → (Q → P) → Tells false Q
-tells-without u z f = tells-no (λ q. true≢false (sym (u .all (f q)) ∙ z))
+tells-without u z f = tells-no (λ q. tells-misses u z (f q))
 
 pub tells-same : {P Q : Type 0} {b : Bool} → Tells b P → (P → Q) → (Q → P) → Tells b Q
 tells-same u f g = record { yes = λ t. f (u .yes t); all = λ q. u .all (g q) }

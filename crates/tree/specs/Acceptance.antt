@@ -9,18 +9,21 @@ use lib.ListN.{length}
 use Rattle.tree.specs.Record.{Record, width, numbers, records}
 use Rattle.tree.specs.RecordLaws.{records-numbers, numbers-whole}
 use Rattle.tree.specs.Form.{fits}
-use Rattle.tree.specs.Tree.{Trees, flats}
+use Rattle.tree.specs.Tree.{Trees, flats, sizes}
 use Rattle.tree.specs.TreeLaws.{length-flats, whole-numbers}
 use Rattle.tree.specs.Check.{refusal}
 use Rattle.tree.specs.Accepted.{All, Distinct, Accepted}
+use Rattle.tree.specs.Starts.{starts, topsIn}
 use Rattle.tree.specs.Unique.{unique-trees}
 use Passes.{passes, passed-none}
 use Flat.{walk-flats}
 use Fill.{walk-trees}
+use Tops.{tops-flats}
 pub mod Tests
 pub mod Walk
 pub mod Flat
 pub mod Fill
+pub mod Tops
 pub mod Ids
 pub mod Passes
 
@@ -45,6 +48,9 @@ accepted N rs e =
 pub holds : {N : ℕ} {rs : List ℕ} {ts : Trees} → Accepted N rs ts → records rs ≡ flats ts
 holds {ts = ts} a = ap records (a .flat) ∙ records-numbers (flats ts)
 
+pub many-records : {N : ℕ} {rs : List ℕ} {ts : Trees} → Accepted N rs ts → length (records rs) ≡ sizes ts
+many-records {ts = ts} a = ap length (holds a) ∙ length-flats ts
+
 -- what is accepted passes
 pub only : (N : ℕ) (rs : List ℕ) (ts : Trees) → Accepted N rs ts → refusal N rs ≡ none
 only N rs ts a =
@@ -52,7 +58,7 @@ only N rs ts a =
     passed-none N rs
     (record {
       whole = ap (λ (m : List ℕ). length m % width) (a .flat) ∙ whole-numbers (flats ts);
-      few = omega (arith, a .few, ap length e, length-flats ts);
+      few = omega (arith, a .few, many-records a);
       names = a .names;
       fields = subst (λ (l : List Record). All (λ r. fits N r ≡ true) l) e (a .fields);
       walks = subst (λ (l : List Record). Walk.Walk [] l) e (walk-flats ts 0 (a .num) (a .nested));
@@ -61,3 +67,7 @@ only N rs ts a =
 
 pub unique : {N : ℕ} {rs : List ℕ} {ts us : Trees} → Accepted N rs ts → Accepted N rs us → ts ≡ us
 unique {ts = ts} {us = us} a b = unique-trees ts us 0 (a .num) (b .num) (sym (holds a) ∙ holds b)
+
+-- the records at top level are those at which the trees start
+pub top-starts : {N : ℕ} {rs : List ℕ} {ts : Trees} → Accepted N rs ts → topsIn [] 0 (records rs) ≡ starts 0 ts
+top-starts {ts = ts} a = ap (topsIn [] 0) (holds a) ∙ tops-flats ts 0 (a .num)

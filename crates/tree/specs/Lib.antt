@@ -13,6 +13,7 @@ pub mod Place
 pub mod First
 pub mod Check
 pub mod Accepted
+pub mod Starts
 pub mod Acceptance
 pub mod Answer
 pub mod FirstLaws

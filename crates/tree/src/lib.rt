@@ -1,11 +1,13 @@
 // Records and the checks 1 to 8.
 ghost use mathlib.Core.Path.{_≡_};
-ghost use Prim.Native.Nat.{ℕ, _≤_};
+ghost use mathlib.Core.Option.{none};
+ghost use Prim.Native.Nat.{ℕ, _≤_, _<_};
 ghost use lib.ListN.{length};
 ghost use Rattle.tree.specs.Record.{records};
 ghost use Rattle.tree.specs.Check.{refusal};
 ghost use Rattle.tree.specs.Order.{from3, from8};
 ghost use Rattle.tree.specs.Answer.{refusalOf};
+ghost use Rattle.tree.specs.Starts.{TellsStarts};
 use scan::Found;
 
 pub mod form;
@@ -81,9 +83,11 @@ fn in_order(rs: &[u32], names: usize) -> Checked
     last(rs)
 }
 
-// The first check that refuses. Most trees pass 3 to 7: one pass tells.
-pub fn check(rs: &[u32], names: usize) -> Checked
+// The first check that refuses. Most trees pass 3 to 7: one pass tells. A table of more numbers than there are records is told where the trees of
+// a script that is fit start.
+pub fn check(rs: &[u32], names: usize, tops: &mut [u16]) -> Checked
     ensures { λ r. ⌜ refusalOf r ≡ refusal names (now (rs .entry)) ⌝ }
+    ensures told { λ r. ⌜ (refusalOf r ≡ none → length (records (now (rs .entry))) < length (now (tops .entry)) → TellsStarts names (now (rs .entry)) (now (tops .exit))) ⌝ }
 {
     if rs.len() % record::WIDTH != 0 {
         return Checked::Ragged;
@@ -94,7 +98,7 @@ pub fn check(rs: &[u32], names: usize) -> Checked
     if MOST_NAMES < names {
         return Checked::TooMany;
     }
-    if sweep::clear(rs, names) {
+    if record::len(rs) < tops.len() && sweep::clear(rs, names, tops) {
         return last(rs);
     }
     in_order(rs, names)

@@ -1,11 +1,14 @@
-// Checks 3 to 7 in one pass: whether none of them applies. Which one does, and where, the checks in order say.
+// Checks 3 to 7 in one pass: whether none of them applies, and then where the trees start. Which one does apply, and where, the checks in
+// order say.
 ghost use mathlib.Core.Path.{_≡_};
-ghost use mathlib.Core.Bool.{cond};
+ghost use mathlib.Core.Bool.{true, cond};
+ghost use mathlib.Core.List.{[]};
 ghost use Prim.Native.Nat.{_+_, _<_, _≤_};
 ghost use lib.ListN.{length};
 ghost use Rattle.tree.specs.Record.{records};
 ghost use Rattle.tree.specs.Held.{Steps};
 ghost use Rattle.tree.specs.Clear.{Tells, Clear};
+ghost use Rattle.tree.specs.Starts.{StartsWith, topsIn};
 use crate::limits;
 use crate::nest::DEEPEST;
 use crate::record;
@@ -58,10 +61,12 @@ fn step(kept: &mut [u32], a: Innermost, children: usize) -> Innermost
 }
 
 // Kept are the open records that have a child to come: those that a record closes are then one at the most. The script has more to come than
-// there are records, so it is never closed.
-pub fn clear(rs: &[u32], names: usize) -> bool
+// there are records, so it is never closed. Each record is stored where the next start goes, and stays there if no record is open.
+pub fn clear(rs: &[u32], names: usize, tops: &mut [u16]) -> bool
     requires { ⌜ length (records (now rs)) ≤ 4096 ⌝ }
+    requires { ⌜ length (records (now rs)) < length (now tops) ⌝ }
     ensures { λ r. ⌜ Tells r (Clear names (now (rs .entry))) ⌝ }
+    ensures told { λ r. ⌜ (r ≡ true → StartsWith (now (tops .exit)) (topsIn [] 0 (records (now (rs .entry))))) ⌝ }
 {
     let n = record::len(rs);
     let t = limits::all(names);
@@ -71,6 +76,7 @@ pub fn clear(rs: &[u32], names: usize) -> bool
         under: 0,
     };
     let mut due = 0;
+    let mut top = 0;
     let mut i = 0;
     while i < n {
         if !limits::within(&t, rs, i, due) {
@@ -80,8 +86,11 @@ pub fn clear(rs: &[u32], names: usize) -> bool
         if DEEPEST <= inner.word % CHILD {
             return false;
         }
+        tops[top] = i as u16;
+        top += pick(inner.word % CHILD == 0, 1, 0);
         inner = step(&mut kept, inner, limits::parts(&t, rs, i, limits::CHILDREN));
         i += 1;
     }
+    tops[top] = n as u16;
     inner.word % CHILD == 0
 }

@@ -3,11 +3,13 @@ use crate::build::COUNT;
 use crate::build::FORM;
 use crate::build::ID;
 use crate::build::NAME;
+use crate::trees::between;
 use crate::trees::counted;
 use crate::trees::faulty;
 use crate::trees::faulty_deep;
 use crate::trees::faulty_part;
 use crate::trees::faulty_twice;
+use crate::trees::good_and;
 use crate::trees::many;
 use crate::trees::nested;
 use crate::trees::part;
@@ -28,6 +30,12 @@ pub fn nestings() {
     nested(64, 65);
     nested(65, 66);
     nested(65, 65);
+}
+
+// Trees one after another, a leaf last.
+pub fn rows() {
+    between(3);
+    good_and(19);
 }
 
 // All of the good tree, its first tree, all but its last number and record, and too many names.

@@ -7,6 +7,7 @@ mod trees;
 fn main() {
     cases::limits();
     cases::nestings();
+    cases::rows();
     cases::parts();
     cases::forms_and_ids();
     cases::names_and_counts();

@@ -51,16 +51,36 @@ fn at(a: Checked) -> usize {
     }
 }
 
-fn answer(refusal: u64, at: usize) {
-    if refusal == 0 {
-        io::write_all(1, b"fit\n");
-        return;
-    }
+fn refused(refusal: u64, at: usize) {
     io::write_all(1, b"refused=");
     io::print_decimal(1, refusal);
     io::write_all(1, b" at=");
     io::print_decimal(1, at as u64);
     io::write_all(1, b"\n");
+}
+
+// So many starts are printed.
+const SHOWN: usize = 4;
+
+fn start(x: u16) -> usize {
+    x as usize
+}
+
+// Where the first trees of n records start, how many trees there are, and the record after them.
+fn starts(tops: &[u16], n: usize) {
+    let mut i = 0;
+    while i < tops.len() {
+        let at = start(tops[i]);
+        if n <= at {
+            number(b"trees", i);
+            number(b"end", at);
+            return;
+        }
+        if i < SHOWN {
+            number(b"start", at);
+        }
+        i += 1;
+    }
 }
 
 // What the checks say of the first n numbers, and of the first n records.
@@ -69,8 +89,15 @@ pub fn numbers(t: &Numbers, n: usize, names: usize) {
         return;
     }
     let all: &[u32] = t;
-    let a = tree::check(&all[..n], names);
-    answer(refusal(a), at(a));
+    let mut tops = [0u16; RECORDS + 1];
+    let a = tree::check(&all[..n], names, &mut tops);
+    let r = refusal(a);
+    if r != 0 {
+        refused(r, at(a));
+        return;
+    }
+    starts(&tops, n / WIDTH);
+    io::write_all(1, b"fit\n");
 }
 
 pub fn records(t: &Numbers, n: usize, names: usize) {

@@ -39,6 +39,28 @@ pub fn nested(begins: usize, n: usize) {
     say::records(&t, n, 0);
 }
 
+// A constant, begins, each in the one before and the last of a constant, and a constant.
+pub fn between(begins: usize) {
+    if 64 < begins {
+        return;
+    }
+    let mut t = [0u32; LENGTH];
+    build::constants(&mut t, 0, 1);
+    build::begins(&mut t, 1, begins + 1);
+    build::constants(&mut t, begins + 1, begins + 3);
+    say::number(b"between", begins);
+    say::records(&t, begins + 3, 0);
+}
+
+// The good tree and constants up to n records.
+pub fn good_and(n: usize) {
+    let mut t = [0u32; LENGTH];
+    build::good(&mut t);
+    build::constants(&mut t, GOOD, n);
+    say::number(b"records", n);
+    say::records(&t, n, NAMES);
+}
+
 // The first n numbers of the good tree.
 pub fn part(n: usize, names: usize) {
     let mut t = [0u32; LENGTH];

@@ -11,6 +11,7 @@ mod LambdaCase
 mod DefineCase
 mod LetCase
 mod LetCalls
+mod TopStarts
 mod TopsEnterCase
 mod TopDefineCase
 mod TopsCase

@@ -9,6 +9,7 @@ use Rattle.tree.specs.RecordLaws.{nth, length-records}
 use Rattle.tree.specs.Tree.{Node, Tree, Trees, begin, nil, cons, many, flat, size, sizes, Num, Nums}
 use Rattle.tree.specs.TreeLaws.{size-pos, flats-⊕, sizes-⊕, nums-⊕}
 use Rattle.tree.specs.Define.{_⊕_, topOf, topLevel}
+use Rattle.tree.specs.Acceptance.{many-records}
 use Rattle.tree.specs.Stands.{Within, StandAll}
 use Rattle.tree.specs.WithinLaws.{later}
 use Rattle.tree.specs.StandsLaws.{first-tree, later-trees, accepted-stand}
@@ -21,7 +22,7 @@ use Rattle.work.specs.Known.{Known}
 use Rattle.work.specs.Tied.{Raw, Tied}
 use Rattle.visits.specs.Tops.{TopFits, VisitsTop, TopsFit, VisitsTops}
 use Rattle.visits.proofs.Views.{small, stand-all-at}
-use Rattle.visits.proofs.TopsEnterCase.{whole, lone-top}
+use Rattle.visits.proofs.TopsEnterCase.{lone-top}
 
 -- the children of a begin stand before the trees after it
 opened : {N : ℕ} {rs : List ℕ} {at : ℕ} (n : Node) (es vs : Trees) → StandAll N rs at (cons (begin n es) vs) → StandAll N rs (at + 1) (es ⊕ vs)
@@ -57,7 +58,7 @@ module _ {classes rs : List ℕ} {z : Raw} where
     s = x .s;
     first = 0;
     count = refl;
-    span = omega (arith, whole (x .accepted));
+    span = omega (arith, many-records (x .accepted));
     stand = accepted-stand (x .accepted);
     tied = x .tied;
     fits = x .fits;
@@ -65,7 +66,7 @@ module _ {classes rs : List ℕ} {z : Raw} where
   }
 
   pub few : TopsFit classes rs z → length (records rs) ≤ 4096
-  few x = omega (arith, x .accepted .few, whole (x .accepted))
+  few x = omega (arith, x .accepted .few, many-records (x .accepted))
 
   -- a begin is passed by
   pub begin-opened : {x : TopsFit classes rs z} {at inside k : ℕ} {z′ : Raw} → Left x at inside z′ → at < length (records rs) → inside ≡ 0

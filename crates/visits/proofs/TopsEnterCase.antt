@@ -3,15 +3,15 @@ use Prim.Native.Nat.{ℕ, _+_, _≤_, _<_}
 use mathlib.Core.List.{List, append-nil}
 use mathlib.Core.Path.{_≡_, refl, ap, sym, subst, _∙_}
 use native.Mathlib.Omega.{arith}
-use lib.ListN.{length}
+use lib.ListN.{length, getD, drop}
 use Rattle.tree.specs.Record.{records}
 use Rattle.tree.specs.RecordLaws.{nth}
 use Rattle.tree.specs.Tree.{Tree, Trees, ident, const, if, letin, define, lambda, begin, call, set!, nil, cons, many, flat, flats, size, sizes, Nums}
-use Rattle.tree.specs.TreeLaws.{length-flats, size-pos}
+use Rattle.tree.specs.TreeLaws.{size-pos}
 use Rattle.tree.specs.Define.{topOf, topLevel}
 use Rattle.tree.specs.Parts.{own}
-use Rattle.tree.specs.Accepted.{Accepted}
-use Rattle.tree.specs.Acceptance.{holds}
+use Rattle.tree.specs.Starts.{starts, StartsWith, TellsStarts}
+use Rattle.tree.specs.Acceptance.{many-records}
 use Rattle.tree.specs.Stands.{Within, Stands, StandAll}
 use Rattle.tree.specs.StandsLaws.{root, root-form, first-tree, later-trees, accepted-stand}
 use Rattle.tree.specs.StandsForms.{begin-of}
@@ -23,15 +23,11 @@ use Rattle.pass.specs.Laws.Visitable.Runs.{enter-⊕, first-enter, next-enter}
 use Rattle.work.specs.Known.{Known}
 use Rattle.work.specs.Tied.{raw, Tied}
 use Rattle.work.specs.declared.Pass.{Pass}
-use Rattle.walk.specs.Contract.{SomeTree, Extends}
 use Rattle.forms.specs.Contract.{Fits, NamesRoom, ChildrenFit, EntersChildren}
 use Rattle.forms.specs.Defines.{tops-entered}
 use Rattle.visits.specs.Tops.{TopEnters, EntersTop, TopsEnter, EntersTops}
-use Rattle.visits.proofs.Views.{small, stand-all-at, names-room}
-
--- all records are the trees'
-pub whole : {N : ℕ} {rs : List ℕ} {ts : Trees} → Accepted N rs ts → sizes ts ≡ length (records rs)
-whole {ts = ts} a = sym (ap length (holds a) ∙ length-flats ts)
+use Rattle.visits.proofs.Views.{small, names-room}
+use Rattle.visits.proofs.TopStarts.{first-start, later-starts}
 
 -- a tree that is no begin stands at top level itself
 
@@ -134,54 +130,61 @@ none-enters {classes} {p = p} {F} {w} h d = record {
 -- Of all trees
 
 module _ {classes rs : List ℕ} {p : Pass} {F w : List ℕ} where
-  -- the trees from the record at on are left, and the state is held
-  pub record Left (x : TopsEnter classes rs p F w) (at : ℕ) (p′ : Pass) (F′ w′ : List ℕ) : Type 0 where
+  -- the trees from the record at on are left, of which the table tells from place i on, and the state is held
+  pub record Left (x : TopsEnter classes rs p F w) (tops : List ℕ) (i at : ℕ) (p′ : Pass) (F′ w′ : List ℕ) : Type 0 where
     pub us : Trees
     pub s : State
+    pub told : StartsWith (drop i tops) (starts at us)
     pub span : at + sizes us ≡ length (records rs)
     pub stand : StandAll (length classes) rs at us
     pub tied : Tied (raw p′ F′ (x .captured) (x .arguments) w′) s
     pub fits : EnterableTops (Known rs) (topLevel us) s
     pub state : enterTops classes (topLevel us) s ≡ enterTops classes (topLevel (x .ts)) (x .s)
 
-  pub all-left : (x : TopsEnter classes rs p F w) → Left x 0 p F w
-  all-left x = record {
+  pub all-left : {tops : List ℕ} → TellsStarts (length classes) rs tops → (x : TopsEnter classes rs p F w) → Left x tops 0 0 p F w
+  all-left d x = record {
     us = x .ts;
     s = x .s;
-    span = omega (arith, whole (x .accepted));
+    told = d .is (x .ts) (x .accepted);
+    span = omega (arith, many-records (x .accepted));
     stand = accepted-stand (x .accepted);
     tied = x .tied;
     fits = x .fits;
     state = refl;
   }
 
-  pub few : TopsEnter classes rs p F w → length (records rs) ≤ 4096
-  few x = omega (arith, x .accepted .few, whole (x .accepted))
+  module _ {x : TopsEnter classes rs p F w} {tops : List ℕ} {i at : ℕ} {p′ : Pass} {F′ w′ : List ℕ} (l : Left x tops i at p′ F′ w′) where
+    pub in-table : i < length tops
+    in-table = first-start tops i at (l .us) (l .told) .0
+
+    -- the record is the one that the table has
+    pub read-left : {j : ℕ} → j ≡ getD tops i 0 → Left x tops i j p′ F′ w′
+    read-left e = subst (λ (j : ℕ). Left x tops i j p′ F′ w′) (sym (e ∙ first-start tops i at (l .us) (l .told) .1)) l
 
   -- the next one
-  pub record Next (x : TopsEnter classes rs p F w) (at : ℕ) (p′ : Pass) (F′ w′ : List ℕ) : Type 0 where
+  pub record Next (x : TopsEnter classes rs p F w) (tops : List ℕ) (i at : ℕ) (p′ : Pass) (F′ w′ : List ℕ) : Type 0 where
     pub t : Tree
     pub rest : Trees
     pub s : State
+    pub told : StartsWith (drop i tops) (starts at (cons t rest))
     pub span : at + sizes (cons t rest) ≡ length (records rs)
     pub stand : StandAll (length classes) rs at (cons t rest)
     pub tied : Tied (raw p′ F′ (x .captured) (x .arguments) w′) s
     pub fits : EnterableTops (Known rs) (topLevel (cons t rest)) s
     pub state : enterTops classes (topLevel (cons t rest)) s ≡ enterTops classes (topLevel (x .ts)) (x .s)
 
-  pub next : {x : TopsEnter classes rs p F w} {at : ℕ} {p′ : Pass} {F′ w′ : List ℕ} → Left x at p′ F′ w′ → at < length (records rs) → Next x at p′ F′ w′
+  pub next : {x : TopsEnter classes rs p F w} {tops : List ℕ} {i at : ℕ} {p′ : Pass} {F′ w′ : List ℕ} → Left x tops i at p′ F′ w′
+      → at < length (records rs) → Next x tops i at p′ F′ w′
   unfolding size
-  next {x} {at} {p′} {F′} {w′} l h = go (l .us) (l .span) (l .stand) (l .fits) (l .state)
+  next {x} {tops} {i} {at} {p′} {F′} {w′} l h = go (l .us) (l .told) (l .span) (l .stand) (l .fits) (l .state)
     where
-      go : (us : Trees) → at + sizes us ≡ length (records rs) → StandAll (length classes) rs at us → EnterableTops (Known rs) (topLevel us) (l .s)
-          → enterTops classes (topLevel us) (l .s) ≡ enterTops classes (topLevel (x .ts)) (x .s) → Next x at p′ F′ w′
-      go nil e u f q = absurd (omega arith)
-      go (cons t us) e u f q = record { t = t; rest = us; s = l .s; span = e; stand = u; tied = l .tied; fits = f; state = q }
+      go : (us : Trees) → StartsWith (drop i tops) (starts at us) → at + sizes us ≡ length (records rs) → StandAll (length classes) rs at us
+          → EnterableTops (Known rs) (topLevel us) (l .s)
+          → enterTops classes (topLevel us) (l .s) ≡ enterTops classes (topLevel (x .ts)) (x .s) → Next x tops i at p′ F′ w′
+      go nil d e u f q = absurd (omega arith)
+      go (cons t us) d e u f q = record { t = t; rest = us; s = l .s; told = d; span = e; stand = u; tied = l .tied; fits = f; state = q }
 
-  module _ {x : TopsEnter classes rs p F w} {at : ℕ} {p′ : Pass} {F′ w′ : List ℕ} (n : Next x at p′ F′ w′) where
-    pub tree-at : SomeTree rs at
-    tree-at = record { names = length classes; tree = record { t = n .t; stands = first-tree (n .stand) } }
-
+  module _ {x : TopsEnter classes rs p F w} {tops : List ℕ} {i at : ℕ} {p′ : Pass} {F′ w′ : List ℕ} (n : Next x tops i at p′ F′ w′) where
     held : Fits rs (raw p′ F′ (x .captured) (x .arguments) w′) (n .s)
     held = record { good = n .fits .enters .reliable .good; tied = n .tied }
 
@@ -197,38 +200,36 @@ module _ {classes rs : List ℕ} {p : Pass} {F w : List ℕ} where
       room = names-room (n .tied) refl (first-enter small classes (topOf (n .t)) (topLevel (n .rest)) (n .fits) .room .live);
     }
 
-    module _ {k : ℕ} (d : Extends rs at k) where
-      pub ahead : (0 < k) × (at + k ≤ length (records rs))
-      unfolding size
-      ahead =
-          let e : k ≡ size (n .t) = d .is (length classes) (n .t) (first-tree (n .stand)) in
-          (omega (arith, size-pos (n .t)), omega (arith, n .span))
+    -- the table has a place after this one, and there a later record
+    pub ahead : (i + 1 < length tops) × (at < getD tops (i + 1) 0)
+    ahead =
+        let f = first-start tops (i + 1) (at + size (n .t)) (n .rest) (later-starts tops i at (n .t) (n .rest) (n .told)) in
+        (f .0, omega (arith, f .1, size-pos (n .t)))
 
-      pub one-less : {p″ : Pass} {F″ w″ : List ℕ} → EntersTop classes rs at p′ F′ w′ p″ F″ w″ → Left x (at + k) p″ F″ w″
-      unfolding size topLevel
-      one-less o =
-          let e : k ≡ size (n .t) = d .is (length classes) (n .t) (first-tree (n .stand)) in
-          record {
-            us = n .rest;
-            s = enterTops classes (topOf (n .t)) (n .s);
-            span = omega (arith, n .span);
-            stand = stand-all-at (ap (λ (j : ℕ). at + j) (sym e)) (later-trees (n .stand));
-            tied = o .is (x .captured) (x .arguments) (n .s) (n .t) (first-tree (n .stand)) held;
-            fits = next-enter small classes (topOf (n .t)) (topLevel (n .rest)) (n .fits);
-            state = sym (enter-⊕ classes (topOf (n .t)) (topLevel (n .rest)) (n .s)) ∙ n .state;
-          }
+    pub one-less : {p″ : Pass} {F″ w″ : List ℕ} → EntersTop classes rs at p′ F′ w′ p″ F″ w″ → Left x tops (i + 1) (at + size (n .t)) p″ F″ w″
+    unfolding size topLevel
+    one-less o = record {
+      us = n .rest;
+      s = enterTops classes (topOf (n .t)) (n .s);
+      told = later-starts tops i at (n .t) (n .rest) (n .told);
+      span = omega (arith, n .span);
+      stand = later-trees (n .stand);
+      tied = o .is (x .captured) (x .arguments) (n .s) (n .t) (first-tree (n .stand)) held;
+      fits = next-enter small classes (topOf (n .t)) (topLevel (n .rest)) (n .fits);
+      state = sym (enter-⊕ classes (topOf (n .t)) (topLevel (n .rest)) (n .s)) ∙ n .state;
+    }
 
   -- none is left
-  finished : {x : TopsEnter classes rs p F w} {at : ℕ} {p′ : Pass} {F′ w′ : List ℕ} → Left x at p′ F′ w′ → length (records rs) ≤ at
+  finished : {x : TopsEnter classes rs p F w} {tops : List ℕ} {i at : ℕ} {p′ : Pass} {F′ w′ : List ℕ} → Left x tops i at p′ F′ w′ → length (records rs) ≤ at
       → Tied (raw p′ F′ (x .captured) (x .arguments) w′) (enterTops classes (topLevel (x .ts)) (x .s))
   unfolding size topLevel enterTops
-  finished {x} {at} {p′} {F′} {w′} l h = go (l .us) (l .span) (l .state)
+  finished {x} {at = at} {p′} {F′} {w′} l h = go (l .us) (l .span) (l .state)
     where
       go : (us : Trees) → at + sizes us ≡ length (records rs) → enterTops classes (topLevel us) (l .s) ≡ enterTops classes (topLevel (x .ts)) (x .s)
           → Tied (raw p′ F′ (x .captured) (x .arguments) w′) (enterTops classes (topLevel (x .ts)) (x .s))
       go nil e q = subst (Tied (raw p′ F′ (x .captured) (x .arguments) w′)) q (l .tied)
       go (cons t us) e q = absurd (omega (arith, size-pos t))
 
-  pub all-entered : {at : ℕ} {p′ : Pass} {F′ w′ : List ℕ} → ((x : TopsEnter classes rs p F w) → Left x at p′ F′ w′) → length (records rs) ≤ at
-      → EntersTops classes rs p F w p′ F′ w′
+  pub all-entered : {tops : List ℕ} {i at : ℕ} {p′ : Pass} {F′ w′ : List ℕ} → ((x : TopsEnter classes rs p F w) → Left x tops i at p′ F′ w′)
+      → length (records rs) ≤ at → EntersTops classes rs p F w p′ F′ w′
   all-entered f h = record { is = λ x. finished (f x) h }

@@ -12,11 +12,11 @@ use semantic::NONE;
 use table::wide;
 use walk::body::Body;
 use walk::body::body_at;
-use walk::extent::extent_at;
 use work::Pass;
 ghost use mathlib.Core.Path.{_≡_};
-ghost use Prim.Native.Nat.{_-_};
-ghost use lib.ListN.{length};
+ghost use Prim.Native.Nat.{_-_, _<_};
+ghost use lib.ListN.{length, getD};
+ghost use Rattle.tree.specs.Starts.{TellsStarts};
 ghost use Rattle.tree.specs.RecordLaws.{nth};
 ghost use Rattle.work.specs.Tied.{raw};
 ghost use Rattle.forms.specs.Contract.{DefineFits};
@@ -66,21 +66,40 @@ fn enter_top(
     }
 }
 
+// A number of the table, as an index.
+fn place(x: u16) -> usize
+    ensures { λ r. ⌜ r ≡ x ⌝ }
+{
+    x as usize
+}
+
+// The record at which tree i starts.
+fn start(tops: &[u16], i: usize) -> usize
+    requires { ⌜ i < length (now tops) ⌝ }
+    ensures { λ r. ⌜ r ≡ getD (now (tops .entry)) i 0 ⌝ }
+{
+    place(tops[i])
+}
+
 fn enter_tops(
+    tops: &[u16],
     classes: &[u8],
     all: &[u32],
     r: &mut [usize; REGISTERS],
     facts: &mut [u32],
     work: &mut [u32],
 )
+    requires { ⌜ TellsStarts (length (now classes)) (now all) (now tops) ⌝ }
     requires { ⌜ TopsEnter (now classes) (now all) (passIn (now r)) (now facts) (now work) ⌝ }
     ensures { λ _. ⌜ EntersTops (now (classes .entry)) (now (all .entry)) (passIn (now (r .entry))) (now (facts .entry)) (now (work .entry)) (passIn (now (r .exit))) (now (facts .exit)) (now (work .exit)) ⌝ }
 {
     let n = tree::record::len(all);
-    let mut at = 0;
+    let mut i = 0;
+    let mut at = start(tops, i);
     while at < n {
         enter_top(classes, all, at, r, facts, work);
-        at += extent_at(all, at);
+        i += 1;
+        at = start(tops, i);
     }
 }
 
@@ -227,6 +246,7 @@ fn visit_tops(
 
 // The names at top level enter, then its trees are visited.
 fn run_lent(
+    tops: &[u16],
     classes: &&[u8],
     all: &&[u32],
     r: &mut [usize; REGISTERS],
@@ -235,11 +255,12 @@ fn run_lent(
     arguments: &mut &mut [u32],
     work: &mut &mut [u32],
 )
+    requires { ⌜ TellsStarts (length (now (now classes))) (now (now all)) (now tops) ⌝ }
     requires { ⌜ Ready (now (now classes)) (now (now all)) (held (now r) (now (now facts)) (now (now captured)) (now (now arguments)) (now (now work))) ⌝ }
     ensures { λ _. ⌜ Runs (now (now (classes .entry))) (now (now (all .entry))) (held (now (r .entry)) (now (now (facts .entry))) (now (now (captured .entry))) (now (now (arguments .entry))) (now (now (work .entry)))) (held (now (r .exit)) (now (now (facts .exit))) (now (now (captured .exit))) (now (now (arguments .exit))) (now (now (work .exit)))) ⌝ }
     ensures { λ _. ⌜ tables (now (facts .exit)) (now (captured .exit)) (now (arguments .exit)) (now (work .exit)) ≡ tables (now (facts .entry)) (now (captured .entry)) (now (arguments .entry)) (now (work .entry)) ⌝ }
 {
-    enter_tops(*classes, *all, r, *facts, *work);
+    enter_tops(tops, *classes, *all, r, *facts, *work);
     visit_tops(classes, all, r, facts, captured, arguments, work);
 }
 
@@ -247,6 +268,7 @@ fn run_lent(
 // reference than the one that was lent.
 
 fn lend_work<'a>(
+    tops: &[u16],
     classes: &&[u8],
     all: &&[u32],
     r: &mut [usize; REGISTERS],
@@ -255,17 +277,19 @@ fn lend_work<'a>(
     arguments: &mut &mut [u32],
     work: &'a mut [u32],
 ) -> &'a mut [u32]
+    requires { ⌜ TellsStarts (length (now (now classes))) (now (now all)) (now tops) ⌝ }
     requires { ⌜ Ready (now (now classes)) (now (now all)) (held (now r) (now (now facts)) (now (now captured)) (now (now arguments)) (now work)) ⌝ }
     ensures { λ back. ⌜ Runs (now (now (classes .entry))) (now (now (all .entry))) (held (now (r .entry)) (now (now (facts .entry))) (now (now (captured .entry))) (now (now (arguments .entry))) (now (work .entry))) (held (now (r .exit)) (now (now (facts .exit))) (now (now (captured .exit))) (now (now (arguments .exit))) (now back)) ⌝ }
     ensures { λ back. ⌜ tables (now (facts .exit)) (now (captured .exit)) (now (arguments .exit)) back ≡ tables (now (facts .entry)) (now (captured .entry)) (now (arguments .entry)) (work .entry) ⌝ }
 {
     let mut lent = work;
-    run_lent(classes, all, r, facts, captured, arguments, &mut lent);
+    run_lent(tops, classes, all, r, facts, captured, arguments, &mut lent);
     let back = lent;
     back
 }
 
 fn lend_arguments<'a>(
+    tops: &[u16],
     classes: &&[u8],
     all: &&[u32],
     r: &mut [usize; REGISTERS],
@@ -274,17 +298,19 @@ fn lend_arguments<'a>(
     arguments: &'a mut [u32],
     work: &mut [u32],
 ) -> &'a mut [u32]
+    requires { ⌜ TellsStarts (length (now (now classes))) (now (now all)) (now tops) ⌝ }
     requires { ⌜ Ready (now (now classes)) (now (now all)) (held (now r) (now (now facts)) (now (now captured)) (now arguments) (now work)) ⌝ }
     ensures { λ back. ⌜ Runs (now (now (classes .entry))) (now (now (all .entry))) (held (now (r .entry)) (now (now (facts .entry))) (now (now (captured .entry))) (now (arguments .entry)) (now (work .entry))) (held (now (r .exit)) (now (now (facts .exit))) (now (now (captured .exit))) (now back) (now (work .exit))) ⌝ }
     ensures { λ back. ⌜ tables (now (facts .exit)) (now (captured .exit)) back (work .exit) ≡ tables (now (facts .entry)) (now (captured .entry)) (arguments .entry) (work .entry) ⌝ }
 {
     let mut lent = arguments;
-    lend_work(classes, all, r, facts, captured, &mut lent, work);
+    lend_work(tops, classes, all, r, facts, captured, &mut lent, work);
     let back = lent;
     back
 }
 
 fn lend_captured<'a>(
+    tops: &[u16],
     classes: &&[u8],
     all: &&[u32],
     r: &mut [usize; REGISTERS],
@@ -293,17 +319,19 @@ fn lend_captured<'a>(
     arguments: &mut [u32],
     work: &mut [u32],
 ) -> &'a mut [u32]
+    requires { ⌜ TellsStarts (length (now (now classes))) (now (now all)) (now tops) ⌝ }
     requires { ⌜ Ready (now (now classes)) (now (now all)) (held (now r) (now (now facts)) (now captured) (now arguments) (now work)) ⌝ }
     ensures { λ back. ⌜ Runs (now (now (classes .entry))) (now (now (all .entry))) (held (now (r .entry)) (now (now (facts .entry))) (now (captured .entry)) (now (arguments .entry)) (now (work .entry))) (held (now (r .exit)) (now (now (facts .exit))) (now back) (now (arguments .exit)) (now (work .exit))) ⌝ }
     ensures { λ back. ⌜ tables (now (facts .exit)) back (arguments .exit) (work .exit) ≡ tables (now (facts .entry)) (captured .entry) (arguments .entry) (work .entry) ⌝ }
 {
     let mut lent = captured;
-    lend_arguments(classes, all, r, facts, &mut lent, arguments, work);
+    lend_arguments(tops, classes, all, r, facts, &mut lent, arguments, work);
     let back = lent;
     back
 }
 
 fn lend_facts<'a>(
+    tops: &[u16],
     classes: &&[u8],
     all: &&[u32],
     r: &mut [usize; REGISTERS],
@@ -312,17 +340,19 @@ fn lend_facts<'a>(
     arguments: &mut [u32],
     work: &mut [u32],
 ) -> &'a mut [u32]
+    requires { ⌜ TellsStarts (length (now (now classes))) (now (now all)) (now tops) ⌝ }
     requires { ⌜ Ready (now (now classes)) (now (now all)) (held (now r) (now facts) (now captured) (now arguments) (now work)) ⌝ }
     ensures { λ back. ⌜ Runs (now (now (classes .entry))) (now (now (all .entry))) (held (now (r .entry)) (now (facts .entry)) (now (captured .entry)) (now (arguments .entry)) (now (work .entry))) (held (now (r .exit)) (now back) (now (captured .exit)) (now (arguments .exit)) (now (work .exit))) ⌝ }
     ensures { λ back. ⌜ tables back (captured .exit) (arguments .exit) (work .exit) ≡ tables (facts .entry) (captured .entry) (arguments .entry) (work .entry) ⌝ }
 {
     let mut lent = facts;
-    lend_captured(classes, all, r, &mut lent, captured, arguments, work);
+    lend_captured(tops, classes, all, r, &mut lent, captured, arguments, work);
     let back = lent;
     back
 }
 
 pub fn run_with_scope(
+    tops: &[u16],
     classes: &[u8],
     all: &[u32],
     p: Pass,
@@ -331,6 +361,7 @@ pub fn run_with_scope(
     arguments: &mut [u32],
     work: &mut [u32],
 ) -> Pass
+    requires { ⌜ TellsStarts (length (now classes)) (now all) (now tops) ⌝ }
     requires { ⌜ Ready (now classes) (now all) (raw p (now facts) (now captured) (now arguments) (now work)) ⌝ }
     ensures { λ r. ⌜ Runs (now (classes .entry)) (now (all .entry)) (raw p (now (facts .entry)) (now (captured .entry)) (now (arguments .entry)) (now (work .entry))) (raw r (now (facts .exit)) (now (captured .exit)) (now (arguments .exit)) (now (work .exit))) ⌝ }
 {
@@ -338,6 +369,6 @@ pub fn run_with_scope(
     store(&mut r, p);
     let kinds = &*classes;
     let rs = &*all;
-    lend_facts(&kinds, &rs, &mut r, facts, captured, arguments, work);
+    lend_facts(tops, &kinds, &rs, &mut r, facts, captured, arguments, work);
     load(&r)
 }

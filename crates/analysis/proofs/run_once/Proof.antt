@@ -10,7 +10,8 @@ new-requires c κs = search needs
 run-with-scope-requires : tie.Need-run-with-scope-requires
 run-with-scope-requires c κs =
     let n = c .before .before .before .before in
-    first-ready (n .before .before .before .before .before .before .before .pre) (n .new .ensures)
+    let o = n .before .before .before .before .before .before .before .before in
+    (o .pre .0, first-ready (o .pre .1) (n .new .ensures))
 
 refused-first-requires : tie.Need-refused-first-requires
 refused-first-requires c κs = search needs
@@ -31,7 +32,7 @@ returns : tie.Need-returns
 returns c =
     let r = c .before .before .before .before .before .before .before .before .before in
     let n = r .before .before .before .before .before in
-    fresh-ends (n .before .before .before .before .before .before .before .pre) (n .new .ensures)
+    fresh-ends (n .before .before .before .before .before .before .before .before .pre .1) (n .new .ensures)
     (r .run-with-scope .ensures) (c .refused-first .result) (c .refused-first .ensures)
 
 pub run-once-spec : {M : Type 1} → statement M

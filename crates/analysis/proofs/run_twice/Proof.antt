@@ -12,7 +12,8 @@ new-requires c κs = search needs
 run-with-scope-requires : tie.Need-run-with-scope-requires
 run-with-scope-requires c κs =
     let n = c .before .before .before .before in
-    first-ready (n .before .before .before .before .before .before .before .pre) (n .new .ensures)
+    let o = n .before .before .before .before .before .before .before .before in
+    (o .pre .0, first-ready (o .pre .1) (n .new .ensures))
 
 refused-first-requires : tie.Need-refused-first-requires
 refused-first-requires c κs = search needs
@@ -39,7 +40,7 @@ returns : tie.Need-returns
 returns c =
     let r = c .before .before .before .before .before .before .before .before .before .before .before in
     let n = r .before .before .before .before .before in
-    refused-ends (n .before .before .before .before .before .before .before .pre) (n .new .ensures)
+    refused-ends (n .before .before .before .before .before .before .before .before .pre .1) (n .new .ensures)
     (r .run-with-scope .ensures) (c .enum-told2 .given .1) (c .before .before .refused-first .ensures)
 
 len-requires : tie.Need-len-requires
@@ -49,9 +50,9 @@ clear-names-requires : tie.Need-clear-names-requires
 clear-names-requires c κs =
     let r = c .before .before .before .before .before .before .before .before .before .before .before .before .before in
     let n = r .before .before .before .before .before in
-    let o = n .before .before .before .before .before .before .before in
-    let z = r .run-with-scope .kept .1 .1 .1 .1 .1 .1 .0 in
-    (omega (arith, work-long (o .pre), z), rw (c .len .ensures) (first-rested (o .pre) (n .new .ensures) (r .run-with-scope .ensures)))
+    let o = n .before .before .before .before .before .before .before .before in
+    let z = r .run-with-scope .kept .1 .1 .1 .1 .1 .1 .1 .0 in
+    (omega (arith, work-long (o .pre .1), z), rw (c .len .ensures) (first-rested (o .pre .1) (n .new .ensures) (r .run-with-scope .ensures)))
 
 new-requires-2 : tie.Need-new-requires-2
 new-requires-2 c κs = search needs
@@ -62,8 +63,11 @@ run-with-scope-requires-2 c κs =
     let f = k .before .before .before .before .before in
     let r = f .before .before .before .before .before .before .before .before .before in
     let n = r .before .before .before .before .before in
-    second-ready (n .before .before .before .before .before .before .before .pre) (n .new .ensures) (r .run-with-scope .ensures)
-    (k .before .before .before .enum-told .given .1) (f .refused-first .ensures) (c .before .before .before .before .new2 .ensures) (k .clear-names .ensures)
+    let o = n .before .before .before .before .before .before .before .before in (
+      o .pre .0,
+      second-ready (o .pre .1) (n .new .ensures) (r .run-with-scope .ensures) (k .before .before .before .enum-told .given .1)
+          (f .refused-first .ensures) (c .before .before .before .before .new2 .ensures) (k .clear-names .ensures),
+    )
 
 refused-second-requires : tie.Need-refused-second-requires
 refused-second-requires c κs = search needs
@@ -73,28 +77,28 @@ same-length-5 c =
     let q = c .before .before .before .before .before .before .before .before .before in
     let k = q .before .before .before .before .before .before .before .before in
     let r = k .before .before .before .before .before .before .before .before .before .before .before .before .before .before in
-    q .run-with-scope2 .kept .1 .1 .1 .0 ∙ r .run-with-scope .kept .1 .1 .1 .0
+    q .run-with-scope2 .kept .1 .1 .1 .1 .0 ∙ r .run-with-scope .kept .1 .1 .1 .1 .0
 
 same-length-6 : tie.Need-same-length-6
 same-length-6 c =
     let q = c .before .before .before .before .before .before .before .before .before in
     let k = q .before .before .before .before .before .before .before .before in
     let r = k .before .before .before .before .before .before .before .before .before .before .before .before .before .before in
-    q .run-with-scope2 .kept .1 .1 .1 .1 .0 ∙ r .run-with-scope .kept .1 .1 .1 .1 .0
+    q .run-with-scope2 .kept .1 .1 .1 .1 .1 .0 ∙ r .run-with-scope .kept .1 .1 .1 .1 .1 .0
 
 same-length-7 : tie.Need-same-length-7
 same-length-7 c =
     let q = c .before .before .before .before .before .before .before .before .before in
     let k = q .before .before .before .before .before .before .before .before in
     let r = k .before .before .before .before .before .before .before .before .before .before .before .before .before .before in
-    q .run-with-scope2 .kept .1 .1 .1 .1 .1 .0 ∙ r .run-with-scope .kept .1 .1 .1 .1 .1 .0
+    q .run-with-scope2 .kept .1 .1 .1 .1 .1 .1 .0 ∙ r .run-with-scope .kept .1 .1 .1 .1 .1 .1 .0
 
 same-length-8 : tie.Need-same-length-8
 same-length-8 c =
     let q = c .before .before .before .before .before .before .before .before .before in
     let k = q .before .before .before .before .before .before .before .before in
     let r = k .before .before .before .before .before .before .before .before .before .before .before .before .before .before in
-    q .run-with-scope2 .kept .1 .1 .1 .1 .1 .1 .0 ∙ k .clear-names .kept .0 ∙ r .run-with-scope .kept .1 .1 .1 .1 .1 .1 .0
+    q .run-with-scope2 .kept .1 .1 .1 .1 .1 .1 .1 .0 ∙ k .clear-names .kept .0 ∙ r .run-with-scope .kept .1 .1 .1 .1 .1 .1 .1 .0
 
 returns-2 : tie.Need-returns-2
 returns-2 c =
@@ -104,7 +108,7 @@ returns-2 c =
     let f = k .before .before .before .before .before in
     let r = f .before .before .before .before .before .before .before .before .before in
     let n = r .before .before .before .before .before in
-    settled-ends (n .before .before .before .before .before .before .before .pre) (n .new .ensures) (r .run-with-scope .ensures)
+    settled-ends (n .before .before .before .before .before .before .before .before .pre .1) (n .new .ensures) (r .run-with-scope .ensures)
     (k .before .before .before .enum-told .given .1) (f .refused-first .ensures)
     (c .refused-second .result) (m .new2 .ensures) (k .clear-names .ensures) (q .run-with-scope2 .ensures) (c .refused-second .ensures)
 

@@ -1,30 +1,44 @@
--- `check`: 1 and 2, then the pass that clears 3 to 7, or all in order.
+-- `check`: 1 and 2, then the pass that clears 3 to 7 and lists where the trees start, or all in order.
 use borrow.Author.Needs.{needs}
 use native.Mathlib.Omega.{arith}
-use mathlib.Core.Path.{_≡_, sym, _∙_}
+use mathlib.Core.Logic.{⊎-elim}
+use mathlib.Core.Option.{none, Option·some-ne-none}
+use mathlib.Core.Path.{_≡_, ap, sym, _∙_}
+use Prim.Native.Nat.{_<_}
+use lib.ListN.{length}
+use Rattle.tree.specs.Record.{records}
 use Rattle.tree.specs.Check.{refusal}
 use Rattle.tree.specs.Order.{from3}
-use Rattle.tree.proofs.Order.{ragged, many-records, many-names, past-2, cleared}
+use Rattle.tree.proofs.Telling.{tells-misses}
+use Rattle.tree.proofs.Listing.{list-told}
+use Rattle.tree.proofs.Order.{ragged, many-records, many-names, past-2, cleared, unrefused}
 use Rattle.tree.proofs.check.Statement.{statement}
 use Rattle.tree.proofs.check.Tie as tie
 
 abbrev start : tie.Else3 → tie.Start
-start c = c .before .before .before .before .before
+start c = c .before .before .before .before .before .before
 
 from-3 : (c : tie.Else3) → refusal (start c .args .names) (start c .args .rs .now) ≡ from3 (start c .args .names) (start c .args .rs .now)
 from-3 c = past-2 _ _ (c .before .before .before .if1 .left) (omega arith) (c .if3 .left)
 
+-- with a table that is long enough, the pass did not clear what comes to the checks in order
+refused : (c : tie.Joined4) → let s = start (c .before .before) in length (records (s .args .rs .now)) < length (s .args .tops .now) → refusal (s .args .names) (s .args .rs .now) ≡ none → ⊥
+refused c h e = ⊎-elim (λ p. tells-misses (p .2 .ensures .0) (p .5 .left) (unrefused _ _ e)) (λ p. omega (arith, p .0 .left, c .before .len2 .ensures)) (c .if4 .came)
+
 returns : tie.Need-returns
-returns c = ragged _ _ (c .if1 .taken)
+returns c = (ragged _ _ (c .if1 .taken), λ e. absurd (Option·some-ne-none _ e))
 
 len-requires : tie.Need-len-requires
 len-requires c κs = search needs
 
 returns-2 : tie.Need-returns-2
-returns-2 c = many-records _ _ (c .before .before .if1 .left) (omega arith)
+returns-2 c = (many-records _ _ (c .before .before .if1 .left) (omega arith), λ e. absurd (Option·some-ne-none _ e))
 
 returns-3 : tie.Need-returns-3
-returns-3 c = many-names _ _ (c .before .before .before .if1 .left) (omega arith) (c .if3 .taken)
+returns-3 c = (many-names _ _ (c .before .before .before .if1 .left) (omega arith) (c .if3 .taken), λ e. absurd (Option·some-ne-none _ e))
+
+len-requires-2 : tie.Need-len-requires-2
+len-requires-2 c κs = search needs
 
 clear-requires : tie.Need-clear-requires
 clear-requires c κs = search needs
@@ -32,17 +46,27 @@ clear-requires c κs = search needs
 last-requires : tie.Need-last-requires
 last-requires c κs = search needs
 
+same-length : tie.Need-same-length
+same-length c = search needs
+
 returns-4 : tie.Need-returns-4
 returns-4 c =
-    let d = c .before .before in
-    let N = start (d .before) .args .names in
-    c .last .ensures N ∙ sym (from-3 (d .before) ∙ cleared N _ (d .clear .ensures .yes (c .before .if4 .taken)))
+    let d = c .before .before .before .before in
+    let b = d .before .before .before .before in
+    let N = start b .args .names in
+    let y = c .before .if5 .taken in
+    (c .last .ensures N ∙ sym (from-3 b ∙ cleared N _ (d .clear .ensures .0 .yes y)), λ e h. list-told (d .clear .ensures .1 y))
 
 in-order-requires : tie.Need-in-order-requires
 in-order-requires c κs = search needs
 
+same-length-2 : tie.Need-same-length-2
+same-length-2 c = ⊎-elim (λ p. ap length (p .6) ∙ p .2 .kept .1 .1 .0) (λ p. ap length (p .1)) (c .before .if4 .came)
+
 returns-5 : tie.Need-returns-5
-returns-5 c = c .in-order .ensures ∙ sym (from-3 (c .before .before .before))
+returns-5 c =
+    let e = c .in-order .ensures ∙ sym (from-3 (c .before .before .before)) in
+    (e, λ z h. absurd (refused (c .before) h (sym e ∙ z)))
 
 pub check-spec : {M : Type 1} → statement M
 check-spec =
@@ -52,8 +76,11 @@ check-spec =
     len-requires
     returns-2
     returns-3
+    len-requires-2
     clear-requires
     last-requires
+    same-length
     returns-4
     in-order-requires
+    same-length-2
     returns-5)

@@ -47,17 +47,17 @@ empty (o ∷ s) e = absurd (omega arith)
 
 module _ (N : ℕ) (rs : List ℕ) where
   -- each check alone
-  record Silent : Type 0 where
-    c1 : check1 N rs ≡ none
-    c2 : check2 N rs ≡ none
-    c3 : check3 N rs ≡ none
-    c4 : check4 N rs ≡ none
-    c5 : check5 N rs ≡ none
-    c6 : check6 N rs ≡ none
-    c7 : check7 N rs ≡ none
-    c8 : check8 N rs ≡ none
+  pub record Silent : Type 0 where
+    pub c1 : check1 N rs ≡ none
+    pub c2 : check2 N rs ≡ none
+    pub c3 : check3 N rs ≡ none
+    pub c4 : check4 N rs ≡ none
+    pub c5 : check5 N rs ≡ none
+    pub c6 : check6 N rs ≡ none
+    pub c7 : check7 N rs ≡ none
+    pub c8 : check8 N rs ≡ none
 
-  silent : refusal N rs ≡ none → Silent
+  pub silent : refusal N rs ≡ none → Silent
   unfolding refusal
   silent e =
       let h1 = passed 1 (check1 N rs) _ e in

@@ -1,34 +1,40 @@
--- `clear`: none of the checks applies to the records so far.
+-- `clear`: none of the checks applies to the records so far, and those at top level are listed.
 use borrow.Author.Needs.{needs}
 use borrow.Author.Tests.{not-true, not-false, eqb-true, eq-eqb}
 use native.Mathlib.Omega.{arith}
-use Prim.Native.Nat.{_-_}
-use lib.ListN.{length}
+use Prim.Native.Nat.{_-_, _≤_}
+use mathlib.Core.Bool.{true≢false}
+use mathlib.Core.Path.{_≡_, refl, sym}
+use lib.ListN.{length, length-set}
 use Rattle.tree.specs.Record.{records}
 use Rattle.tree.specs.RecordLaws.{nth}
 use Rattle.tree.specs.Limits.{Within}
 use Rattle.tree.proofs.Telling.{tells-no, tells-without}
 use Rattle.tree.proofs.Limiting.{tells-sound, names-at, children-at, names-few, children-few}
+use Rattle.tree.proofs.Listing.{one-listed, list-end}
 use Rattle.tree.proofs.Standing.{stand-some, stand-last, stand-under}
 use Rattle.tree.proofs.Sweeping.{Sweeping, sweep-begin, sweep-next, sweep-end, clear-sound, clear-near, clear-none}
 use Rattle.tree.proofs.sweep.clear.Statement.{statement}
 use Rattle.tree.proofs.sweep.clear.Tie as tie
 
 abbrev Inv-loop : tie.InvT-loop
-Inv-loop rs names n t kept₀ inner₀ due₀ i₀ kept inner due i = Sweeping names rs kept inner due i
+Inv-loop rs names tops₀ n t kept₀ inner₀ due₀ top₀ i₀ tops kept inner due top i = (Sweeping names rs tops kept inner due top i) × (length tops ≡ length tops₀)
 
 abbrev μ-loop : tie.MeasureT-loop
-μ-loop rs names n t kept₀ inner₀ due₀ i₀ kept inner due i = length (records rs) - i
+μ-loop rs names tops₀ n t kept₀ inner₀ due₀ top₀ i₀ tops kept inner due top i = length (records rs) - i
 
 -- the loop's turn
 abbrev loop : tie.Else1 Inv-loop μ-loop → tie.At-loop Inv-loop μ-loop
 loop c = c .before .before .before .before
 
 abbrev passed : tie.After-t3 Inv-loop μ-loop → tie.Else1 Inv-loop μ-loop
-passed c = c .before .before .before .before .before .before .before
+passed c = c .before .before .before .before .before .before .before .before .before
+
+abbrev shallow : tie.Else2 Inv-loop μ-loop → tie.At-loop Inv-loop μ-loop
+shallow c = loop (c .before .before .before .before .before)
 
 -- the record is within its form's limits
-fit : (c : tie.Else1 Inv-loop μ-loop) → let l = loop c in Within (l .before .all .result) (nth (l .before .before .before .before .args .rs .now) (l .loop .i)) (l .loop .due)
+fit : (c : tie.Else1 Inv-loop μ-loop) → let l = loop c in Within (l .before .all .result) (nth (l .before .before .before .before .before .args .rs .now) (l .loop .i)) (l .loop .due)
 fit c = c .before .within .ensures .yes (not-false _ (c .if1 .left))
 
 len-requires : tie.Need-len-requires Inv-loop μ-loop
@@ -37,23 +43,28 @@ len-requires c κs = search needs
 all-requires : tie.Need-all-requires Inv-loop μ-loop
 all-requires c κs = search needs
 
-add-t10 : tie.Need-add-t10 Inv-loop μ-loop
-add-t10 c = search needs
+add-result : tie.Need-add-result Inv-loop μ-loop
+add-result c = search needs
 
-mul-t11 : tie.Need-mul-t11 Inv-loop μ-loop
-mul-t11 c = search needs
+mul-result : tie.Need-mul-result Inv-loop μ-loop
+mul-result c = search needs
 
 loop-holds : tie.Need-loop-holds Inv-loop μ-loop
-loop-holds c = sweep-begin _ _ (c .before .before .before .pre) (c .before .len .ensures)
+loop-holds c = let s = c .before .before .before .before in (sweep-begin _ _ _ (s .pre .0) (s .pre .1) (c .before .len .ensures), refl)
 
 within-requires : tie.Need-within-requires Inv-loop μ-loop
 within-requires c κs = omega arith
 
+same-length : tie.Need-same-length Inv-loop μ-loop
+same-length c = search needs
+
 returns : tie.Need-returns Inv-loop μ-loop
 returns c =
     let d = c .before in
-    let l = d .before .before .before in
-    tells-without (tells-sound _ (l .before .all .ensures) _ (l .loop .inv .few) (d .within .ensures)) (not-true _ (c .if1 .taken)) (λ k. clear-sound (l .loop .inv) k (omega arith))
+    let l = d .before .before .before in (
+      tells-without (tells-sound _ (l .before .all .ensures) _ (l .loop .inv .0 .few) (d .within .ensures)) (not-true _ (c .if1 .taken)) (λ k. clear-sound (l .loop .inv .0) k (omega arith)),
+      λ f. absurd (true≢false (sym f)),
+    )
 
 taken-requires : tie.Need-taken-requires Inv-loop μ-loop
 taken-requires c κs = search needs
@@ -68,10 +79,34 @@ add-due : tie.Need-add-due Inv-loop μ-loop
 add-due c =
     let e = c .before .before .before in
     let l = loop e in
-    omega (arith, c .parts .ensures, names-few _ (l .before .all .ensures) _ (fit e), c .before .before .taken .ensures, l .loop .inv .few)
+    omega (arith, c .parts .ensures, names-few _ (l .before .all .ensures) _ (fit e), c .before .before .taken .ensures, l .loop .inv .0 .few)
+
+same-length-2 : tie.Need-same-length-2 Inv-loop μ-loop
+same-length-2 c = search needs
 
 returns-2 : tie.Need-returns-2 Inv-loop μ-loop
-returns-2 c = tells-no (λ k. let h = clear-near (loop (c .before .before .before .before .before) .loop .inv) k (omega arith) in omega arith)
+returns-2 c = (
+  tells-no (λ k. let h = clear-near (loop (c .before .before .before .before .before) .loop .inv .0) k (omega arith) in omega arith),
+  λ f. absurd (true≢false (sym f)),
+)
+
+cast-tops : tie.Need-cast-tops Inv-loop μ-loop
+cast-tops c = search needs
+
+mul-tops : tie.Need-mul-tops Inv-loop μ-loop
+mul-tops c = search needs
+
+slice-write-tops : tie.Need-slice-write-tops Inv-loop μ-loop
+slice-write-tops c = let a = shallow c .loop .inv .0 .places .listed in omega arith
+
+pick-requires : tie.Need-pick-requires Inv-loop μ-loop
+pick-requires c κs = search needs
+
+add-top : tie.Need-add-top Inv-loop μ-loop
+add-top c =
+    let a = shallow (c .before .before) .loop .inv .0 .places .listed in
+    let one : c .pick .result ≤ 1 = rw (c .pick .ensures) (search one-listed) in
+    omega arith
 
 slice-aggregate-step : tie.Need-slice-aggregate-step Inv-loop μ-loop
 slice-aggregate-step c = search needs
@@ -86,13 +121,13 @@ step-requires : tie.Need-step-requires Inv-loop μ-loop
 step-requires c κs =
     let e = passed (c .before) in
     let l = loop e in
-    let a = l .loop .inv .places in (
+    let a = l .loop .inv .0 .places in (
       stand-some a (omega arith),
       (
         a .few,
         (
           stand-last a (omega arith),
-          (stand-under a (omega arith) (omega (arith, c .before .before .before .if2 .left)), omega (arith, c .parts2 .ensures, children-few _ (l .before .all .ensures) _ (fit e))),
+          (stand-under a (omega arith) (omega (arith, c .before .before .before .before .before .if2 .left)), omega (arith, c .parts2 .ensures, children-few _ (l .before .all .ensures) _ (fit e))),
         ),
       ),
     )
@@ -106,18 +141,36 @@ loop-less c = omega arith
 loop-again : tie.Need-loop-again Inv-loop μ-loop
 loop-again c =
     let d = c .before .before in
-    let p = d .before .before .before .before .before in
+    let p = d .before .before .before .before .before .before .before in
     let e = passed (d .before) in
     let l = loop e in
     let k = l .before .all .ensures in
-    let f = fit e in
-    sweep-next (l .loop .inv) (omega arith) (tells-sound _ k _ (l .loop .inv .few) (e .before .within .ensures) .yes (not-false _ (e .if1 .left)))
-    (rw (p .before .before .taken .ensures, p .parts .ensures, names-at _ k _ f)) (d .before .before .before .if2 .left) (c .before .step .ensures) (rw (d .parts2 .ensures) (children-at _ k _ f))
+    let f = fit e in (
+      rw (d .before .before .before .pick .ensures)
+          (sweep-next (l .loop .inv .0) (omega arith) (tells-sound _ k _ (l .loop .inv .0 .few) (e .before .within .ensures) .yes (not-false _ (e .if1 .left)))
+          (rw (p .before .before .taken .ensures, p .parts .ensures, names-at _ k _ f)) (d .before .before .before .before .before .if2 .left) (c .before .step .ensures)
+          (rw (d .parts2 .ensures) (children-at _ k _ f))),
+      simp length-set (l .loop .inv .1),
+    )
+
+cast-tops-2 : tie.Need-cast-tops-2 Inv-loop μ-loop
+cast-tops-2 c = search needs
+
+mul-tops-2 : tie.Need-mul-tops-2 Inv-loop μ-loop
+mul-tops-2 c = search needs
+
+slice-write-tops-2 : tie.Need-slice-write-tops-2 Inv-loop μ-loop
+slice-write-tops-2 c = let a = c .before .loop .inv .0 .places .listed in omega arith
+
+same-length-3 : tie.Need-same-length-3 Inv-loop μ-loop
+same-length-3 c = simp length-set (c .before .before .loop .inv .1)
 
 returns-3 : tie.Need-returns-3 Inv-loop μ-loop
 returns-3 c =
-    let a = c .before .before .loop .inv in
-    record { yes = λ t. sweep-end a (omega arith) (eqb-true _ _ t); all = λ k. eq-eqb _ _ (clear-none a k (omega arith)) }
+    let a = c .before .before .loop .inv .0 in (
+      record { yes = λ t. sweep-end a (omega arith) (eqb-true _ _ t); all = λ k. eq-eqb _ _ (clear-none a k (omega arith)) },
+      λ _. list-end (a .places .listed) (c .before .before .before .before .len .ensures) (omega arith),
+    )
 
 pub clear-spec : {M : Type 1} → statement M
 clear-spec =
@@ -127,19 +180,30 @@ clear-spec =
     μ-loop
     len-requires
     all-requires
-    add-t10
-    mul-t11
+    add-result
+    mul-result
     loop-holds
     within-requires
+    same-length
     returns
     taken-requires
     parts-requires
     add-due
+    same-length-2
     returns-2
+    cast-tops
+    mul-tops
+    slice-write-tops
+    pick-requires
+    add-top
     slice-aggregate-step
     parts-requires-2
     step-requires
     add-i
     loop-less
     loop-again
+    cast-tops-2
+    mul-tops-2
+    slice-write-tops-2
+    same-length-3
     returns-3)

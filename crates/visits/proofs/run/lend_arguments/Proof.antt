@@ -13,7 +13,7 @@ same-length c = search needs
 
 returns : tie.Need-returns
 returns c =
-    let o = c .before .before .before .before .before .before .before .before .before .before .args in
+    let o = c .before .before .before .before .before .before .before .before .before .before .before .args in
     let l = c .before .before .lend-work .ensures in (
       rw (c .before .work .given .1 .0 (sym (ap (λ (t : ℕ × ℕ × ℕ × ℕ). t .3) (l .1)))) (l .0),
       ap (λ (t : ℕ × ℕ × ℕ × ℕ). (t .0, t .1, t .2, o .work .name)) (l .1),

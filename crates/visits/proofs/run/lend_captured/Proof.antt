@@ -16,7 +16,7 @@ same-length-2 c = search needs
 
 returns : tie.Need-returns
 returns c =
-    let o = c .before .before .before .before .before .before .before .before .before .before .before .before .before .args in
+    let o = c .before .before .before .before .before .before .before .before .before .before .before .before .before .before .args in
     let l = c .before .before .before .before .lend-arguments .ensures in (
       rw (c .before .before .before .arguments .given .1 .0 (sym (ap (λ (t : ℕ × ℕ × ℕ × ℕ). t .2) (l .1)))) (l .0),
       ap (λ (t : ℕ × ℕ × ℕ × ℕ). (t .0, t .1, o .arguments .name, o .work .name)) (l .1),

@@ -19,7 +19,7 @@ same-length-3 c = search needs
 
 returns : tie.Need-returns
 returns c =
-    let o = c .before .before .before .before .before .before .before .before .before .before .before .before .before .before .before .before .args in
+    let o = c .before .before .before .before .before .before .before .before .before .before .before .before .before .before .before .before .before .args in
     let l = c .before .before .before .before .before .before .lend-captured .ensures in (
       rw (c .before .before .before .before .before .captured .given .1 .0 (sym (ap (λ (t : ℕ × ℕ × ℕ × ℕ). t .1) (l .1)))) (l .0),
       ap (λ (t : ℕ × ℕ × ℕ × ℕ). (t .0, o .captured .name, o .arguments .name, o .work .name)) (l .1),

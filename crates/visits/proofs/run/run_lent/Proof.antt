@@ -11,10 +11,10 @@ slice-aggregate-enter-tops-2 : tie.Need-slice-aggregate-enter-tops-2
 slice-aggregate-enter-tops-2 c = search needs
 
 enter-tops-requires : tie.Need-enter-tops-requires
-enter-tops-requires c κs = tops-enter (c .before .before .before .before .before .pre)
+enter-tops-requires c κs = let o = c .before .before .before .before .before .before in (o .pre .0, tops-enter (o .pre .1))
 
 visit-tops-requires : tie.Need-visit-tops-requires
-visit-tops-requires c κs = let entered = c .before .before .before .before .before in tops-fit (entered .enter-tops .ensures) (entered .before .before .before .before .before .before .pre)
+visit-tops-requires c κs = let entered = c .before .before .before .before .before in tops-fit (entered .enter-tops .ensures) (entered .before .before .before .before .before .before .before .pre .1)
 
 returns : tie.Need-returns
 returns c = (run-done (c .before .before .before .before .before .before .enter-tops .ensures) (c .visit-tops .ensures .0), c .visit-tops .ensures .1)

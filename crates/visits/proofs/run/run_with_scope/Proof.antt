@@ -9,7 +9,10 @@ store-requires : tie.Need-store-requires
 store-requires c κs = search needs
 
 lend-facts-requires : tie.Need-lend-facts-requires
-lend-facts-requires c κs = rw (c .before .before .before .before .before .before .before .store .ensures) (c .before .before .before .before .before .before .before .before .before .before .before .before .before .before .before .pre)
+lend-facts-requires c κs =
+    let stored = c .before .before .before .before .before .before .before in
+    let o = stored .before .before .before .before .before .before .before .before .before in
+    (o .pre .0, rw (stored .store .ensures) (o .pre .1))
 
 load-requires : tie.Need-load-requires
 load-requires c κs = search needs
