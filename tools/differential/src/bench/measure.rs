@@ -17,8 +17,8 @@ pub type Tables = [Vec<u32>; LENGTHS.len()];
 #[derive(Clone, Copy)]
 pub struct Port {
     pub call: f64,
-    /// A call of no records: clearing the tables.
-    pub empty: f64,
+    /// Without a call of no records, which is clearing the tables.
+    pub net: f64,
 }
 
 /// Nanoseconds.
@@ -36,11 +36,7 @@ impl Port {
     /// Each time, of those of many.
     fn of(many: &[Port], join: impl Fn(Vec<f64>) -> f64) -> Port {
         let each = |time: fn(&Port) -> f64| join(many.iter().map(time).collect());
-        Port { call: each(|t| t.call), empty: each(|t| t.empty) }
-    }
-
-    pub fn net(self) -> f64 {
-        self.call - self.empty
+        Port { call: each(|t| t.call), net: each(|t| t.net) }
     }
 }
 
@@ -131,21 +127,36 @@ fn port_times(
     let mut tables = lengths.map(|length| vec![0; length]);
     let mut time = |input: &Input| port_time(|| call(black_box(input), &mut tables));
     let empty = time(&Input::default());
-    inputs.iter().map(|input| Port { call: time(input), empty }).collect()
+    let port = |call| Port { call, net: call - empty };
+    inputs.iter().map(|input| port(time(input))).collect()
+}
+
+fn runs(run: Run) -> usize {
+    match run {
+        Run::Fresh => 1,
+        Run::Settled => 2,
+    }
+}
+
+/// The original's times of all inputs together, on an empty `Analysis`.
+pub fn original(inputs: &[Input], run: Run) -> f64 {
+    inputs.iter().map(|input| original_times(input, runs(run))[0]).sum()
+}
+
+/// Memory that is given back stays with the process from now on: the C library keeps blocks below the largest that it was given back.
+pub fn keep_memory() {
+    const LARGE: usize = 31 << 20;
+    drop(black_box(vec![0u8; LARGE]));
 }
 
 /// The times of each input.
 pub fn measure(inputs: &[Input], run: Run, earlier: Option<&Earlier>) -> Vec<Times> {
-    let runs = match run {
-        Run::Fresh => 1,
-        Run::Settled => 2,
-    };
     let ports = port_times(inputs, LENGTHS, |input, tables| {
         port::call(run, input, tables.each_mut().map(Vec::as_mut_slice)).is_none()
     });
     let earlier = earlier.map(|e| port_times(inputs, e.lengths, |input, tables| e.call(run, input, tables)));
     let times = |(i, input): (usize, &Input)| {
-        let [analysis, whole] = original_times(input, runs);
+        let [analysis, whole] = original_times(input, runs(run));
         Times { analysis, whole, port: ports[i], earlier: earlier.as_ref().map(|times| times[i]) }
     };
     inputs.iter().enumerate().map(times).collect()
@@ -156,21 +167,21 @@ mod tests {
     use super::*;
 
     fn times(time: f64) -> Times {
-        let port = Port { call: 3.0 * time, empty: time };
+        let port = Port { call: 3.0 * time, net: 2.0 * time };
         Times { analysis: time, whole: 2.0 * time, port, earlier: Some(port) }
     }
 
     #[test]
     fn a_round_that_was_disturbed_does_not_count() {
         let median = Times::median(&[times(4.0), times(-100.0), times(5.0), times(900.0)]);
-        assert_eq!((median.analysis, median.whole, median.port.net()), (4.5, 9.0, 9.0));
-        assert_eq!(median.earlier.map(Port::net), Some(9.0));
+        assert_eq!((median.analysis, median.whole, median.port.net), (4.5, 9.0, 9.0));
+        assert_eq!(median.earlier.map(|port| port.net), Some(9.0));
     }
 
     #[test]
     fn a_sum_has_an_earlier_port_where_all_have_one() {
         let sum = Times::sum(&[times(1.0), times(2.0)]);
-        assert_eq!((sum.analysis, sum.port.net(), sum.earlier.map(Port::net)), (3.0, 6.0, Some(6.0)));
+        assert_eq!((sum.analysis, sum.port.net, sum.earlier.map(|port| port.net)), (3.0, 6.0, Some(6.0)));
         let without = Times { earlier: None, ..times(2.0) };
         assert!(Times::sum(&[times(1.0), without]).earlier.is_none());
     }

@@ -8,7 +8,7 @@ mod sets;
 
 use crate::port::Run;
 use earlier::Earlier;
-use measure::{measure, Times};
+use measure::{keep_memory, measure, original, Times};
 use sets::Set;
 use std::path::Path;
 use std::process::ExitCode;
@@ -16,23 +16,43 @@ use std::process::ExitCode;
 /// Rounds over all trees, so that other work on the machine meets all alike.
 const ROUNDS: usize = 10;
 
-/// The times of a set's trees, one of each round.
+/// The times of a set's trees with both runs.
 struct Measured {
     set: Set,
-    fresh: Vec<Vec<Times>>,
-    settled: Vec<Vec<Times>>,
+    fresh: Rounds,
+    settled: Rounds,
+}
+
+#[derive(Clone)]
+struct Rounds {
+    /// Of each tree, those of each round.
+    trees: Vec<Vec<Times>>,
+    /// The original's of all trees, when memory stays with the process.
+    kept: f64,
 }
 
 impl Measured {
     fn new(set: Set) -> Self {
-        let none = vec![Vec::new(); set.inputs.len()];
+        let none = Rounds { trees: vec![Vec::new(); set.inputs.len()], kept: 0.0 };
         Measured { set, fresh: none.clone(), settled: none }
     }
 
+    fn both(&mut self) -> (&Set, [(Run, &mut Rounds); 2]) {
+        (&self.set, [(Run::Fresh, &mut self.fresh), (Run::Settled, &mut self.settled)])
+    }
+
     fn measure(&mut self, earlier: Option<&Earlier>) {
-        for (run, kept) in [(Run::Fresh, &mut self.fresh), (Run::Settled, &mut self.settled)] {
-            let times = measure(&self.set.inputs, run, earlier);
-            kept.iter_mut().zip(times).for_each(|(kept, times)| kept.push(times));
+        let (set, both) = self.both();
+        for (run, rounds) in both {
+            let times = measure(&set.inputs, run, earlier);
+            rounds.trees.iter_mut().zip(times).for_each(|(tree, times)| tree.push(times));
+        }
+    }
+
+    fn measure_kept(&mut self) {
+        let (set, both) = self.both();
+        for (run, rounds) in both {
+            rounds.kept = original(&set.inputs, run);
         }
     }
 }
@@ -58,5 +78,7 @@ fn measure_all(seed: u64, before: Option<&Path>) -> Result<(), String> {
         eprintln!("round {round} of {ROUNDS}");
         shapes.iter_mut().chain(&mut series).for_each(|set| set.measure(earlier));
     }
+    keep_memory();
+    shapes.iter_mut().for_each(Measured::measure_kept);
     page::write(seed, earlier.map_or("", |e| &e.about), &shapes, &series)
 }

@@ -2,7 +2,7 @@
 
 use super::measure::{Port, Times};
 use super::sets::Set;
-use super::Measured;
+use super::{Measured, Rounds};
 use crate::record::WIDTH;
 use std::fs;
 
@@ -21,6 +21,8 @@ repetitions and 0.04 seconds.
 
 - **analysis**: the original's `run_with_scope` on an empty `Analysis`, once or twice.
 - **whole**: the same with making and dropping the `Analysis`.
+- **kept**: analysis again, measured last, when the C library keeps the memory that the original gives back; else it takes large blocks from the
+  system at each run and gives them back.
 - **call**: the port's `fresh` or `settled`, which checks the records and writes every number of the lent tables, a million bytes.
 - **net**: the call without what a call of no records takes, which is clearing the tables.
 - **ratio**: net divided by analysis.
@@ -55,8 +57,8 @@ fn micros(nanos: f64) -> String {
 }
 
 /// Of all trees of a set together, each with the median of its rounds.
-fn total(trees: &[Vec<Times>]) -> Times {
-    let medians: Vec<Times> = trees.iter().map(|rounds| Times::median(rounds)).collect();
+fn total(rounds: &Rounds) -> Times {
+    let medians: Vec<Times> = rounds.trees.iter().map(|tree| Times::median(tree)).collect();
     Times::sum(&medians)
 }
 
@@ -81,26 +83,22 @@ fn ports(times: &Times) -> Vec<(&'static str, Port)> {
 
 fn table(sets: &[Measured]) -> String {
     let first = total(&sets[0].fresh);
-    let mut numbers: Vec<String> = ["records", "analysis", "whole"].map(String::from).into();
+    let mut numbers: Vec<String> = ["records", "analysis", "whole", "kept"].map(String::from).into();
     for (when, _) in ports(&first) {
         numbers.extend(["call", "net", "ratio"].map(|what| format!("{when}: {what}")));
     }
     let mut out = head(&["trees", "run"], &numbers);
     for Measured { set, fresh, settled } in sets {
-        for (run, times) in [("fresh", fresh), ("settled", settled)] {
-            let t = total(times);
+        for (run, rounds) in [("fresh", fresh), ("settled", settled)] {
+            let t = total(rounds);
             let trees = match set.inputs.len() {
                 1 => set.name.clone(),
                 number => format!("{number} {}", set.name),
             };
-            let mut cells =
-                vec![trees, run.to_string(), count(set).to_string(), micros(t.analysis), micros(t.whole)];
+            let mut cells = vec![trees, run.to_string(), count(set).to_string()];
+            cells.extend([t.analysis, t.whole, rounds.kept].map(micros));
             for (_, port) in ports(&t) {
-                cells.extend([
-                    micros(port.call),
-                    micros(port.net()),
-                    format!("{:.2}", port.net() / t.analysis),
-                ]);
+                cells.extend([micros(port.call), micros(port.net), format!("{:.2}", port.net / t.analysis)]);
             }
             out += &row(cells);
         }
@@ -121,7 +119,7 @@ fn sizes(sets: &[Measured]) -> String {
         let mut cells = vec![set.name.clone(), records.to_string()];
         for t in [total(fresh), total(settled)] {
             cells.push(format!("{:.0}", t.analysis / records));
-            cells.extend(ports(&t).into_iter().map(|(_, port)| format!("{:.0}", port.net() / records)));
+            cells.extend(ports(&t).into_iter().map(|(_, port)| format!("{:.0}", port.net / records)));
         }
         out += &row(cells);
     }
