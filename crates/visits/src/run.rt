@@ -1,5 +1,6 @@
 // `run_with_scope`: a run over the top level.
 use crate::visit::visit;
+use crate::visit::visit_body;
 use flags::Flags;
 use registers::REGISTERS;
 use registers::load;
@@ -147,7 +148,7 @@ fn visit_top_define(
 {
     let b = body_at(*classes, *all, at + 2);
     before_top_define(*all, at, b, r, *facts, *work);
-    let o = visit(
+    let o = visit_body(
         classes,
         all,
         &rs[12..],

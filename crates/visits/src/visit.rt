@@ -325,7 +325,7 @@ fn visit_define(
     let b = body_at(*classes, *all, at + 2);
     let outer = context(r);
     open_define(*all, at, f.direct, b, r, *facts, *work);
-    let o = visit_part(
+    let o = visit_body(
         classes,
         all,
         &rs[12..],
@@ -341,8 +341,9 @@ fn visit_define(
     2 + o
 }
 
-// A lambda's body. `visit_lambda_function` calls itself through this one: so the compiler keeps the arrays of a lambda's end out of the frames of the visits.
-fn visit_body(
+// The body of a lambda or of a define: it is often a lambda, and then needs no call of `visit`. `visit_lambda_function` calls itself through this one: so the compiler
+// keeps the arrays of a lambda's end out of the frames of the visits.
+pub fn visit_body(
     classes: &&[u8],
     all: &&[u32],
     rs: &[u32],

@@ -17,7 +17,7 @@ to-told c = c .before .before .before .before .before
 abbrev to-entered : tie.After-top → tie.After-before-top-define
 to-entered c = c .before .before
 
-abbrev to-handed : tie.After-visit → tie.After-top
+abbrev to-handed : tie.After-visit-body → tie.After-top
 to-handed c = c .before .before .before .before .before .before
 
 add-body-at : tie.Need-add-body-at
@@ -35,23 +35,23 @@ slice-aggregate-before-top-define-2 c = search needs
 before-top-define-requires : tie.Need-before-top-define-requires
 before-top-define-requires c κs = let start = to-start (c .before .before .before .before) in define-fits (start .pre .1) (start .pre .0)
 
-sub-visit : tie.Need-sub-visit
-sub-visit c = let start = to-start (to-told c) in omega (arith, long (start .pre .1) (start .pre .0))
+sub-visit-body : tie.Need-sub-visit-body
+sub-visit-body c = let start = to-start (to-told c) in omega (arith, long (start .pre .1) (start .pre .0))
 
-part-visit-start : tie.Need-part-visit-start
-part-visit-start c = let start = to-start (to-told c) in omega (arith, long (start .pre .1) (start .pre .0))
+part-visit-body-start : tie.Need-part-visit-body-start
+part-visit-body-start c = let start = to-start (to-told c) in omega (arith, long (start .pre .1) (start .pre .0))
 
-part-visit-end : tie.Need-part-visit-end
-part-visit-end c = search needs
+part-visit-body-end : tie.Need-part-visit-body-end
+part-visit-body-end c = search needs
 
-add-visit : tie.Need-add-visit
-add-visit c = search needs
+add-visit-body : tie.Need-add-visit-body
+add-visit-body c = search needs
 
 top-requires : tie.Need-top-requires
 top-requires c κs = search needs
 
-visit-requires : tie.Need-visit-requires
-visit-requires c κs =
+visit-body-requires : tie.Need-visit-body-requires
+visit-body-requires c κs =
     let handed = c .before .before .before .before .before in
     let entered = to-entered handed in
     let told = to-told entered in
@@ -71,7 +71,7 @@ add-result c =
     let start = to-start told in
     let u =
     used-few (start .pre .1) (told .body-at .ensures) (entered .before-top-define .ensures) (handed .top .ensures)
-    (part (start .args .rs .now) 12) (visited .visit .ensures .0 .used) (start .pre .0) in
+    (part (start .args .rs .now) 12) (visited .visit-body .ensures .0 .used) (start .pre .0) in
     omega (arith, u)
 
 returns : tie.Need-returns
@@ -83,8 +83,8 @@ returns c =
     let start = to-start told in
     let done =
     define-done (start .pre .1) (told .body-at .ensures) (entered .before-top-define .ensures) (handed .top .ensures)
-    (part (start .args .rs .now) 12) (visited .visit .ensures .0) (c .after-top-define .ensures) in
-    (done, visited .visit .ensures .1)
+    (part (start .args .rs .now) 12) (visited .visit-body .ensures .0) (c .after-top-define .ensures) in
+    (done, visited .visit-body .ensures .1)
 
 pub visit-top-define-spec : {M : Type 1} → statement M
 visit-top-define-spec =
@@ -95,12 +95,12 @@ visit-top-define-spec =
     slice-aggregate-before-top-define
     slice-aggregate-before-top-define-2
     before-top-define-requires
-    sub-visit
-    part-visit-start
-    part-visit-end
-    add-visit
+    sub-visit-body
+    part-visit-body-start
+    part-visit-body-end
+    add-visit-body
     top-requires
-    visit-requires
+    visit-body-requires
     after-top-define-requires
     add-result
     returns)

@@ -215,7 +215,7 @@ abbrev pub visit-body-calls : ℕ → visit-body-lts.Claims
 visit-body-calls t = (form-reads.Asked, form-reads.Learnt, visit-lambda-function-below t, visit-lambda-function.Post, visit-part-below t, visit-part.Post)
 
 abbrev pub visit-define-calls : ℕ → visit-define-lts.Claims
-visit-define-calls t = (body-at-reads.Asked, body-at-reads.Learnt, context-reads.Asked, context-reads.Learnt, open-define-reads.Asked, open-define-reads.Learnt, part-reads.Asked, part-reads.Learnt, visit-part-below t, visit-part.Post, close-define-reads.Asked, close-define-reads.Learnt)
+visit-define-calls t = (body-at-reads.Asked, body-at-reads.Learnt, context-reads.Asked, context-reads.Learnt, open-define-reads.Asked, open-define-reads.Learnt, part-reads.Asked, part-reads.Learnt, visit-body-below t, visit-body.Post, close-define-reads.Asked, close-define-reads.Learnt)
 
 abbrev pub visit-if-calls : ℕ → visit-if-lts.Claims
 visit-if-calls t = (same-tail-reads.Asked, same-tail-reads.Learnt, not-tail-reads.Asked, not-tail-reads.Learnt, visit-part-below t, visit-part.Post)

@@ -27,10 +27,10 @@ module _ (t : ℕ) where
   abbrev to-open-define : lts.After-part (visit-define-calls t) (visit-define-at t) reads.Post → lts.After-open-define (visit-define-calls t) (visit-define-at t) reads.Post
   to-open-define c = c .before .before
 
-  abbrev to-define-body : lts.After-visit-part (visit-define-calls t) (visit-define-at t) reads.Post → lts.After-part (visit-define-calls t) (visit-define-at t) reads.Post
+  abbrev to-define-body : lts.After-visit-body (visit-define-calls t) (visit-define-at t) reads.Post → lts.After-part (visit-define-calls t) (visit-define-at t) reads.Post
   to-define-body c = c .before .before .before .before .before .before
 
-  abbrev to-visit : lts.After-close-define (visit-define-calls t) (visit-define-at t) reads.Post → lts.After-visit-part (visit-define-calls t) (visit-define-at t) reads.Post
+  abbrev to-visit : lts.After-close-define (visit-define-calls t) (visit-define-at t) reads.Post → lts.After-visit-body (visit-define-calls t) (visit-define-at t) reads.Post
   to-visit c = c .before .before .before .before .before
 
   first : (c : lts.Start (visit-define-calls t) (visit-define-at t) reads.Post) → 3 ≤ size (c .pre .1 .0 .t)
@@ -44,8 +44,8 @@ module _ (t : ℕ) where
       let start = to-start body-at in
       Done (start .args .classes .now .now) (start .args .all .now .now) (start .args .rs .now) (start .args .at) (start .args .f)
       (held (start .args .r .now) (start .args .facts .now .now) (start .args .captured .now .now) (start .args .arguments .now .now) (start .args .work .now .now))
-      (2 + visit .visit-part .result)
-      (held (c .close-define .last .1 .1 .1 .1 .1 .0) (c .close-define .last .1 .1 .1 .1 .1 .1 .0) (visit .visit-part .last .1 .1 .1 .1 .1 .1 .1 .0 .now) (visit .visit-part .last .1 .1 .1 .1 .1 .1 .1 .1 .0 .now) (c .close-define .last .1 .1 .1 .1 .1 .1 .1 .0))
+      (2 + visit .visit-body .result)
+      (held (c .close-define .last .1 .1 .1 .1 .1 .0) (c .close-define .last .1 .1 .1 .1 .1 .1 .0) (visit .visit-body .last .1 .1 .1 .1 .1 .1 .1 .0 .now) (visit .visit-body .last .1 .1 .1 .1 .1 .1 .1 .1 .0 .now) (c .close-define .last .1 .1 .1 .1 .1 .1 .1 .0))
   done c =
       let visit = to-visit c in
       let define-body = to-define-body visit in
@@ -54,7 +54,7 @@ module _ (t : ℕ) where
       let body-at = to-body-at context in
       let start = to-start body-at in
       define-done (start .pre .1 .1) (body-at .body-at .ensures) (open-define .open-define .ensures) (define-body .part .ensures)
-      (part (start .args .rs .now) 12) (visit .visit-part .ensures .0) (context-told (context .context .ensures) (c .close-define .ensures))
+      (part (start .args .rs .now) 12) (visit .visit-body .ensures .0) (context-told (context .context .ensures) (c .close-define .ensures))
 
   pub add-body-at : lts.Need-add-body-at (visit-define-calls t) (visit-define-at t) reads.Post
   add-body-at c = search needs
@@ -78,29 +78,29 @@ module _ (t : ℕ) where
       let start = to-start (to-body-at (c .before .before .before .before)) in
       begins-fit (start .pre .1 .1) (start .pre .1 .0)
 
-  pub sub-visit-part : lts.Need-sub-visit-part (visit-define-calls t) (visit-define-at t) reads.Post
-  sub-visit-part c =
+  pub sub-visit-body : lts.Need-sub-visit-body (visit-define-calls t) (visit-define-at t) reads.Post
+  sub-visit-body c =
       let start = to-start (to-body-at (to-context c)) in
       omega (arith, first start, bounds.whole (start .pre .1 .0))
 
-  pub part-visit-part-start : lts.Need-part-visit-part-start (visit-define-calls t) (visit-define-at t) reads.Post
-  part-visit-part-start c =
+  pub part-visit-body-start : lts.Need-part-visit-body-start (visit-define-calls t) (visit-define-at t) reads.Post
+  part-visit-body-start c =
       let start = to-start (to-body-at (to-context c)) in
       omega (arith, first start, bounds.whole (start .pre .1 .0))
 
-  pub part-visit-part-end : lts.Need-part-visit-part-end (visit-define-calls t) (visit-define-at t) reads.Post
-  part-visit-part-end c = search needs
+  pub part-visit-body-end : lts.Need-part-visit-body-end (visit-define-calls t) (visit-define-at t) reads.Post
+  part-visit-body-end c = search needs
 
-  pub add-visit-part : lts.Need-add-visit-part (visit-define-calls t) (visit-define-at t) reads.Post
-  add-visit-part c =
+  pub add-visit-body : lts.Need-add-visit-body (visit-define-calls t) (visit-define-at t) reads.Post
+  add-visit-body c =
       let start = to-start (to-body-at (to-context (c .before))) in
       omega (arith, first start, bounds.whole (start .pre .1 .0))
 
   pub part-requires : lts.Need-part-requires (visit-define-calls t) (visit-define-at t) reads.Post
   part-requires c κs = search needs
 
-  pub visit-part-requires : lts.Need-visit-part-requires (visit-define-calls t) (visit-define-at t) reads.Post
-  visit-part-requires c κs =
+  pub visit-body-requires : lts.Need-visit-body-requires (visit-define-calls t) (visit-define-at t) reads.Post
+  visit-body-requires c κs =
       let define-body = c .before .before .before .before .before in
       let open-define = to-open-define define-body in
       let body-at = to-body-at (to-context open-define) in
@@ -125,7 +125,7 @@ module _ (t : ℕ) where
       let body-at = to-body-at (to-context open-define) in
       let start = to-start body-at in
       ends-fit (start .pre .1 .1) (body-at .body-at .ensures) (open-define .open-define .ensures) (define-body .part .ensures)
-      (part (start .args .rs .now) 12) (visit .visit-part .ensures .0) (start .pre .1 .0)
+      (part (start .args .rs .now) 12) (visit .visit-body .ensures .0) (start .pre .1 .0)
 
   pub add-result : lts.Need-add-result (visit-define-calls t) (visit-define-at t) reads.Post
   add-result c =
@@ -133,4 +133,4 @@ module _ (t : ℕ) where
       omega (arith, bounds.used (start .pre .1 .0) (done c))
 
   pub returns : lts.Need-returns (visit-define-calls t) (visit-define-at t) reads.Post
-  returns c = (done c, to-visit c .visit-part .ensures .1)
+  returns c = (done c, to-visit c .visit-body .ensures .1)
