@@ -32,6 +32,12 @@ pub struct Times {
     pub earlier: Option<Port>,
 }
 
+/// The middle one of some, or of the two in the middle.
+pub fn middle(mut times: Vec<f64>) -> f64 {
+    times.sort_by(f64::total_cmp);
+    (times[(times.len() - 1) / 2] + times[times.len() / 2]) / 2.0
+}
+
 impl Port {
     /// Each time, of those of many.
     fn of(many: &[Port], join: impl Fn(Vec<f64>) -> f64) -> Port {
@@ -56,10 +62,7 @@ impl Times {
 
     /// The middle one of each: a round in which the clock or the machine was disturbed does not count.
     pub fn median(rounds: &[Times]) -> Times {
-        Times::of(rounds, |mut times| {
-            times.sort_by(f64::total_cmp);
-            (times[(times.len() - 1) / 2] + times[times.len() / 2]) / 2.0
-        })
+        Times::of(rounds, middle)
     }
 
     pub fn sum(many: &[Times]) -> Times {

@@ -15,6 +15,7 @@ use std::process::ExitCode;
 
 /// Rounds over all trees, so that other work on the machine meets all alike.
 const ROUNDS: usize = 10;
+const KEPT_ROUNDS: usize = 5;
 
 /// The times of a set's trees with both runs.
 struct Measured {
@@ -27,13 +28,13 @@ struct Measured {
 struct Rounds {
     /// Of each tree, those of each round.
     trees: Vec<Vec<Times>>,
-    /// The original's of all trees, when memory stays with the process.
-    kept: f64,
+    /// The original's of all trees, when memory stays with the process, of some rounds more.
+    kept: Vec<f64>,
 }
 
 impl Measured {
     fn new(set: Set) -> Self {
-        let none = Rounds { trees: vec![Vec::new(); set.inputs.len()], kept: 0.0 };
+        let none = Rounds { trees: vec![Vec::new(); set.inputs.len()], kept: Vec::new() };
         Measured { set, fresh: none.clone(), settled: none }
     }
 
@@ -52,7 +53,7 @@ impl Measured {
     fn measure_kept(&mut self) {
         let (set, both) = self.both();
         for (run, rounds) in both {
-            rounds.kept = original(&set.inputs, run);
+            rounds.kept.push(original(&set.inputs, run));
         }
     }
 }
@@ -79,6 +80,9 @@ fn measure_all(seed: u64, before: Option<&Path>) -> Result<(), String> {
         shapes.iter_mut().chain(&mut series).for_each(|set| set.measure(earlier));
     }
     keep_memory();
-    shapes.iter_mut().for_each(Measured::measure_kept);
+    for round in 1..=KEPT_ROUNDS {
+        eprintln!("memory kept: round {round} of {KEPT_ROUNDS}");
+        shapes.iter_mut().for_each(Measured::measure_kept);
+    }
     page::write(seed, earlier.map_or("", |e| &e.about), &shapes, &series)
 }

@@ -1,6 +1,6 @@
 //! docs/BENCHMARKS.md, written whole.
 
-use super::measure::{Port, Times};
+use super::measure::{middle, Port, Times};
 use super::sets::Set;
 use super::{Measured, Rounds};
 use crate::record::WIDTH;
@@ -21,7 +21,7 @@ repetitions and 0.04 seconds.
 
 - **analysis**: the original's `run_with_scope` on an empty `Analysis`, once or twice.
 - **whole**: the same with making and dropping the `Analysis`.
-- **kept**: analysis again, measured last, when the C library keeps the memory that the original gives back; else it takes large blocks from the
+- **kept**: analysis again, the median of five rounds more, when the C library keeps the memory that the original gives back; else it takes large blocks from the
   system at each run and gives them back.
 - **call**: the port's `fresh` or `settled`, which checks the records and writes every number of the lent tables, a million bytes.
 - **net**: the call without what a call of no records takes, which is clearing the tables.
@@ -96,7 +96,7 @@ fn table(sets: &[Measured]) -> String {
                 number => format!("{number} {}", set.name),
             };
             let mut cells = vec![trees, run.to_string(), count(set).to_string()];
-            cells.extend([t.analysis, t.whole, rounds.kept].map(micros));
+            cells.extend([t.analysis, t.whole, middle(rounds.kept.clone())].map(micros));
             for (_, port) in ports(&t) {
                 cells.extend([micros(port.call), micros(port.net), format!("{:.2}", port.net / t.analysis)]);
             }
