@@ -31,7 +31,7 @@ refers t =
     ap referenceIn (t .is)
     ∙ (λ i. some (reference (t .kind i) (t .refers i) (t .depth i) (t .slot i)))
 
-eqb-sym : (a b : ℕ) → eqb a b ≡ eqb b a
+pub eqb-sym : (a b : ℕ) → eqb a b ≡ eqb b a
 eqb-sym a b = go (eqb b a) refl
   where
     go : (q : Bool) → eqb b a ≡ q → eqb a b ≡ q

@@ -17,7 +17,7 @@ use Rattle.r7rs.specs.Run.{plain}
 use Rattle.execution.specs.Slot.{slots}
 use Rattle.execution.specs.Lock.{Lockstep}
 use Rattle.execution.specs.Premises.{FreshAccepts, SettledAccepts, Premises}
-use Rattle.execution.specs.References.{Referred, freshReference, freshBinder, settledReference, settledBinder}
+use Rattle.execution.specs.References.{Referred, LambdasMade, DefinesNamed, UsesCounted, freshReference, freshBinder, settledReference, settledBinder}
 use Rattle.execution.specs.Acceptance.{nineIn, tenIn, secondIn}
 use Rattle.execution.specs.Positions.{Same}
 
@@ -45,6 +45,19 @@ abbrev pub BindingSettled : Type 0
 BindingSettled =
     (classes rs : List ℕ) (ts : Trees) → SettledAccepts classes rs ts → innerDefines ts ≡ []
     → Referred ts (rows (settled classes ts)) (settledReference classes ts) (settledBinder classes ts)
+
+-- The same of each name that is defined at top level, and the depth of each lambda, inner defines or not
+
+abbrev pub DefinedFresh : Type 0
+DefinedFresh = (classes rs : List ℕ) (ts : Trees) → FreshAccepts classes rs ts → DefinesNamed ts (rows (fresh classes ts)) × LambdasMade ts (rows (fresh classes ts))
+
+abbrev pub DefinedSettled : Type 0
+DefinedSettled = (classes rs : List ℕ) (ts : Trees) → SettledAccepts classes rs ts → DefinesNamed ts (rows (settled classes ts)) × LambdasMade ts (rows (settled classes ts))
+
+-- How often each parameter and let name is used, after a fresh run
+
+abbrev pub UsesFresh : Type 0
+UsesFresh = (classes rs : List ℕ) (ts : Trees) → FreshAccepts classes rs ts → innerDefines ts ≡ [] → UsesCounted ts (rows (fresh classes ts))
 
 -- Demand 3. "Take any tree that the fresh run accepts, with no inner define and no set! of a parameter or let name that an inner lambda mentions. Run it
 -- on a machine that finds parameters and let names only by the recorded references, depths and slots, and gives up a frame before its return only at

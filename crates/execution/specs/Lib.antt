@@ -12,4 +12,7 @@ pub mod Carried
 pub mod Exact
 pub mod Settled
 pub mod BindingFresh
+pub mod DefinedNames
+pub mod UsesFresh
 pub mod BindingSettled
+pub mod Examples

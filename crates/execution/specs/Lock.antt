@@ -4,11 +4,11 @@ use mathlib.Core.List.{List, [], _∷_, _++_}
 use mathlib.Core.List.{List·Memᴰ as Member}
 use mathlib.Core.Bool.{cond}
 use mathlib.Core.Option.{Option, none, some}
-use mathlib.Core.Path.{_≡_}
+use mathlib.Core.Path.{_≡_, ap}
 use lib.ListN.{getElem?}
 use Rattle.tree.specs.Tree.{Tree, Trees, ident, const, if, letin, define, lambda, begin, call, set!, nil, cons}
 use Rattle.r7rs.specs.Binding.{Means}
-use Rattle.r7rs.specs.Machine.{Moment, start, entered, read, pushed, place, kend, kif, kseq, kpush, khead, kdrop, kret, kset, kdef, next, ended, stopped, Cells, lastN, butN}
+use Rattle.r7rs.specs.Machine.{Moment, start, entered, read, pushed, place, waiting, kend, kif, kseq, kpush, khead, kdrop, kret, kset, kdef, next, ended, stopped, Cells, lastN, butN}
 use Rattle.r7rs.specs.Plain.{Env, PVal, pconst, punit, pclo, Store, PMem, PBody, PKont, PState, POut}
 use Rattle.r7rs.specs.Run.{Ran}
 use Rattle.semantic.specs.Rows.{Row}
@@ -88,33 +88,16 @@ module _ (ts : Trees) (T : List Row) where
     abbrev pub LikeBody : SBody → PBody → Type 0
     LikeBody b b′ = EachName (b′ .of) (b′ .env) (LikeAt (pack (b .outer ++ (b .frame ∷ []))))
 
-    pub data LikeBodies : List SBody → List PBody → Type 0 where
+    -- of bodies that wait: the record of the call that each waits at, and its names
+    pub data LikeBodies : List (ℕ × SBody) → List (ℕ × PBody) → Type 0 where
       no-body : LikeBodies [] []
-      one-more : {b : SBody} {b′ : PBody} {bs : List SBody} {bs′ : List PBody} → LikeBody b b′ → LikeBodies bs bs′ → LikeBodies (b ∷ bs) (b′ ∷ bs′)
+      one-more : {i : ℕ} {b : SBody} {b′ : PBody} {bs : List (ℕ × SBody)} {bs′ : List (ℕ × PBody)} → LikeBody b b′ → LikeBodies bs bs′
+          → LikeBodies ((i, b) ∷ bs) ((i, b′) ∷ bs′)
 
--- "a body that ... waits and has made no recorded tail call"; T: the facts
-abbrev pub waitingP : List Row → PKont → List PBody
-waitingP T (kend es) = []
-waitingP T (kif t e k) = waitingP T k
-waitingP T (kseq e es k) = waitingP T k
-waitingP T (kpush i w n es k) = waitingP T k
-waitingP T (khead i n k) = waitingP T k
-waitingP T (kdrop n k) = waitingP T k
-waitingP T (kret i b k) = cond (isTail (rowOf T i)) (waitingP T k) (b ∷ waitingP T k)
-waitingP T (kset x k) = waitingP T k
-waitingP T (kdef x k) = waitingP T k
-
--- the frames of the bodies that wait
-abbrev pub waitingS : SKont → List SBody
-waitingS (kend es) = []
-waitingS (kif t e k) = waitingS k
-waitingS (kseq e es k) = waitingS k
-waitingS (kpush i w n es k) = waitingS k
-waitingS (khead i n k) = waitingS k
-waitingS (kdrop n k) = waitingS k
-waitingS (kret i b k) = b ∷ waitingS k
-waitingS (kset x k) = waitingS k
-waitingS (kdef x k) = waitingS k
+-- "a body that ... waits and has made no recorded tail call"; T: the facts. On the slot machine all that wait are such (`waiting`).
+abbrev pub untailed : List Row → List (ℕ × PBody) → List (ℕ × PBody)
+untailed T [] = []
+untailed T (w ∷ ws) = cond (isTail (rowOf T (w .0))) (untailed T ws) (w ∷ untailed T ws)
 
 -- "On either machine a value counts as pushed only until a let name or a parameter takes it": the pushed values of all bodies, the outermost first
 
@@ -151,12 +134,17 @@ pushedNow (pushed i w n es) k F = pushedS k (butN n F) ++ lastN n F
 module _ (ts : Trees) (T : List Row) where
   -- "both are at the same record, with like values in hand, pushed and in every cell, and like values for every bound parameter and let name
   -- mentioned by a body that runs or waits and has made no recorded tail call". "The bodies that demand 3 counts match the frames in order."
+  -- More is said than the same record: the moments are equal, and the callers wait at the same calls.
   pub record InStep (s : SState) (p : PState) : Type 0 where
-    pub places : place (s .moment) ≡ place (p .moment)
+    pub moments : s .moment ≡ p .moment
     pub hands : LikeHand ts T (p .mem .store) (s .hand) (p .hand)
     pub pushes : LikeAll ts T (p .mem .store) (pushedNow (s .moment) (s .kont) (s .body .frame)) (pushedP (p .kont) ++ p .body .stack)
     pub cells : LikeCells ts T (p .mem .store) (s .mem) (p .mem .cells)
-    pub bodies : LikeBodies ts T (p .mem .store) (s .body ∷ waitingS (s .kont)) (p .body ∷ waitingP T (p .kont))
+    pub running : LikeBody ts T (p .mem .store) (s .body) (p .body)
+    pub callers : LikeBodies ts T (p .mem .store) (waiting (s .kont)) (untailed T (waiting (p .kont)))
+
+  pub same-record : {s : SState} {p : PState} → InStep s p → place (s .moment) ≡ place (p .moment)
+  same-record i = ap place (i .moments)
 
   -- "or both have ended with like last values and cells, or both have stopped". Nothing else: no read or set! goes outside a frame.
   pub data Now : SOut → POut → Type 0 where

@@ -1,11 +1,12 @@
 -- What the facts have to say of each name, by R7RS's binding. Demand 2; document 01, "Rules of the pass".
-use Prim.Native.Nat.{ℕ}
+use Prim.Native.Nat.{ℕ, _+_}
 use mathlib.Core.List.{List, [], _∷_, _++_}
 use mathlib.Core.Bool.{Bool, true, false, cond, _&&_, _||_}
 use mathlib.Core.Option.{Option, none, some}
 use mathlib.Core.Path.{_≡_}
 use lib.Dec.{eqb}
 use Rattle.tree.specs.Tree.{Ident, Trees}
+use Rattle.tree.specs.Define.{topLevel}
 use Rattle.tree.specs.Check.{member}
 use Rattle.tree.specs.Accepted.{All}
 use Rattle.semantic.specs.Information.{NONE}
@@ -13,8 +14,8 @@ use Rattle.semantic.specs.Rows.{Row, Blank, Variable, Function, CallSite, Let}
 use Rattle.semantic.specs.declared.IdentifierStatus.{IdentifierStatus}
 use Rattle.semantic.specs.declared.IdentifierStatus.the-variants.{Global, Local, LetVar, Captured, Free, HeapAllocated}
 use Rattle.pass.specs.Read.{isPrelude}
-use Rattle.r7rs.specs.Binding.{Binder, Mention, events, mentionsIn, bindersIn, meant, isInner}
-use Rattle.r7rs.specs.Bottom.{bottomEntry}
+use Rattle.r7rs.specs.Binding.{Binder, Mention, events, mentionsIn, bindersIn, lambdasIn, meant, isInner}
+use Rattle.r7rs.specs.Bottom.{definesOf, bottomEntry}
 use Rattle.execution.specs.Facts.{rowOf}
 
 -- what a fact says of a name
@@ -33,6 +34,22 @@ referenceIn (Variable v) = some (reference (v .kind) (v .«refers_to») (v .dept
 referenceIn (Function v) = none
 referenceIn (CallSite v) = none
 referenceIn (Let v) = none
+
+-- the depth that a lambda's fact tells
+abbrev pub depthIn : Row → Option ℕ
+depthIn Blank = none
+depthIn (Variable v) = none
+depthIn (Function v) = some (v .depth)
+depthIn (CallSite v) = none
+depthIn (Let v) = none
+
+-- the uses that a name's fact has counted
+abbrev pub usesIn : Row → Option ℕ
+usesIn Blank = none
+usesIn (Variable v) = some (v .«usage_count»)
+usesIn (Function v) = none
+usesIn (CallSite v) = none
+usesIn (Let v) = none
 
 -- Mentions of a binder
 
@@ -54,6 +71,14 @@ any p (m ∷ l) = p m || any p l
 abbrev pub isWithin : List ℕ → Mention → Bool
 isWithin [] m = false
 isWithin (i ∷ is) m = member i (m .place .around)
+
+-- how many mentions pass a test
+unfoldable pub count : (Mention → Bool) → List Mention → ℕ
+count p [] = 0
+count p (m ∷ l) = cond (p m) 1 0 + count p l
+
+abbrev pub isOf : Binder → Mention → Bool
+isOf b m = isIt b (meant m)
 
 -- an inner lambda mentions b, and a set! sets it
 abbrev pub isShared : Binder → List Mention → Bool
@@ -116,3 +141,21 @@ pub record Referred (ts : Trees) (T : List Row) (wanted : List Mention → Menti
   pub mentioned : (before after : List Mention) (m : Mention) → mentionsIn (events ts) ≡ before ++ (m ∷ after)
       → referenceIn (rowOf T (m .ident .at)) ≡ some (wanted before m)
   pub bound : All (λ b. referenceIn (rowOf T (b .ident .at)) ≡ some (wantedBinder b)) (bindersIn (events ts))
+
+-- each lambda's fact tells the layer that it is made at
+abbrev pub LambdasMade : Trees → List Row → Type 0
+LambdasMade ts T = All (λ l. depthIn (rowOf T (l .0)) ≡ some (l .1)) (lambdasIn ts 1)
+
+-- The name of a define at top level: "An entry of depth 1", which refers to nothing and has no slot
+
+abbrev pub definedName : Reference
+definedName = reference Global NONE 1 NONE
+
+abbrev pub DefinesNamed : Trees → List Row → Type 0
+DefinesNamed ts T = All (λ d. referenceIn (rowOf T (d .name .at)) ≡ some definedName) (definesOf (topLevel ts))
+
+-- the facts T count the uses of each parameter and let name: every mention, read or set, and every set! once more
+abbrev pub UsesCounted : Trees → List Row → Type 0
+UsesCounted ts T =
+    let l = mentionsIn (events ts) in
+    All (λ b. usesIn (rowOf T (b .ident .at)) ≡ some (count (isOf b) l + count (isSetOf b) l)) (bindersIn (events ts))

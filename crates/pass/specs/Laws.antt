@@ -23,6 +23,8 @@ pub mod Reads
 pub mod Sets
 pub mod Enters
 pub mod Bodies
+pub mod Counts
+pub mod Counting
 pub mod Refs
 pub mod Ends
 pub mod Done
@@ -33,6 +35,9 @@ pub mod Script
 pub mod Presumed
 pub mod Levels
 pub mod Bottoms
+pub mod Uses
+pub mod Defined
+pub mod Depths
 pub mod Sound
 pub mod Stage
 pub mod Visitable

@@ -3,12 +3,13 @@
 use Prim.Native.Nat.{ℕ}
 use mathlib.Core.List.{List, []}
 use mathlib.Core.Option.{none}
-use mathlib.Core.Path.{_≡_}
+use mathlib.Core.Path.{_≡_, sym, subst, _∙_}
 use lib.ListN.{length}
 use Rattle.table.specs.Layout.{layout}
 use Rattle.tree.specs.Tree.{Trees}
 use Rattle.tree.specs.Define.{innerDefines}
 use Rattle.tree.specs.Accepted.{Accepted}
+use Rattle.tree.specs.Acceptance.{unique}
 use Rattle.semantic.specs.Rows.{Row, putRow}
 use Rattle.pass.specs.Run.{Tables, Outcome, fresh, settled, refusedFirst, orSecond, freshOutcome, settledOutcome, Fresh, Settled}
 use Rattle.pass.specs.TailPosition.{CallsRecorded}
@@ -16,66 +17,76 @@ use Rattle.r7rs.specs.Run.{plain}
 use Rattle.execution.specs.Slot.{slots}
 use Rattle.execution.specs.Lock.{Lockstep}
 use Rattle.execution.specs.Premises.{FreshAccepts, SettledAccepts, Premises}
-use Rattle.execution.specs.References.{Referred, freshReference, freshBinder, settledReference, settledBinder}
+use Rattle.execution.specs.References.{Referred, LambdasMade, DefinesNamed, UsesCounted, freshReference, freshBinder, settledReference, settledBinder}
 use Rattle.execution.specs.TailPosition.{tail-fresh, tail-settled}
 use Rattle.execution.specs.BindingFresh.{binding-fresh}
+use Rattle.execution.specs.DefinedNames.{defined-fresh, defined-settled}
+use Rattle.execution.specs.UsesFresh.{uses-fresh}
 use Rattle.execution.specs.BindingSettled.{binding-settled}
 use Rattle.execution.specs.Simulation.Main.{demand3}
 use Rattle.promises.specs.Outcomes.{outcomes, kept}
+use Rattle.promises.specs.Back.{rows-same}
 
--- the records rs are the trees ts and no others (`tree`, Acceptance); the table of facts is the rows T
+-- What holds of the tree ts and of the rows T that the table of facts is
 
-pub record FreshPromise (classes rs : List ℕ) (o : Outcome) : Type 0 where
-  pub ts : Trees
-  pub T : List Row
-  pub accepted : Accepted (length classes) rs ts
-  pub laid : o .tables .facts ≡ layout putRow T
+pub record FreshFacts (classes : List ℕ) (ts : Trees) (T : List Row) : Type 0 where
   -- "proved are tail position": a call has a fact exactly if its head is no constant, and that fact is of a tail call exactly if R7RS has the call
   -- in tail position
   pub tail : CallsRecorded T ts
+  -- each name that is defined at top level is Global, of depth 1, with no reference and no slot; each lambda tells the layer that it is made at
+  pub defined : DefinesNamed ts T × LambdasMade ts T
   -- "and, where no define is inner, binding from R7RS": kind, reference, depth and slot of each identifier read or set, parameter and let name
   pub binding : innerDefines ts ≡ [] → Referred ts T (freshReference classes ts) (freshBinder classes ts)
+  -- how often each parameter and let name is used
+  pub uses : innerDefines ts ≡ [] → UsesCounted ts T
   -- "for every number n, after n moments", the machine that goes by these facts and the plain machine are in step
   pub machines : Premises ts → (n : ℕ) → Lockstep ts T (slots ts T n) (plain ts n)
 
-pub record SettledPromise (classes rs : List ℕ) (o : Outcome) : Type 0 where
-  pub ts : Trees
-  pub T : List Row
-  pub accepted : Accepted (length classes) rs ts
-  pub laid : o .tables .facts ≡ layout putRow T
+pub record SettledFacts (classes : List ℕ) (ts : Trees) (T : List Row) : Type 0 where
   pub tail : CallsRecorded T ts
+  pub defined : DefinesNamed ts T × LambdasMade ts T
   pub binding : innerDefines ts ≡ [] → Referred ts T (settledReference classes ts) (settledBinder classes ts)
 
+-- The records are the records of a tree, and the table of facts is laid out of rows; and of every such tree and rows the facts say what is claimed
+
+pub record Promise (classes rs : List ℕ) (o : Outcome) (Facts : Trees → List Row → Type 0) : Type 0 where
+  pub tree : (ts : Trees) × Accepted (length classes) rs ts
+  pub rows : (T : List Row) × (o .tables .facts ≡ layout putRow T)
+  pub facts : (ts : Trees) (T : List Row) → Accepted (length classes) rs ts → o .tables .facts ≡ layout putRow T → Facts ts T
+
+promise : {classes rs : List ℕ} {o : Outcome} (Facts : Trees → List Row → Type 0) (ts : Trees) (T : List Row) → Accepted (length classes) rs ts
+    → o .tables .facts ≡ layout putRow T → Facts ts T → Promise classes rs o Facts
+promise Facts ts T a l f = record {
+  tree = (ts, a);
+  rows = (T, l);
+  facts = λ us U b m. subst (λ (vs : Trees). Facts vs U) (unique a b) (subst (Facts ts) (rows-same T U (sym l ∙ m)) f);
+}
+
 module _ {classes rs : List ℕ} {t : Tables} {o : Outcome} where
-  pub fresh-promise : Fresh classes rs t o → o .refused ≡ none → FreshPromise classes rs o
+  pub fresh-promise : Fresh classes rs t o → o .refused ≡ none → Promise classes rs o (FreshFacts classes)
   unfolding freshOutcome
   fresh-promise x e =
       let a = outcomes (x .answers) e in
       let s = fresh classes (a .ts) in
       let k = kept (refusedFirst (s .noted)) (s .facts) (a .is) e in
       let h : FreshAccepts classes rs (a .ts) = record { accepted = a .accepted; notRefused = k .unrefused } in
-      record {
-        ts = a .ts;
-        T = s .facts .rows;
-        accepted = a .accepted;
-        laid = k .laid;
+      promise (FreshFacts classes) (a .ts) (s .facts .rows) (a .accepted) (k .laid) (record {
         tail = tail-fresh classes rs (a .ts) h;
+        defined = defined-fresh classes rs (a .ts) h;
         binding = binding-fresh classes rs (a .ts) h;
+        uses = uses-fresh classes rs (a .ts) h;
         machines = demand3 classes rs (a .ts) h;
-      }
+      })
 
-  pub settled-promise : Settled classes rs t o → o .refused ≡ none → SettledPromise classes rs o
+  pub settled-promise : Settled classes rs t o → o .refused ≡ none → Promise classes rs o (SettledFacts classes)
   unfolding settledOutcome
   settled-promise x e =
       let a = outcomes (x .answers) e in
       let s = settled classes (a .ts) in
       let k = kept (orSecond (refusedFirst (fresh classes (a .ts) .noted)) (s .noted .second)) (s .facts) (a .is) e in
       let h : SettledAccepts classes rs (a .ts) = record { accepted = a .accepted; notRefused = k .unrefused } in
-      record {
-        ts = a .ts;
-        T = s .facts .rows;
-        accepted = a .accepted;
-        laid = k .laid;
+      promise (SettledFacts classes) (a .ts) (s .facts .rows) (a .accepted) (k .laid) (record {
         tail = tail-settled classes rs (a .ts) h;
+        defined = defined-settled classes rs (a .ts) h;
         binding = binding-settled classes rs (a .ts) h;
-      }
+      })

@@ -114,6 +114,23 @@ bindersIn (enters b sc ∷ l) = b ∷ bindersIn l
 bindersIn (mentions m ∷ l) = bindersIn l
 bindersIn (ends i xs sc ∷ l) = bindersIn l
 
+-- The lambdas of an expression that stands at the layer d: the record of each, and the layer that it is made at
+unfoldable mutual
+  pub lambdas : Tree → ℕ → List (ℕ × ℕ)
+  lambdas (ident x) d = []
+  lambdas (const n q) d = []
+  lambdas (if n a b c) d = lambdas a d ++ (lambdas b d ++ lambdas c d)
+  lambdas (letin n xs es b) d = lambdasIn es d ++ lambdas b (cond (eqb d 1) 2 d)
+  lambdas (define n x b) d = lambdas b d
+  lambdas (lambda n xs b) d = (n .at, d) ∷ lambdas b (suc d)
+  lambdas (begin n es) d = lambdasIn es d
+  lambdas (call n h es) d = lambdas h d ++ lambdasIn es d
+  lambdas (set! n x e) d = lambdas e d
+
+  pub lambdasIn : Trees → ℕ → List (ℕ × ℕ)
+  lambdasIn nil d = []
+  lambdasIn (cons e es) d = lambdas e d ++ lambdasIn es d
+
 -- An identifier means the innermost parameter or let name in scope that has its name
 abbrev pub find : List Binder → ℕ → Option Binder
 find [] x = none

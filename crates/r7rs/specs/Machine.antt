@@ -1,6 +1,6 @@
 -- What the two machines share: where a run stands, what waits, and what one more moment comes to. Document 01, "The slot machine of demand 3".
 use Prim.Native.Nat.{ℕ, _-_}
-use mathlib.Core.List.{List}
+use mathlib.Core.List.{List, [], _∷_}
 use mathlib.Core.Bool.{Bool, cond}
 use mathlib.Core.Option.{Option, none, some}
 use lib.ListN.{length, take, drop}
@@ -50,6 +50,18 @@ pub data Kont (B : Type 0) : Type 0 where
   kret : ℕ → B → Kont B → Kont B  -- a call's record, and the body that made it
   kset : Ident → Kont B → Kont B
   kdef : Ident → Kont B → Kont B
+
+-- the bodies that wait, the last caller first: of each the record of its call, and what it keeps
+abbrev pub waiting : {B : Type 0} → Kont B → List (ℕ × B)
+waiting (kend es) = []
+waiting (kif t e k) = waiting k
+waiting (kseq e es k) = waiting k
+waiting (kpush i w n es k) = waiting k
+waiting (khead i n k) = waiting k
+waiting (kdrop n k) = waiting k
+waiting (kret i b k) = (i, b) ∷ waiting k
+waiting (kset x k) = waiting k
+waiting (kdef x k) = waiting k
 
 -- W: values; B: what a body has; M: the rest of what a machine holds
 pub record State (W B M : Type 0) : Type 0 where

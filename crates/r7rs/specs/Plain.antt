@@ -5,8 +5,9 @@ use mathlib.Core.Bool.{Bool, false, cond}
 use mathlib.Core.Option.{Option, none, some}
 use lib.ListN.{length, drop, set, getElem?}
 use lib.Dec.{eqb}
-use Rattle.tree.specs.Tree.{Ident, Tree, Trees, ident, const, if, letin, define, lambda, begin, call, set!, nil, cons}
-use Rattle.r7rs.specs.Machine.{at, After, toHead, toBody, Moment, start, entered, read, pushed, Kont, kend, kif, kseq, kpush, khead, kdrop, kret, kset, kdef, State, Out, next, ended, stopped, Got, got, missing, state, on, Cells, fill, inCell, takes, lastN, butN}
+use Rattle.tree.specs.Tree.{Ident, Tree}
+use Rattle.r7rs.specs.Machine.{Kont, kret, State, Out, Got, got, missing, Cells, fill, inCell, lastN, butN}
+use Rattle.r7rs.specs.Steps.{Procedure, Ops}
 
 -- "an environment here: name numbers with locations, newest first"
 abbrev pub Env : Type 0
@@ -66,20 +67,20 @@ pget x b m = pgetAt (locate (b .env) x) x m
 
 -- "A set! ... fills what a read would find"; "reading or setting an unbound cell ... stops both machines alike"
 
-abbrev pub putCell : Option PVal → ℕ → PVal → PMem → Got PMem
-putCell none x w m = missing
-putCell (some _) x w m = got (mem (m .store) (fill (m .cells) x w))
+abbrev pub putCell : Option PVal → ℕ → PVal → PBody → PMem → Got (PBody × PMem)
+putCell none x w b m = missing
+putCell (some _) x w b m = got (b, mem (m .store) (fill (m .cells) x w))
 
-abbrev pub putStore : Option (ℕ × PVal) → ℕ → PVal → PMem → Got PMem
-putStore none ℓ w m = missing
-putStore (some c) ℓ w m = got (mem (set (m .store) ℓ (c .0, w)) (m .cells))
+abbrev pub putStore : Option (ℕ × PVal) → ℕ → PVal → PBody → PMem → Got (PBody × PMem)
+putStore none ℓ w b m = missing
+putStore (some c) ℓ w b m = got (b, mem (set (m .store) ℓ (c .0, w)) (m .cells))
 
-abbrev pub pputAt : Option ℕ → ℕ → PVal → PMem → Got PMem
-pputAt none x w m = putCell (m .cells x) x w m
-pputAt (some ℓ) x w m = putStore (getElem? (m .store) ℓ) ℓ w m
+abbrev pub pputAt : Option ℕ → ℕ → PVal → PBody → PMem → Got (PBody × PMem)
+pputAt none x w b m = putCell (m .cells x) x w b m
+pputAt (some ℓ) x w b m = putStore (getElem? (m .store) ℓ) ℓ w b m
 
-abbrev pub pput : ℕ → PVal → PBody → PMem → Got PMem
-pput x w b m = pputAt (locate (b .env) x) x w m
+abbrev pub pput : ℕ → PVal → PBody → PMem → Got (PBody × PMem)
+pput x w b m = pputAt (locate (b .env) x) x w b m
 
 -- Values move "into a new location for each" name: the environment with the names, the first location being n; and the new locations
 
@@ -103,87 +104,28 @@ isFalse (pconst c q) = q
 isFalse punit = false
 isFalse (pclo i xs e ρ) = false
 
--- An expression is entered: a moment. A constant, a lambda and an empty begin give their value in it; else the hand stays as it was.
+abbrev pub procedure : PVal → Option (Procedure Env)
+procedure (pconst c q) = none
+procedure punit = none
+procedure (pclo i xs e ρ) = some (record { names = xs; of = e; kept = ρ })
 
-abbrev pub pgives : Tree → PBody → Option PVal → Option PVal
-pgives (ident x) b h = h
-pgives (const n q) b h = some (pconst (n .id) q)
-pgives (if n a t e) b h = h
-pgives (letin n xs es e) b h = h
-pgives (define n x e) b h = h
-pgives (lambda n xs e) b h = some (pclo (n .at) xs e (b .env))
-pgives (begin n nil) b h = some punit
-pgives (begin n (cons e es)) b h = h
-pgives (call n f es) b h = h
-pgives (set! n x e) b h = h
-
-abbrev pub penter : Tree → Option PVal → PBody → PKont → PMem → POut
-penter e h b k m = next (state (entered e) (pgives e b h) b k m)
-
--- "A call ... enters ... the body of the procedure that the head gave, in that procedure's environment with the arguments moved into a new location
--- for each parameter; the caller waits, at tail calls too." "a call of a non-procedure or a wrong argument count stops both machines alike"
-abbrev pub papply : PVal → ℕ → ℕ → PKont → PBody → PMem → POut
-papply (pconst c q) i n k b m = stopped
-papply punit i n k b m = stopped
-papply (pclo j xs e ρ) i n k b m =
-    cond (takes xs n)
-    (penter e (some (pclo j xs e ρ)) (body e (binds xs ρ m) []) (kret i (body (b .of) (b .env) (butN n (b .stack))) k) (holds xs (lastN n (b .stack)) m))
-    stopped
-
--- A value is given to what waits, up to the next moment. "An if enters its test, then one branch, the else at false. A begin enters its children and
--- gives the last value." "A set! ... fills what a read would find; a define ... the cell"; both give the unspecified value.
-unfoldable pub pgive : PVal → PKont → PBody → PMem → POut
-pgive v (kend nil) b m = ended v m
-pgive v (kend (cons e es)) b m = penter e (some v) (body e [] []) (kend es) m
-pgive v (kif t e k) b m = penter (cond (isFalse v) e t) (some v) b k m
-pgive v (kseq e nil k) b m = penter e (some v) b k m
-pgive v (kseq e (cons e′ es) k) b m = penter e (some v) b (kseq e′ es k) m
-pgive v (kpush i w n es k) b m = next (state (pushed i w (suc n) es) (some v) (body (b .of) (b .env) (b .stack ++ (v ∷ []))) k m)
-pgive v (khead i n k) b m = papply v i n k b m
-pgive v (kdrop n k) b m = pgive v k (body (b .of) (drop n (b .env)) (b .stack)) m
-pgive v (kret i b′ k) b m = pgive v k b′ m
-pgive v (kset x k) b m = on (pput (x .name) v b m) (λ m′. pgive punit k b m′)
-pgive v (kdef x k) b m = pgive punit k b (mem (m .store) (fill (m .cells) (x .name) v))
-
--- the value in hand; there always is one where it is asked for
-abbrev pub pgiven : Option PVal → PKont → PBody → PMem → POut
-pgiven none k b m = stopped
-pgiven (some v) k b m = pgive v k b m
-
--- "A let pushes its initial values, moves each into a new location for its name, enters its body and drops the names."
--- "A call pushes its arguments, enters its head." n values are pushed.
-
-abbrev pub pthen : After → ℕ → Option PVal → PBody → PKont → PMem → POut
-pthen (toHead i f) n h b k m = penter f h b (khead i n k) m
-pthen (toBody xs e) n h b k m =
-    penter e h (body (b .of) (binds xs (b .env) m) (butN n (b .stack))) (kdrop (length xs) k) (holds xs (lastN n (b .stack)) m)
-
-abbrev pub ppush : After → ℕ → Trees → Option PVal → PBody → PKont → PMem → POut
-ppush w n nil h b k m = pthen w n h b k m
-ppush w n (cons e es) h b k m = penter e h b (kpush (at e) w n es k) m
-
--- From an expression entered to the next moment: a name is read; a value in hand is given; or the first part is entered, and the rest waits
-abbrev pub pentered : Tree → Option PVal → PBody → PKont → PMem → POut
-pentered (ident x) h b k m = on (pget (x .name) b m) (λ v. next (state (read (x .at)) (some v) b k m))
-pentered (const n q) h b k m = pgiven h k b m
-pentered (if n a t e) h b k m = penter a h b (kif t e k) m
-pentered (letin n xs es e) h b k m = ppush (toBody xs e) 0 es h b k m
-pentered (define n x e) h b k m = penter e h b (kdef x k) m
-pentered (lambda n xs e) h b k m = pgiven h k b m
-pentered (begin n nil) h b k m = pgiven h k b m
-pentered (begin n (cons e nil)) h b k m = penter e h b k m
-pentered (begin n (cons e (cons e′ es))) h b k m = penter e h b (kseq e′ es k) m
-pentered (call n f es) h b k m = ppush (toHead (n .at) f) 0 es h b k m
-pentered (set! n x e) h b k m = penter e h b (kset x k) m
-
--- "a tree of no records" gives the unspecified value
-abbrev pub pnext : Moment → Option PVal → PBody → PKont → PMem → POut
-pnext (start nil) h b k m = ended punit m
-pnext (start (cons e es)) h b k m = penter e none (body e [] []) (kend es) m
-pnext (entered e) h b k m = pentered e h b k m
-pnext (read i) h b k m = pgiven h k b m
-pnext (pushed i w n es) h b k m = ppush w n es h b k m
-
--- one more moment
-abbrev pub pstep : PState → POut
-pstep s = pnext (s .moment) (s .hand) (s .body) (s .kont) (s .mem)
+-- what the plain machine does in its own way (Steps.antt): "A let ... moves each into a new location for its name ... and drops the names"; "a call ... enters
+-- ... the body of the procedure that the head gave, in that procedure's environment with the arguments moved into a new location for each
+-- parameter; the caller waits, at tail calls too."
+abbrev pub plainly : Ops PVal Env PBody PMem
+plainly = record {
+  constant = pconst;
+  unit = punit;
+  isFalse = isFalse;
+  made = λ i xs e b. pclo i xs e (b .env);
+  procedure = procedure;
+  get = λ x b m. pget (x .name) b m;
+  put = λ x w b m. pput (x .name) w b m;
+  fill = λ x w m. mem (m .store) (fill (m .cells) (x .name) w);
+  top = λ e. body e [] [];
+  push = λ w b. body (b .of) (b .env) (b .stack ++ (w ∷ []));
+  bind = λ xs n b m. (body (b .of) (binds xs (b .env) m) (butN n (b .stack)), holds xs (lastN n (b .stack)) m);
+  drop = λ n b. body (b .of) (drop n (b .env)) (b .stack);
+  callee = λ p n b m. (body (p .of) (binds (p .names) (p .kept) m) [], holds (p .names) (lastN n (b .stack)) m);
+  caller = λ i n b k. kret i (body (b .of) (b .env) (butN n (b .stack))) k;
+}

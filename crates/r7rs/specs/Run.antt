@@ -4,7 +4,8 @@ use mathlib.Core.List.{[]}
 use mathlib.Core.Option.{none}
 use Rattle.tree.specs.Tree.{Tree, Trees, begin, nil}
 use Rattle.r7rs.specs.Machine.{start, kend, State, Out, next, ended, stopped, outside, state, unbound}
-use Rattle.r7rs.specs.Plain.{PVal, PBody, PMem, body, mem, pstep}
+use Rattle.r7rs.specs.Plain.{PVal, PBody, PMem, body, mem, plainly}
+use Rattle.r7rs.specs.Steps.{step}
 
 -- how many moments were made, and what the last try came to. The end, or a stop, is met by the try after the last moment.
 pub record Ran (W B M : Type 0) : Type 0 where
@@ -37,4 +38,4 @@ abbrev pub noBody : Tree
 noBody = begin (record { at = 0; id = 0; from = 0; to = 0 }) nil
 
 unfoldable pub plain : Trees → ℕ → Ran PVal PBody PMem
-plain ts n = run pstep (state (start ts) none (body noBody [] []) (kend nil) (mem [] unbound)) n
+plain ts n = run (step plainly) (state (start ts) none (body noBody [] []) (kend nil) (mem [] unbound)) n

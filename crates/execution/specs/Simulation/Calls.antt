@@ -9,11 +9,12 @@ use lib.ListN.{length, length-drop}
 use lib.Dec.{eqb}
 use Rattle.tree.specs.Tree.{Tree, Trees, nil}
 use Rattle.r7rs.specs.Machine.{toHead, kret, stopped, Cells, lastN}
-use Rattle.r7rs.specs.Plain.{Env, PVal, Store, PKont, POut, mem, body, papply, locations}
+use Rattle.r7rs.specs.Plain.{Env, PVal, Store, PKont, POut, mem, body, locations, plainly}
+use Rattle.r7rs.specs.Steps
 use Rattle.semantic.specs.Rows.{Row}
 use Rattle.pass.specs.Static.{Ctx}
 use Rattle.execution.specs.Facts.{isTail, rowOf}
-use Rattle.execution.specs.Slot.{SVal, SMem, SKont, SOut, frames, giveUp, sapply}
+use Rattle.execution.specs.Slot.{SVal, SMem, SKont, SOut, frames, giveUp, bySlots}
 use Rattle.execution.specs.Slot
 use Rattle.execution.specs.Simulation.Frames.{held-pop, held-up}
 use Rattle.execution.specs.Simulation.Relation.{Alike, a-const, a-unit, a-clo, each, AlikeCells, Held, Deep, Through, through-here, through-drop, Waits, w-body, w-drop, Pushing, pushing, then-head, Returns, r-end, r-live, r-dead, Same, s-stopped}
@@ -56,7 +57,7 @@ module _ (ts : Trees) (T : List Row) (M : ℕ → Bool) where
   pub applies : {o f : Tree} {σ : Store} {Γ : Ctx} {d h lo i n : ℕ} {F : List SVal} {C : List (List SVal)} {ρ : Env} {S : List PVal} {sk : SKont} {pk : PKont}
       {v : SVal} {w : PVal} {c : SMem} {c′ : Cells PVal} → Pushing ts T M σ Γ d lo F ρ S (toHead i f) n n nil sk pk → Deep ts T M d o
       → Held ts T M σ lo (length σ) Γ d h F C ρ → Alike ts T M σ v w → AlikeCells ts T M σ c c′
-      → Same ts T M (sapply ts T v i n sk (frames F C) c) (papply w i n pk (body o ρ S) (mem σ c′))
+      → Same ts T M (Steps.apply (bySlots ts T) v i n sk (frames F C) c) (Steps.apply plainly w i n pk (body o ρ S) (mem σ c′))
   applies p dp r a-const cs = s-stopped
   applies p dp r a-unit cs = s-stopped
   applies {σ = σ} {i = i} {n = n} {F = F} {S = S} (pushing h tall l vs sc ar pl (then-head rf pf imp) wt) dp r (a-clo {xs = xs} Γ d hi lam deep b ns) cs =

@@ -8,10 +8,11 @@ use native.Mathlib.Omega.{arith}
 use lib.ListN.{length}
 use Rattle.tree.specs.Tree.{Tree, Trees}
 use Rattle.r7rs.specs.Machine.{Cells, kend}
-use Rattle.r7rs.specs.Plain.{Env, PVal, Store, PKont, mem, body, pgives, penter}
+use Rattle.r7rs.specs.Plain.{Env, PVal, Store, PKont, mem, body, plainly}
+use Rattle.r7rs.specs.Steps
 use Rattle.semantic.specs.Rows.{Row}
 use Rattle.pass.specs.Static.{Ctx, r-ident, r-const, r-if, r-let, r-define, r-lambda, r-begin, r-call, r-set, s-nil, s-one, s-more, Top}
-use Rattle.execution.specs.Slot.{SVal, SMem, SKont, frames, sgives, senter}
+use Rattle.execution.specs.Slot.{SVal, SMem, SKont, frames, bySlots}
 use Rattle.execution.specs.Simulation.Binders.{Placed, PlacedAll}
 use Rattle.execution.specs.Simulation.Scope.{entering, sc-nil}
 use Rattle.execution.specs.Simulation.Relation.{presumed, Expr, a-const, a-unit, no-names, AlikeHand, each, AlikeCells, Held, Deep, Waits, w-body, r-end, b-enter, Same, s-next}
@@ -22,7 +23,7 @@ module _ (ts : Trees) (T : List Row) (M : ℕ → Bool) where
   -- a constant, a lambda and an empty begin give their value; else the hand stays as it was
   hands : {σ : Store} {t : Bool} {Γ : Ctx} {d h lo : ℕ} {F : List SVal} {C : List (List SVal)} {ρ : Env} {e : Tree} {v : Option SVal} {w : Option PVal}
       (o : Tree) (S : List PVal) → Expr ts T M Γ d h t e → Placed ts T e h → Held ts T M σ lo (length σ) Γ d h F C ρ → AlikeHand ts T M σ v w
-      → AlikeHand ts T M σ (sgives ts T e (frames F C) v) (pgives e (body o ρ S) w)
+      → AlikeHand ts T M σ (Steps.gives (bySlots ts T) e (frames F C) v) (Steps.gives plainly e (body o ρ S) w)
   hands o S (r-ident e f) pl r hd = hd
   hands o S r-const pl r hd = each a-const
   hands o S (r-if a b c) pl r hd = hd
@@ -39,13 +40,13 @@ module _ (ts : Trees) (T : List Row) (M : ℕ → Bool) where
   pub enter : {o e : Tree} {σ : Store} {t : Bool} {Γ : Ctx} {d h lo : ℕ} {F : List SVal} {C : List (List SVal)} {ρ : Env} {S : List PVal} {sk : SKont}
       {pk : PKont} {v : Option SVal} {w : Option PVal} {c : SMem} {c′ : Cells PVal} → Expr ts T M Γ d h t e → Placed ts T e h → Deep ts T M d o
       → Held ts T M σ lo (length σ) Γ d h F C ρ → Waits ts T M σ t Γ d h lo F ρ S sk pk → AlikeHand ts T M σ v w → AlikeCells ts T M σ c c′
-      → Same ts T M (senter ts T e v (frames F C) sk c) (penter e w (body o ρ S) pk (mem σ c′))
+      → Same ts T M (Steps.enter (bySlots ts T) e v (frames F C) sk c) (Steps.enter plainly e w (body o ρ S) pk (mem σ c′))
   enter {o = o} {S = S} r pl dp h wt hd cs = s-next (b-enter r pl dp h wt (hands o S r pl h hd) cs)
 
   -- a top-level expression is
   pub enter-top : {σ : Store} {e : Tree} {es : Trees} {v : Option SVal} {w : Option PVal} {c : SMem} {c′ : Cells PVal} → Expr ts T M [] 1 0 false e
       → Placed ts T e 0 → Top T (presumed M) es → PlacedAll ts T es 0 → AlikeHand ts T M σ v w → AlikeCells ts T M σ c c′
-      → Same ts T M (senter ts T e v (frames [] []) (kend es) c) (penter e w (body e [] []) (kend es) (mem σ c′))
+      → Same ts T M (Steps.enter (bySlots ts T) e v (frames [] []) (kend es) c) (Steps.enter plainly e w (body e [] []) (kend es) (mem σ c′))
   enter-top {σ} r pl top pls hd cs =
       let held : Held ts T M σ 0 (length σ) [] 1 0 [] [] [] =
       record { tall = refl; deep = refl; layer = omega arith; span = omega arith; scope = sc-nil; names = no-names } in

@@ -8,11 +8,12 @@ use native.Mathlib.Omega.{arith}
 use lib.ListN.{length, drop, length-append}
 use Rattle.tree.specs.Tree.{Tree, Trees}
 use Rattle.r7rs.specs.Machine.{After, Kont, kend, kif, kseq, kpush, khead, kdrop, kret, kset, kdef, Cells, lastN, butN}
-use Rattle.r7rs.specs.Plain.{Env, PVal, punit, Store, PMem, PBody, PKont, mem, body, pgive, pgiven}
+use Rattle.r7rs.specs.Plain.{Env, PVal, punit, Store, PMem, PBody, PKont, mem, body, plainly}
 use Rattle.r7rs.specs.Plain
+use Rattle.r7rs.specs.Steps
 use Rattle.semantic.specs.Rows.{Row}
 use Rattle.pass.specs.Static.{Ctx, s-one, s-more, top-nil, top-cons}
-use Rattle.execution.specs.Slot.{SVal, sunit, SBody, SMem, SKont, frames, sgive, sgiven}
+use Rattle.execution.specs.Slot.{SVal, sunit, SBody, SMem, SKont, frames, bySlots}
 use Rattle.execution.specs.Slot
 use Rattle.execution.specs.Simulation.Lists.{but-push, last-push}
 use Rattle.execution.specs.Simulation.Binders.{Placed}
@@ -81,19 +82,19 @@ module _ (ts : Trees) (T : List Row) (M : ℕ → Bool) where
   through-size through-here = omega arith
   through-size (through-drop t) = let l = through-size t in omega arith
 
-  through-give : {pk pk′ : PKont} (w : PVal) (m : PMem) → Through ts T M pk pk′ → (b : PBody) → (b′ : PBody) × (pgive w pk b m ≡ pgive w pk′ b′ m)
-  unfolding pgive
+  through-give : {pk pk′ : PKont} (w : PVal) (m : PMem) → Through ts T M pk pk′ → (b : PBody) → (b′ : PBody) × (Steps.give plainly w pk b m ≡ Steps.give plainly w pk′ b′ m)
+  unfolding Steps.give
   through-give w m through-here b = (b, refl)
   through-give w m (through-drop {n = n} t) b = through-give w m t (body (b .of) (drop n (b .env)) (b .stack))
 
   -- k bounds the work: a set! changes what waits, so that the proof does not shrink with it
   mutual
-    unfolding sgive pgive
+    unfolding Steps.give
 
     give-bounded : (k : ℕ) {o : Tree} {σ : Store} {t : Bool} {Γ : Ctx} {d h lo : ℕ} {F : List SVal} {C : List (List SVal)} {ρ : Env} {S : List PVal}
         {sk : SKont} {pk : PKont} {v : SVal} {w : PVal} {c : SMem} {c′ : Cells PVal} → suc (size pk + size pk) ≤ k
         → Waits ts T M σ t Γ d h lo F ρ S sk pk → Deep ts T M d o → Held ts T M σ lo (length σ) Γ d h F C ρ → Alike ts T M σ v w
-        → AlikeCells ts T M σ c c′ → Same ts T M (sgive ts T v sk (frames F C) c) (pgive w pk (body o ρ S) (mem σ c′))
+        → AlikeCells ts T M σ c c′ → Same ts T M (Steps.give (bySlots ts T) v sk (frames F C) c) (Steps.give plainly w pk (body o ρ S) (mem σ c′))
     give-bounded zero {pk = pk} l wt dp r a cs = absurd (omega (arith, size-pos pk))
     give-bounded (suc k) {o} {F = F} {C = C} {ρ = ρ} {S = S} {pk = pk} l (w-body e q) dp r a cs =
         return-bounded k {pk = pk} (frames F C) (body o ρ S) (omega arith) q (r .span) a cs
@@ -106,15 +107,15 @@ module _ (ts : Trees) (T : List Row) (M : ℕ → Bool) where
     give-bounded (suc k) l (w-head p) dp r a cs = applies ts T M p dp r a cs
     give-bounded (suc k) {σ = σ} l (w-drop {n = n} xs nl Γe de tall sc layer wt) dp r a cs =
         give-bounded k (omega arith) wt (deep-drop ts T M de dp) (held-drop ts T M σ n xs nl Γe de tall sc layer r) a cs
-    give-bounded (suc k) {o} {ρ = ρ} {S = S} {c = c} {c′ = c′} l (w-set {sk = sk} {pk = pk} {x = x} u e aim wt) dp r a cs =
-        puts-on ts T M (λ q. sgive ts T sunit sk (q .0) (q .1)) (λ m. pgive punit pk (body o ρ S) m) (puts ts T M x u c c′ e aim r a cs)
+    give-bounded (suc k) {c = c} {c′ = c′} l (w-set {sk = sk} {pk = pk} {x = x} u e aim wt) dp r a cs =
+        puts-on ts T M (λ q. Steps.give (bySlots ts T) sunit sk (q .0) (q .1)) (λ q. Steps.give plainly punit pk (q .0) (q .1)) (puts ts T M x u c c′ e aim r a cs)
         (λ τ G D d d′ r′ go cs′. give-bounded k (omega arith) (go _ _ _ wt) dp r′ a-unit cs′)
     give-bounded (suc k) l (w-def {x = x} wt) dp r a cs = give-bounded k (omega arith) wt dp r a-unit (cells-fill ts T M (x .name) a cs)
 
     -- a body's value is given
     return-bounded : (k : ℕ) {σ : Store} {lo : ℕ} {sk : SKont} {pk : PKont} {v : SVal} {w : PVal} {c : SMem} {c′ : Cells PVal} (b : SBody) (b′ : PBody)
         → size pk + size pk ≤ k → Returns ts T M σ lo sk pk → lo ≤ length σ → Alike ts T M σ v w → AlikeCells ts T M σ c c′
-        → Same ts T M (sgive ts T v sk b c) (pgive w pk b′ (mem σ c′))
+        → Same ts T M (Steps.give (bySlots ts T) v sk b c) (Steps.give plainly w pk b′ (mem σ c′))
     return-bounded zero {pk = pk} b b′ l q u a cs = absurd (omega (arith, size-pos pk))
     return-bounded (suc k) b b′ l (r-end top-nil p) u a cs = s-ended a cs
     return-bounded (suc k) b b′ l (r-end (top-cons e es) p) u a cs = enter-top ts T M e (p .0) es (p .1) (each a) cs
@@ -127,6 +128,6 @@ module _ (ts : Trees) (T : List Row) (M : ℕ → Bool) where
   pub give : {o : Tree} {σ : Store} {t : Bool} {Γ : Ctx} {d h lo : ℕ} {F : List SVal} {C : List (List SVal)} {ρ : Env} {S : List PVal} {sk : SKont} {pk : PKont}
       {v : Option SVal} {w : Option PVal} {c : SMem} {c′ : Cells PVal} → AlikeHand ts T M σ v w → Deep ts T M d o → Held ts T M σ lo (length σ) Γ d h F C ρ
       → Waits ts T M σ t Γ d h lo F ρ S sk pk → AlikeCells ts T M σ c c′
-      → Same ts T M (sgiven ts T v sk (frames F C) c) (pgiven w pk (body o ρ S) (mem σ c′))
+      → Same ts T M (Steps.given (bySlots ts T) v sk (frames F C) c) (Steps.given plainly w pk (body o ρ S) (mem σ c′))
   give neither dp r wt cs = s-stopped
   give {pk = pk} (each a) dp r wt cs = give-bounded (suc (size pk + size pk)) (omega arith) wt dp r a cs

@@ -9,14 +9,14 @@ use native.Mathlib.Omega.{arith}
 use lib.ListN.{length, getElem?, take-append-drop}
 use Rattle.tree.specs.Tree.{Tree, Trees}
 use Rattle.r7rs.specs.Binding.{Means}
-use Rattle.r7rs.specs.Machine.{After, Moment, Cells, state, lastN, butN}
+use Rattle.r7rs.specs.Machine.{After, Moment, waiting, Cells, state, lastN, butN}
 use Rattle.r7rs.specs.Plain.{Env, PVal, Store, PBody, PKont, POut, mem, body}
 use Rattle.r7rs.specs.Run.{noBody}
 use Rattle.semantic.specs.Rows.{Row}
 use Rattle.pass.specs.Static.{Bound, Ctx}
 use Rattle.execution.specs.Facts.{frameIn, rowOf, homeIn}
 use Rattle.execution.specs.Slot.{SVal, Frame, vnil, vcons, Frames, fnil, fcons, pack, unpackFrame, unpack, SBody, SMem, SKont, SOut, frames}
-use Rattle.execution.specs.Lock.{idents, Asked, EachName, Like, LikeIn, LikeAt, LikeHand, nothing, both, LikeAll, all-nil, all-cons, LikeCells, LikeBody, LikeBodies, no-body, one-more, waitingP, waitingS, pushedP, pushedS, pushedNow, InStep, Now, running, over, halted}
+use Rattle.execution.specs.Lock.{idents, Asked, EachName, Like, LikeIn, LikeAt, LikeHand, nothing, both, LikeAll, all-nil, all-cons, LikeCells, LikeBody, LikeBodies, no-body, one-more, untailed, pushedP, pushedS, pushedNow, InStep, Now, running, over, halted}
 use Rattle.execution.specs.Simulation.Lists.{all-member}
 use Rattle.execution.specs.Simulation.Binders.{slotAt}
 use Rattle.execution.specs.Simulation.Scope.{Housed, Scope, sc-own, sc-outer}
@@ -107,13 +107,13 @@ module _ (ts : Trees) (T : List Row) (M : ℕ → Bool) (told : (i b : ℕ) → 
 
     -- the bodies that wait
 
-    through-waiting : {pk pk′ : PKont} → Through ts T M pk pk′ → waitingP T pk ≡ waitingP T pk′
+    through-waiting : {pk pk′ : PKont} → Through ts T M pk pk′ → untailed T (waiting pk) ≡ untailed T (waiting pk′)
     through-waiting through-here = refl
     through-waiting (through-drop t) = through-waiting t
 
     mutual
       bodies-wait : {t : Bool} {Γ : Ctx} {d h lo : ℕ} {F : List SVal} {ρ : Env} {S : List PVal} {sk : SKont} {pk : PKont}
-          → Waits ts T M σ t Γ d h lo F ρ S sk pk → LikeBodies ts T σ (waitingS sk) (waitingP T pk)
+          → Waits ts T M σ t Γ d h lo F ρ S sk pk → LikeBodies ts T σ (waiting sk) (untailed T (waiting pk))
       bodies-wait (w-body e r) = bodies-return r
       bodies-wait (w-if b p c q w) = bodies-wait w
       bodies-wait (w-seq s p w) = bodies-wait w
@@ -124,10 +124,10 @@ module _ (ts : Trees) (T : List Row) (M : ℕ → Bool) (told : (i b : ℕ) → 
       bodies-wait (w-def w) = bodies-wait w
 
       bodies-push : {Γ : Ctx} {d lo : ℕ} {F : List SVal} {ρ : Env} {S : List PVal} {a : After} {n n′ : ℕ} {es : Trees} {sk : SKont} {pk : PKont}
-          → Pushing ts T M σ Γ d lo F ρ S a n n′ es sk pk → LikeBodies ts T σ (waitingS sk) (waitingP T pk)
+          → Pushing ts T M σ Γ d lo F ρ S a n n′ es sk pk → LikeBodies ts T σ (waiting sk) (untailed T (waiting pk))
       bodies-push (pushing h t s vs sc ar pl th w) = bodies-wait w
 
-      bodies-return : {lo : ℕ} {sk : SKont} {pk : PKont} → Returns ts T M σ lo sk pk → LikeBodies ts T σ (waitingS sk) (waitingP T pk)
+      bodies-return : {lo : ℕ} {sk : SKont} {pk : PKont} → Returns ts T M σ lo sk pk → LikeBodies ts T σ (waiting sk) (untailed T (waiting pk))
       bodies-return (r-end t p) = no-body
       bodies-return (r-live {b = b} {b′ = b′} i dp r w) = rw i (one-more (like-body b b′ dp r) (bodies-wait w))
       bodies-return (r-dead i s t r) = rw (i, through-waiting t) (bodies-return r)
@@ -178,20 +178,21 @@ module _ (ts : Trees) (T : List Row) (M : ℕ → Bool) (told : (i b : ℕ) → 
   -- while a body runs
   runs : {σ : Store} {l : Moment} {lo hi d h : ℕ} {Γ : Ctx} {v : Option SVal} {sk : SKont} {c : SMem} {w : Option PVal} {pk : PKont} {c′ : Cells PVal}
       (b : SBody) (b′ : PBody) → Deep ts T M d (b′ .of) → Held ts T M σ lo hi Γ d h (b .frame) (b .outer) (b′ .env) → AlikeHand ts T M σ v w
-      → AlikeCells ts T M σ c c′ → LikeAll ts T σ (pushedNow l sk (b .frame)) (pushedP pk ++ b′ .stack) → LikeBodies ts T σ (waitingS sk) (waitingP T pk)
+      → AlikeCells ts T M σ c c′ → LikeAll ts T σ (pushedNow l sk (b .frame)) (pushedP pk ++ b′ .stack) → LikeBodies ts T σ (waiting sk) (untailed T (waiting pk))
       → InStep ts T (state l v b sk c) (state l w b′ pk (mem σ c′))
   runs {σ} b b′ dp r hd cs ps bs = record {
-    places = refl;
+    moments = refl;
     hands = like-hand σ hd;
     pushes = ps;
     cells = like-cells σ cs;
-    bodies = one-more (like-body σ b b′ dp r) bs;
+    running = like-body σ b b′ dp r;
+    callers = bs;
   }
 
   in-step : {σ : Store} {l : Moment} {v : Option SVal} {b : SBody} {sk : SKont} {c : SMem} {w : Option PVal} {b′ : PBody} {pk : PKont} {c′ : Cells PVal}
       → Both ts T M σ l v b sk c w b′ pk c′ → InStep ts T (state l v b sk c) (state l w b′ pk (mem σ c′))
   in-step {σ} (b-start t p cs) =
-      record { places = refl; hands = nothing; pushes = all-nil; cells = like-cells σ cs; bodies = one-more (nothing-named σ) no-body }
+      record { moments = refl; hands = nothing; pushes = all-nil; cells = like-cells σ cs; running = nothing-named σ; callers = no-body }
   in-step {σ} {b = b} {b′ = b′} (b-enter e pl dp r wt hd cs) = runs b b′ dp r hd cs (pushed-wait σ wt) (bodies-wait σ wt)
   in-step {σ} {b = b} {b′ = b′} (b-read dp r wt hd cs) = runs b b′ dp r hd cs (pushed-wait σ wt) (bodies-wait σ wt)
   in-step {σ} {b = b} {b′ = b′} (b-pushed dp r p hd cs) = runs b b′ dp r hd cs (pushed-push σ p) (bodies-push σ p)

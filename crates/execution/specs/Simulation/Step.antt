@@ -8,11 +8,12 @@ use native.Mathlib.Omega.{arith}
 use lib.ListN.{length, drop}
 use Rattle.tree.specs.Tree.{Ident, Tree, Trees, many}
 use Rattle.r7rs.specs.Machine.{After, Moment, Cells, state, lastN, butN}
-use Rattle.r7rs.specs.Plain.{Env, PVal, Store, PMem, PBody, PKont, POut, mem, body, bindEnv, locations, ppush, pentered, pstep}
+use Rattle.r7rs.specs.Plain.{Env, PVal, Store, PMem, PBody, PKont, POut, mem, body, bindEnv, locations, plainly}
+use Rattle.r7rs.specs.Steps
 use Rattle.r7rs.specs.Run.{Ran, tried, more, run, plain}
 use Rattle.semantic.specs.Rows.{Row, Blank, Variable, Function, CallSite, Let}
 use Rattle.pass.specs.Static.{Ctx, Args, a-nil, a-cons, r-ident, r-const, r-if, r-let, r-define, r-lambda, r-begin, r-call, r-set, s-nil, s-one, s-more, Top, top-nil, top-cons}
-use Rattle.execution.specs.Slot.{SVal, SBody, SMem, SKont, SOut, frames, spush, sentered, sstep, slots}
+use Rattle.execution.specs.Slot.{SVal, SBody, SMem, SKont, SOut, frames, slots, bySlots}
 use Rattle.execution.specs.Simulation.Lists.{drop-tail, last-none, but-none}
 use Rattle.execution.specs.Simulation.Binders.{Placed, PlacedRising, PlacedAll}
 use Rattle.execution.specs.Simulation.Scope.{let-two, entering}
@@ -51,7 +52,7 @@ module _ (ts : Trees) (T : List Row) (M : ℕ → Bool) where
   pushes : {o : Tree} {σ : Store} {Γ : Ctx} {d h lo n : ℕ} {F : List SVal} {C : List (List SVal)} {ρ : Env} {S : List PVal} {sk : SKont} {pk : PKont}
       {a : After} {es : Trees} {v : Option SVal} {w : Option PVal} {c : SMem} {c′ : Cells PVal} → Pushing ts T M σ Γ d lo F ρ S a n n es sk pk
       → Deep ts T M d o → Held ts T M σ lo (length σ) Γ d h F C ρ → AlikeHand ts T M σ v w → AlikeCells ts T M σ c c′
-      → Same ts T M (spush ts T a n es v (frames F C) sk c) (ppush a n es w (body o ρ S) pk (mem σ c′))
+      → Same ts T M (Steps.push (bySlots ts T) a n es v (frames F C) sk c) (Steps.push plainly a n es w (body o ρ S) pk (mem σ c′))
   pushes {σ = σ} {Γ = Γ} {d = d} {n = n} {a = a} (pushing {t = t} h tall l vs sc (a-cons {es = es} e ar) pl th wt) dp r hd cs =
       let q : suc (h + n) ≡ h + suc n = omega arith in
       let q′ : n + suc (many es) ≡ suc n + many es = omega arith in
@@ -77,7 +78,7 @@ module _ (ts : Trees) (T : List Row) (M : ℕ → Bool) where
   entered-on : {o : Tree} {σ : Store} {t : Bool} {Γ : Ctx} {d h lo : ℕ} {F : List SVal} {C : List (List SVal)} {ρ : Env} {S : List PVal} {sk : SKont}
       {pk : PKont} {e : Tree} {v : Option SVal} {w : Option PVal} {c : SMem} {c′ : Cells PVal} → Expr ts T M Γ d h t e → Placed ts T e h → Deep ts T M d o
       → Held ts T M σ lo (length σ) Γ d h F C ρ → Waits ts T M σ t Γ d h lo F ρ S sk pk → AlikeHand ts T M σ v w → AlikeCells ts T M σ c c′
-      → Same ts T M (sentered ts T e v (frames F C) sk c) (pentered e w (body o ρ S) pk (mem σ c′))
+      → Same ts T M (Steps.goOn (bySlots ts T) e v (frames F C) sk c) (Steps.goOn plainly e w (body o ρ S) pk (mem σ c′))
   entered-on {σ = σ} {c = c} {c′ = c′} (r-ident {x = x} {v = v} e f) pl dp r wt hd cs =
       gets-on ts T M σ (reads ts T M σ x v c c′ e f r cs) (λ v w a. s-next (b-read dp r wt (each a) cs))
   entered-on r-const pl dp r wt hd cs = give ts T M hd dp r wt cs
@@ -95,7 +96,7 @@ module _ (ts : Trees) (T : List Row) (M : ℕ → Bool) where
 
   -- one moment
   steps : {σ : Store} {l : Moment} {v : Option SVal} {b : SBody} {sk : SKont} {c : SMem} {w : Option PVal} {b′ : PBody} {pk : PKont} {c′ : Cells PVal}
-      → Both ts T M σ l v b sk c w b′ pk c′ → Same ts T M (sstep ts T (state l v b sk c)) (pstep (state l w b′ pk (mem σ c′)))
+      → Both ts T M σ l v b sk c w b′ pk c′ → Same ts T M (Steps.step (bySlots ts T) (state l v b sk c)) (Steps.step plainly (state l w b′ pk (mem σ c′)))
   steps (b-start top-nil p cs) = s-ended a-unit cs
   steps (b-start (top-cons e es) p cs) = enter-top ts T M e (p .0) es (p .1) neither cs
   steps (b-enter e pl dp r wt hd cs) = entered-on e pl dp r wt hd cs
@@ -112,7 +113,7 @@ module _ (ts : Trees) (T : List Row) (M : ℕ → Bool) where
   try e (s-ended a cs) = record { moments = e; same = s-ended a cs }
   try e s-stopped = record { moments = e; same = s-stopped }
 
-  again : {m m′ : ℕ} {x : SOut} {y : POut} → m ≡ m′ → Same ts T M x y → Runs (more (sstep ts T) m x) (more pstep m′ y)
+  again : {m m′ : ℕ} {x : SOut} {y : POut} → m ≡ m′ → Same ts T M x y → Runs (more (Steps.step (bySlots ts T)) m x) (more (Steps.step plainly) m′ y)
   again e (s-next b) = try e (steps b)
   again e (s-ended a cs) = record { moments = e; same = s-ended a cs }
   again e s-stopped = record { moments = e; same = s-stopped }

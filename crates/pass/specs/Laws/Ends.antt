@@ -31,7 +31,7 @@ pub record Made (r : Row) (d : ℕ) : Type 0 where
   pub is : r ≡ Function fact
   pub depth : fact .depth ≡ d
 
-made : (o : Option FunctionInformation) (n : Node) (b : Tree) (escapes : Bool) (now arguments : List Item) (m : ScopeMap Capture) (s : State) → o ≡ none
+pub made : (o : Option FunctionInformation) (n : Node) (b : Tree) (escapes : Bool) (now arguments : List Item) (m : ScopeMap Capture) (s : State) → o ≡ none
     → n .at < length (functionEnds o n b escapes now arguments m s .facts .rows)
     → Made (rowAt (functionEnds o n b escapes now arguments m s) (n .at)) (depth (functionEnds o n b escapes now arguments m s))
 unfolding makeFunction

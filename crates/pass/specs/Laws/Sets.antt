@@ -27,7 +27,7 @@ abbrev pub setAt : Ident → Place → Mention
 setAt x p = record { ident = x; isSet = true; place = p }
 
 -- the part of the use that mutates
-abbrev mutation : Ident → Option Binder → List Use
+abbrev pub mutation : Ident → Option Binder → List Use
 mutation x none = []
 mutation x (some b) = record { at = x .at; binder = b .ident .at; isInner = false; isSet = true } ∷ []
 
@@ -60,7 +60,7 @@ module _ {own : ℕ → Type 0} {bottom : List (Live Ident)} {before : List Use}
       (record { captured = kept-flag refl; mutated = raised-flag (entryAt s (b .ident .at) .mutated) refl; kept = refl })
       (set-changes (some (b .ident)) s) refl refl refl
 
-  mutate-finds : Finds own bottom (before ++ mutation x (find (p .scope) (x .name))) p (mutate (x .name) s)
+  pub mutate-finds : Finds own bottom (before ++ mutation x (find (p .scope) (x .name))) p (mutate (x .name) s)
   unfolding mutate
   mutate-finds =
       let q = search-for f (x .name) in

@@ -25,7 +25,7 @@ unfolding _⊕_
 spread-⊕ i j k nil us p q = spread-within i j k k us p (omega arith) q
 spread-⊕ i j k (cons t ts) us p q = (p .0, p .1, p .2, spread-⊕ (p .0 + size t) j k ts us (p .3) q)
 
-spread-all : (i : ℕ) (ts : Trees) → Nums i ts → Spread i (i + sizes ts) ts
+pub spread-all : (i : ℕ) (ts : Trees) → Nums i ts → Spread i (i + sizes ts) ts
 unfolding Num size
 spread-all i nil n = omega arith
 spread-all i (cons t ts) n =
