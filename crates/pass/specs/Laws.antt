@@ -37,6 +37,7 @@ pub mod Levels
 pub mod Bottoms
 pub mod Uses
 pub mod Defined
+pub mod LambdaPlaces
 pub mod Depths
 pub mod Sound
 pub mod Stage
