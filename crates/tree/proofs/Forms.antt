@@ -1,8 +1,9 @@
 -- The rows of the table of forms, by the form's number. Each rule is computed at the forms 0 to 9; above them there is no form.
 use Prim.Native.Nat.{ℕ, zero, suc, _+_, _*_, _≤_, _<_}
 use mathlib.Core.List.{List, [], _∷_}
-use mathlib.Core.Bool.{Bool, true, false, true≢false}
+use mathlib.Core.Bool.{Bool, true, false, not, true≢false}
 use mathlib.Core.Option.{none}
+use mathlib.Core.Logic.{_⊎_, inl, inr}
 use mathlib.Core.Path.{_≡_, refl, ap, sym, _∙_}
 use native.Mathlib.Omega.{arith}
 use native.Mathlib.Decide.{decLe, decLt}
@@ -10,7 +11,7 @@ use lib.ListN.{length, getElem?}
 use lib.Dec.{T}
 use Rattle.tree.specs.Record.{Record}
 use Rattle.tree.specs.Form.{Form, forms, formOf, namesOf, othersOf, childrenOf, fits}
-use Rattle.tree.specs.Field.{isForm}
+use Rattle.tree.specs.Field.{isForm, hasIdIn}
 use Rattle.tree.specs.Build.{mostIn, row}
 use Rattle.tree.proofs.Table.{Each, each}
 
@@ -36,6 +37,10 @@ true-of : (b : Bool) → T b → b ≡ true
 true-of true t = refl
 true-of false t = absurd t
 
+false-of : (b : Bool) → T (not b) → b ≡ false
+false-of true t = absurd t
+false-of false t = refl
+
 -- the forms are the numbers 1 to 9
 pub is-form : (f : ℕ) → 1 ≤ f → f ≤ 9 → isForm (formOf f) ≡ true
 unfolding formOf
@@ -52,6 +57,27 @@ pub known-least : (f : ℕ) → isForm (formOf f) ≡ true → 1 ≤ f
 unfolding formOf
 known-least zero e = absurd (true≢false (sym e))
 known-least (suc f) e = omega arith
+
+-- ids stand on the forms 1, 2, 4, 6 and 8
+pub id-on : (f : ℕ) → 1 ≤ f → f ≤ 2 → true ≡ hasIdIn (formOf f)
+unfolding formOf
+id-on f h g = sym (true-of _ (by-form (λ n. 1 ≤ n → n ≤ 2 → T (hasIdIn (formOf n))) (omega arith) (λ n a b c. absurd (omega arith)) f h g))
+
+pub id-at : (f : ℕ) → (f ≡ 4) ⊎ ((f ≡ 6) ⊎ (f ≡ 8)) → true ≡ hasIdIn (formOf f)
+unfolding formOf
+id-at f (inl e) = rw e
+id-at f (inr (inl e)) = rw e
+id-at f (inr (inr e)) = rw e
+
+abbrev Other : ℕ → Type 0
+Other f = (f ≡ 1 → ⊥) × (f ≡ 2 → ⊥) × (f ≡ 4 → ⊥) × (f ≡ 6 → ⊥) × (f ≡ 8 → ⊥)
+
+other : (f : ℕ) → Other f → T (not (hasIdIn (formOf f)))
+unfolding formOf
+other = by-form (λ n. Other n → T (not (hasIdIn (formOf n)))) (omega arith) (λ n h o. rw (unknown n h) tt)
+
+pub no-id : (f : ℕ) → (f ≡ 1 → ⊥) → (f ≡ 2 → ⊥) → ((f ≡ 4) ⊎ ((f ≡ 6) ⊎ (f ≡ 8)) → ⊥) → false ≡ hasIdIn (formOf f)
+no-id f a b k = sym (false-of _ (other f (a, b, λ e. k (inl e), λ e. k (inr (inl e)), λ e. k (inr (inr e)))))
 
 pub few-children : (f c : ℕ) → childrenOf f c ≤ 2 * c + 3
 unfolding formOf namesOf othersOf childrenOf

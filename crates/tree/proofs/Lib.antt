@@ -1,6 +1,5 @@
 pub mod Table
 pub mod Forms
-pub mod Entries
 pub mod Telling
 pub mod Limiting
 pub mod Search

@@ -10,7 +10,7 @@ use borrow.Author.Tests.{leb-true, le-leb, lt-leb, ne-eqb}
 use lib.Dec.{eqb, leb, ltb}
 use Rattle.tree.specs.Record.{Record}
 use Rattle.tree.specs.Form.{Form, formOf, namesOf, othersOf, childrenOf, idFits, fitsAs, fits}
-use Rattle.tree.specs.Field.{isForm, fits-known}
+use Rattle.tree.specs.Field.{isForm, hasIdIn, fits-known}
 use Rattle.tree.specs.Limits.{limits, limitOf, Between, partsAt, Fields, Within}
 use Rattle.tree.specs.Clear.{Tells, Sound}
 use Rattle.tree.proofs.Table.{each}
@@ -21,10 +21,6 @@ pub limit-at : (t : List (List ℕ)) (j : ℕ) {f g : ℕ} → f ≡ g → limit
 limit-at t j e = ap (λ (n : ℕ). limitOf t n j) e
 
 -- The parts of what a record's fields may be; an unknown form counts as one with no id, no name and no count
-
-abbrev hasIdIn : Option Form → Bool
-hasIdIn none = false
-hasIdIn (some f) = f .hasId
 
 abbrev nameBelowIn : Option Form → ℕ → ℕ
 nameBelowIn none N = 1

@@ -2,7 +2,6 @@ pub mod Record
 pub mod RecordLaws
 pub mod Form
 pub mod Field
-pub mod Entry
 pub mod Tree
 pub mod Define
 pub mod TreeLaws

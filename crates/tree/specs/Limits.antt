@@ -5,7 +5,8 @@ use mathlib.Core.Bool.{cond}
 use lib.ListN.{getD}
 use lib.Dec.{eqb}
 use Rattle.tree.specs.Record.{Record}
-use Rattle.tree.specs.Form.{namesOf, childrenOf}
+use Rattle.tree.specs.Form.{formOf, namesOf, childrenOf}
+use Rattle.tree.specs.Field.{hasIdIn}
 
 -- N is the number of names
 unfoldable pub limits : ℕ → List (List ℕ)
@@ -29,6 +30,24 @@ partIn j f = cond (eqb j 6) (namesOf f 0) (cond (eqb j 7) (namesOf f 1 - namesOf
 -- a column
 abbrev pub byForm : (ℕ → ℕ) → List ℕ
 byForm g = g 0 ∷ g 1 ∷ g 2 ∷ g 3 ∷ g 4 ∷ g 5 ∷ g 6 ∷ g 7 ∷ g 8 ∷ g 9 ∷ []
+
+-- the first two: the limit given on a form that has an id, 0 on the others; that of form 0 is given too
+abbrev pub idLimit : ℕ → ℕ → ℕ
+idLimit limit f = cond (hasIdIn (formOf f)) limit 0
+
+abbrev pub idColumn : ℕ → ℕ → List ℕ
+idColumn none limit =
+    none
+    ∷ idLimit limit 1
+    ∷ idLimit limit 2
+    ∷ idLimit limit 3
+    ∷ idLimit limit 4
+    ∷ idLimit limit 5
+    ∷ idLimit limit 6
+    ∷ idLimit limit 7
+    ∷ idLimit limit 8
+    ∷ idLimit limit 9
+    ∷ []
 
 -- number j of form f
 abbrev pub limitOf : List (List ℕ) → ℕ → ℕ → ℕ

@@ -1,61 +1,54 @@
-// The nine forms: how many children a record has, and how many of them are names.
+// The nine forms of document 01: how many children a record has, how many of them are names, and whether it has an id. Tables are by form,
+// from 0 to 9, and 0 is no form.
 ghost use mathlib.Core.Path.{_≡_};
 ghost use mathlib.Core.Bool.{true};
-ghost use Prim.Native.Nat.{_≤_};
+ghost use Prim.Native.Nat.{_+_, _*_, _≤_};
 ghost use Rattle.tree.specs.Form.{formOf, namesOf, childrenOf};
-ghost use Rattle.tree.specs.Entry.{entryOf, partsOf, entriesOf};
-ghost use Rattle.tree.specs.Field.{isForm};
+ghost use Rattle.tree.specs.Field.{isForm, hasIdIn};
 use table::wide;
 
 pub const FORMS: u32 = 9;
 
-// Tables by form, a hexadecimal digit each, form 0 last. Forms come mixed: a branch on one is often mispredicted, and a digit costs none.
-// The f, of no form, keeps the compiler from making a branch of a part of an entry that is 0 or 1 elsewhere.
+// The children that every record has, and those that it has for each one counted.
+const FIXED: [u8; 10] = [0, 0, 0, 3, 1, 2, 1, 0, 0, 2];
 
-// The children of every record, and four times those for each one counted.
-const CHILDREN: u64 = 0xf2445293000;
+const COUNTED: [u8; 10] = [0, 0, 0, 0, 2, 0, 1, 1, 1, 0];
 
-// The names among them, alike.
-const NAMES: u64 = 0xf1004140000;
+// The names among them, alike. No `match` on the form here: forms come mixed, and a branch on one is often mispredicted.
+const FIXED_NAMES: [u8; 10] = [0, 0, 0, 0, 0, 1, 0, 0, 0, 1];
 
-// A form's entry of a table.
-fn digit(table: u64, form: u32) -> usize
+const COUNTED_NAMES: [u8; 10] = [0, 0, 0, 0, 1, 0, 1, 0, 0, 0];
+
+fn byte(x: u8) -> usize
+    ensures { λ r. ⌜ r ≡ x ⌝ }
+{
+    x as usize
+}
+
+// A fixed part, and another for each one counted.
+fn in_all(fixed: u8, counted: u8, count: u32) -> usize
+    ensures { λ r. ⌜ r ≡ fixed + counted * count ⌝ }
+{
+    byte(fixed) + byte(counted) * wide(count)
+}
+
+// The children by the two tables.
+fn looked_up(form: u32, count: u32) -> usize
     requires { ⌜ form ≤ 9 ⌝ }
-    ensures { λ r. ⌜ r ≡ entryOf table form ⌝ }
+    ensures { λ r. ⌜ r ≡ childrenOf form count ⌝ }
 {
-    ((table >> (4 * form)) % 16) as usize
-}
-
-// The same; that of form 0 where the form is unknown.
-fn entry(table: u64, form: u32) -> usize
-    ensures { λ r. ⌜ r ≡ entryOf table form ⌝ }
-{
-    if FORMS < form {
-        return (table % 16) as usize;
-    }
-    digit(table, form)
-}
-
-// The two parts of an entry together, the upper one for each of `many`.
-fn parts(e: usize, many: usize) -> usize
-    requires { ⌜ partsOf e many ≤ 18446744073709551615 ⌝ }
-    ensures { λ r. ⌜ r ≡ partsOf e many ⌝ }
-{
-    e % 4 + e / 4 * many
-}
-
-fn entries(table: u64, form: u32, many: usize) -> usize
-    requires { ⌜ entriesOf table form many ≤ 18446744073709551615 ⌝ }
-    ensures { λ r. ⌜ r ≡ entriesOf table form many ⌝ }
-{
-    parts(entry(table, form), many)
+    let f = wide(form);
+    in_all(FIXED[f], COUNTED[f], count)
 }
 
 // How many children a record has; none where its form is unknown.
 pub fn children(form: u32, count: u32) -> usize
     ensures { λ r. ⌜ r ≡ childrenOf form count ⌝ }
 {
-    entries(CHILDREN, form, wide(count))
+    if FORMS < form {
+        return 0;
+    }
+    looked_up(form, count)
 }
 
 // The same where the form is known, which costs no test.
@@ -63,12 +56,26 @@ pub fn known_children(form: u32, count: u32) -> usize
     requires { ⌜ isForm (formOf form) ≡ true ⌝ }
     ensures { λ r. ⌜ r ≡ childrenOf form count ⌝ }
 {
-    parts(digit(CHILDREN, form), wide(count))
+    looked_up(form, count)
 }
 
 // How many of the children are names, which stand first.
 pub fn names(form: u32, count: u32) -> usize
     ensures { λ r. ⌜ r ≡ namesOf form count ⌝ }
 {
-    entries(NAMES, form, wide(count))
+    if FORMS < form {
+        return 0;
+    }
+    let f = wide(form);
+    in_all(FIXED_NAMES[f], COUNTED_NAMES[f], count)
+}
+
+// The id rule: whether a record of the form has an id.
+pub fn has_id(form: u32) -> bool
+    ensures { λ r. ⌜ r ≡ hasIdIn (formOf form) ⌝ }
+{
+    match form {
+        1..=2 | 4 | 6 | 8 => true,
+        _ => false,
+    }
 }

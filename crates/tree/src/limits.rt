@@ -4,7 +4,7 @@ ghost use Prim.Native.Nat.{_<_, _≤_};
 ghost use lib.ListN.{length};
 ghost use Rattle.tree.specs.Record.{records};
 ghost use Rattle.tree.specs.RecordLaws.{nth};
-ghost use Rattle.tree.specs.Limits.{byForm, partIn, limits, limitOf, Between, partsAt, Fields, Within};
+ghost use Rattle.tree.specs.Limits.{byForm, partIn, idLimit, idColumn, limits, limitOf, Between, partsAt, Fields, Within};
 ghost use Rattle.tree.specs.Clear.{Tells};
 use crate::form;
 use crate::record;
@@ -12,8 +12,7 @@ use table::wide;
 
 const LAST_ID: usize = 4294967294;
 
-// The largest count.
-const COUNTED: usize = 255;
+const MOST_COUNT: usize = 255;
 
 // A column for each limit, in it an entry for each form, form 0 included: an index by form then needs no multiplication.
 pub type Columns = [[usize; 10]; 10];
@@ -68,17 +67,53 @@ fn column(j: usize) -> [usize; 10]
     ]
 }
 
+// A form's limit of ids; 0 where it has none.
+fn id_limit(form: u32, limit: usize) -> usize
+    ensures { λ r. ⌜ r ≡ idLimit limit form ⌝ }
+{
+    if form::has_id(form) { limit } else { 0 }
+}
+
+// A column of these. That of form 0 is given, since it is no form.
+fn id_column(none: usize, limit: usize) -> [usize; 10]
+    ensures { λ r. ⌜ r ≡ idColumn none limit ⌝ }
+{
+    [
+        none,
+        id_limit(1, limit),
+        id_limit(2, limit),
+        id_limit(3, limit),
+        id_limit(4, limit),
+        id_limit(5, limit),
+        id_limit(6, limit),
+        id_limit(7, limit),
+        id_limit(8, limit),
+        id_limit(9, limit),
+    ]
+}
+
 // The fields' limits by form, from 0 to 9, then the numbers of names and of children. No id is within the limits of form 0.
 pub fn all(names: usize) -> Columns
     ensures { λ r. ⌜ r ≡ limits names ⌝ }
 {
     [
-        [1, 1, 1, 0, 1, 0, 1, 0, 1, 0],
-        [0, LAST_ID, LAST_ID, 0, LAST_ID, 0, LAST_ID, 0, LAST_ID, 0],
+        id_column(1, 1),
+        id_column(0, LAST_ID),
         [0, 0, 0, 0, 0, 0, 0, 0, 1, 0],
-        [0, 0, 0, 0, COUNTED, 0, COUNTED, COUNTED, COUNTED, 0],
+        [
+            0,
+            0,
+            0,
+            0,
+            MOST_COUNT,
+            0,
+            MOST_COUNT,
+            MOST_COUNT,
+            MOST_COUNT,
+            0,
+        ],
         [1, names, 2, 1, 1, 1, 1, 1, 1, 1],
-        [0, COUNTED, 0, 0, 0, 0, 0, 0, 0, 0],
+        [0, MOST_COUNT, 0, 0, 0, 0, 0, 0, 0, 0],
         column(NAMES),
         column(NAMES + 1),
         column(CHILDREN),

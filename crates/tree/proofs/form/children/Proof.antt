@@ -1,20 +1,19 @@
--- `children`: the tables of children.
+-- `children`: the two tables, where the form is known.
 use borrow.Author.Needs.{needs}
-use native.Mathlib.Omega.{arith}
-use mathlib.Core.Path.{_∙_}
-use Rattle.tree.proofs.Forms.{few-children}
-use Rattle.tree.proofs.Entries.{children-entries}
+use Rattle.tree.specs.Form.{namesOf, othersOf, childrenOf}
+use Rattle.tree.proofs.Forms.{unknown}
 use Rattle.tree.proofs.form.children.Statement.{statement}
 use Rattle.tree.proofs.form.children.Tie as tie
 
-wide-requires : tie.Need-wide-requires
-wide-requires c κs = search needs
-
-entries-requires : tie.Need-entries-requires
-entries-requires c κs = let f = c .before .args .form in let n = c .wide .result in omega (arith, children-entries f n, few-children f n)
-
 returns : tie.Need-returns
-returns c = c .entries .ensures ∙ children-entries _ _ ∙ rw (c .before .wide .ensures)
+unfolding namesOf othersOf childrenOf
+returns c = rw (unknown _ (c .if1 .taken))
+
+looked-up-requires : tie.Need-looked-up-requires
+looked-up-requires c κs = search needs
+
+returns-2 : tie.Need-returns-2
+returns-2 c = search needs
 
 pub children-spec : {M : Type 1} → statement M
-children-spec = tie.close (tie.spec wide-requires entries-requires returns)
+children-spec = tie.close (tie.spec returns looked-up-requires returns-2)

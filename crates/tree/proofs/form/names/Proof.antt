@@ -1,20 +1,46 @@
--- `names`: the tables of names.
+-- `names`: the two tables' rule, at each form and for every count.
 use borrow.Author.Needs.{needs}
 use native.Mathlib.Omega.{arith}
-use mathlib.Core.Path.{_∙_}
-use Rattle.tree.proofs.Forms.{few-names}
-use Rattle.tree.proofs.Entries.{names-entries}
+use Prim.Native.Nat.{ℕ, _+_, _*_, _≤_}
+use mathlib.Core.List.{List, [], _∷_}
+use mathlib.Core.Path.{_≡_, ap, _∙_}
+use lib.ListN.{getD}
+use Rattle.tree.specs.Form.{formOf, namesOf}
+use Rattle.tree.proofs.Table.{each}
+use Rattle.tree.proofs.Forms.{unknown}
 use Rattle.tree.proofs.form.names.Statement.{statement}
 use Rattle.tree.proofs.form.names.Tie as tie
+
+abbrev fixed : List ℕ
+fixed = 0 ∷ 0 ∷ 0 ∷ 0 ∷ 0 ∷ 1 ∷ 0 ∷ 0 ∷ 0 ∷ 1 ∷ []
+
+abbrev counted : List ℕ
+counted = 0 ∷ 0 ∷ 0 ∷ 0 ∷ 1 ∷ 0 ∷ 1 ∷ 0 ∷ 0 ∷ 0 ∷ []
+
+rule : (f c : ℕ) → f ≤ 9 → getD fixed f 0 + getD counted f 0 * c ≡ namesOf f c
+unfolding formOf namesOf
+rule f c h = each (λ n. getD fixed n 0 + getD counted n 0 * c ≡ namesOf n c) 10 (omega arith) f (omega arith)
+
+returns : tie.Need-returns
+unfolding namesOf
+returns c = rw (unknown _ (c .if1 .taken))
 
 wide-requires : tie.Need-wide-requires
 wide-requires c κs = search needs
 
-entries-requires : tie.Need-entries-requires
-entries-requires c κs = let f = c .before .args .form in let n = c .wide .result in omega (arith, names-entries f n, few-names f n)
+array-read-in-all : tie.Need-array-read-in-all
+array-read-in-all c = search needs
 
-returns : tie.Need-returns
-returns c = c .entries .ensures ∙ names-entries _ _ ∙ rw (c .before .wide .ensures)
+array-read-in-all-2 : tie.Need-array-read-in-all-2
+array-read-in-all-2 c = search needs
+
+in-all-requires : tie.Need-in-all-requires
+in-all-requires c κs = search needs
+
+returns-2 : tie.Need-returns-2
+returns-2 c =
+    let n = c .before .before .before .args .count in
+    c .in-all .ensures ∙ rule (c .before .wide .result) n (omega arith) ∙ ap (λ (f : ℕ). namesOf f n) (c .before .wide .ensures)
 
 pub names-spec : {M : Type 1} → statement M
-names-spec = tie.close (tie.spec wide-requires entries-requires returns)
+names-spec = tie.close (tie.spec returns wide-requires array-read-in-all array-read-in-all-2 in-all-requires returns-2)

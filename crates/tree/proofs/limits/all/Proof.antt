@@ -5,6 +5,12 @@ use Rattle.tree.specs.Limits.{limits}
 use Rattle.tree.proofs.limits.all.Statement.{statement}
 use Rattle.tree.proofs.limits.all.Tie as tie
 
+id-column-requires : tie.Need-id-column-requires
+id-column-requires c κs = search needs
+
+id-column-requires-2 : tie.Need-id-column-requires-2
+id-column-requires-2 c κs = search needs
+
 column-requires : tie.Need-column-requires
 column-requires c κs = search needs
 
@@ -27,12 +33,22 @@ returns : tie.Need-returns
 unfolding limits formOf namesOf othersOf childrenOf
 returns c =
     let d = c .before .before in
-    rw (c .column4 .ensures, c .before .column3 .ensures, d .column2 .ensures, d .before .column .ensures)
+    let e = d .before .before in
+    rw (
+      c .column4 .ensures,
+      c .before .column3 .ensures,
+      d .column2 .ensures,
+      d .before .column .ensures,
+      e .id-column2 .ensures,
+      e .before .id-column .ensures,
+    )
 
 pub all-spec : {M : Type 1} → statement M
 all-spec =
     tie.close
     (tie.spec
+    id-column-requires
+    id-column-requires-2
     column-requires
     add-column
     column-requires-2
