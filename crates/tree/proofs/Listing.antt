@@ -2,18 +2,23 @@
 use Prim.Native.Nat.{ℕ, suc, _+_, _≤_, _<_}
 use mathlib.Core.List.{List, [], _∷_, _++_}
 use mathlib.Core.Bool.{Bool, true, false, cond}
+use mathlib.Core.Logic.{_⊎_, inl, inr}
 use mathlib.Core.Path.{_≡_, refl, ap, sym, _∙_}
 use native.Mathlib.Omega.{arith}
+use native.Mathlib.Decide.{ℕ-discrete}
 use borrow.Author.Tests.{ne-eqb}
 use lib.Dec.{eqb}
-use lib.ListN.{length, take, drop, set, length-set}
-use lib.Seq.{take-set-le, take-suc-set, append-snoc, set-split}
-use Rattle.tree.specs.Record.{records}
+use lib.ListN.{length, getD, take, drop, set, length-set, length-append}
+use lib.Seq.{take-set-le, take-suc-set, append-snoc, set-split, length-take-le, getD-set-same, getD-set-other, drop-set-lt}
+use Rattle.tree.specs.Record.{Record, records}
 use Rattle.tree.specs.RecordLaws.{blank, nth}
 use Rattle.tree.specs.Place.{Open, after}
-use Rattle.tree.specs.Starts.{StartsWith, TellsStarts, atTop, topsIn}
+use Rattle.tree.specs.Check.{refusal}
+use Rattle.tree.specs.Order.{from3}
+use Rattle.tree.specs.Starts.{StartsWith, TellsStarts, atTop, topsIn, Stores, Leaves}
 use Rattle.tree.specs.Acceptance.{top-starts}
 use Rattle.tree.proofs.Places.{tops-next, tops-end}
+use Rattle.tree.proofs.Order.{numberIn, late}
 
 -- at record i, where s is open, the table has all those before: so many
 pub record Listed (rs tops : List ℕ) (top i : ℕ) (s : List Open) : Type 0 where
@@ -62,6 +67,64 @@ module _ {rs tops : List ℕ} {top i : ℕ} {s : List Open} (a : Listed rs tops 
             ∙ sym (append-snoc (take top tops) n (drop (suc top) tops))
             ∙ ap (λ (m : List ℕ). m ++ drop (suc top) tops) (sym (a .is ∙ ap (λ (m : List ℕ). take top tops ++ m) (tops-end (records rs) blank i s (omega arith) ∙ ap (λ (k : ℕ). k ∷ []) z)));
       }
+
+-- What is stored meanwhile: `before` is the table at the start, and so many starts are listed
+
+some-tops : (s : List Open) (i : ℕ) (l : List Record) → 1 ≤ length (topsIn s i l)
+unfolding topsIn atTop
+some-tops s i [] = omega arith
+some-tops [] i (r ∷ l) = omega arith
+some-tops (o ∷ s) i (r ∷ l) = some-tops (after (o ∷ s) r) (i + 1) l
+
+-- the list of starts goes on
+pub more-tops : {rs tops : List ℕ} {top i : ℕ} {s : List Open} → Listed rs tops top i s → top < length (topsIn [] 0 (records rs))
+more-tops {rs} {tops} {top} {i} {s} a =
+    let later = topsIn s i (drop i (records rs)) in
+    let few : top ≤ length tops = omega (arith, a .room, a .few, a .within) in
+    omega (arith, ap length (a .is), length-append (take top tops) later, length-take-le top tops few, some-tops s i (drop i (records rs)))
+
+pub record Storing (rs before tops : List ℕ) (top : ℕ) : Type 0 where
+  pub long : length tops ≡ length before
+  pub rest : (n : ℕ) → top < n → drop n tops ≡ drop n before
+  pub small : (k : ℕ) → (getD tops k 0 ≡ getD before k 0) ⊎ (getD tops k 0 ≤ length (records rs))
+
+pub store-begin : (rs tops : List ℕ) (top : ℕ) → Storing rs tops tops top
+store-begin rs tops top = record { long = refl; rest = λ n h. refl; small = λ k. inl refl }
+
+module _ {rs before tops : List ℕ} {top : ℕ} (a : Storing rs before tops top) where
+  pub store-later : {top′ : ℕ} → top ≤ top′ → Storing rs before tops top′
+  store-later h = record { long = a .long; rest = λ n g. a .rest n (omega arith); small = a .small }
+
+  module _ {v : ℕ} (h : top < length tops) (g : v ≤ length (records rs)) where
+    small-at : (k : ℕ) → Dec (k ≡ top) → (getD (set tops top v) k 0 ≡ getD before k 0) ⊎ (getD (set tops top v) k 0 ≤ length (records rs))
+    small-at k (yes e) = inr (rw (e, getD-set-same tops top v 0 h) g)
+    small-at k (no n) = rw (getD-set-other tops top k v 0 n) (a .small k)
+
+    pub store-one : Storing rs before (set tops top v) top
+    store-one = record {
+      long = length-set tops top v ∙ a .long;
+      rest = λ n z. drop-set-lt n tops top v z ∙ a .rest n z;
+      small = λ k. small-at k (ℕ-discrete k top);
+    }
+
+  pub stores : top < length (topsIn [] 0 (records rs)) → Stores rs before tops
+  stores h = record { long = a .long; rest = a .rest _ h; small = a .small }
+
+-- What the checks leave
+
+pub leaves-all : {N : ℕ} {rs tops : List ℕ} → Leaves N rs tops tops
+leaves-all {rs = rs} {tops} = record {
+  stored = record { long = refl; rest = refl; small = λ k. inl refl };
+  early = λ r e h. refl;
+  short = λ h. refl;
+}
+
+pub leaves-stored : {N : ℕ} {rs tops tops′ : List ℕ} → refusal N rs ≡ from3 N rs → length (records rs) < length tops → Stores rs tops tops′ → Leaves N rs tops tops′
+leaves-stored {N} {rs} e h a = record {
+  stored = a;
+  early = λ r f g. absurd (omega (arith, late N rs, ap numberIn (sym e ∙ f)));
+  short = λ g. absurd (omega arith);
+}
 
 -- the records at top level are where the trees start
 pub list-told : {N : ℕ} {rs tops : List ℕ} → StartsWith tops (topsIn [] 0 (records rs)) → TellsStarts N rs tops

@@ -3,10 +3,11 @@ use Prim.Native.Nat.{ℕ, _%_, _≤_, _<_}
 use mathlib.Core.List.{List}
 use mathlib.Core.Option.{Option, none, some}
 use mathlib.Core.Path.{_≡_, sym, _∙_}
+use native.Mathlib.Omega.{arith}
 use borrow.Author.Tests.{eq-eqb, ne-eqb, lt-ltb, le-ltb}
 use lib.ListN.{length}
 use Rattle.tree.specs.Record.{width, records}
-use Rattle.tree.specs.Check.{Refusal, orElse, check1, check2, refusal}
+use Rattle.tree.specs.Check.{Refusal, orElse, check1, check2, check3, check4, check5, check6, check7, check8, refusal}
 use Rattle.tree.specs.Order.{from3, from8}
 use Rattle.tree.specs.Acceptance.Passes.{silent}
 use Rattle.tree.specs.Clear.{Clear}
@@ -32,6 +33,24 @@ module _ (N : ℕ) (rs : List ℕ) where
       pub past-2 : N ≤ 1024 → refusal N rs ≡ from3 N rs
       unfolding refusal check1 check2
       past-2 k = rw (eq-eqb (length rs % width) 0 h, le-ltb 4096 (length (records rs)) g, le-ltb 1024 N k)
+
+-- the checks from 3 on refuse by numbers from 3 on
+abbrev pub numberIn : Option Refusal → ℕ
+numberIn none = 3
+numberIn (some r) = r .number
+
+least : (n : ℕ) (o : Option ℕ) (p : Option Refusal) → 3 ≤ n → 3 ≤ numberIn p → 3 ≤ numberIn (orElse n o p)
+least n none p h g = g
+least n (some i) p h g = h
+
+pub late : (N : ℕ) (rs : List ℕ) → 3 ≤ numberIn (from3 N rs)
+late N rs =
+    least 3 (check3 N rs) _ (omega arith)
+    (least 4 (check4 N rs) _ (omega arith)
+    (least 5 (check5 N rs) _ (omega arith)
+    (least 6 (check6 N rs) _ (omega arith)
+    (least 7 (check7 N rs) _ (omega arith)
+    (least 8 (check8 N rs) none (omega arith) (omega arith))))))
 
 -- where none of the checks 3 to 7 applies, the last is left
 pub cleared : (N : ℕ) (rs : List ℕ) → Clear N rs → from3 N rs ≡ from8 N rs

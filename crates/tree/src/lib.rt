@@ -7,7 +7,7 @@ ghost use Rattle.tree.specs.Record.{records};
 ghost use Rattle.tree.specs.Check.{refusal};
 ghost use Rattle.tree.specs.Order.{from3, from8};
 ghost use Rattle.tree.specs.Answer.{refusalOf};
-ghost use Rattle.tree.specs.Starts.{TellsStarts};
+ghost use Rattle.tree.specs.Starts.{TellsStarts, Leaves};
 use scan::Found;
 
 pub mod form;
@@ -84,10 +84,13 @@ fn in_order(rs: &[u32], names: usize) -> Checked
 }
 
 // The first check that refuses. Most trees pass 3 to 7: one pass tells. A table of more numbers than there are records is told where the trees of
-// a script that is fit start.
+// a script that is fit start and where they end; the numbers behind those are as they were. After 1 and 2, and where the table is too
+// short, all of it is as it was. After 3 to 8 its start is left free: at most as many numbers as there are records at top level and one more, each
+// as it was or at most the record count.
 pub fn check(rs: &[u32], names: usize, tops: &mut [u16]) -> Checked
     ensures { λ r. ⌜ refusalOf r ≡ refusal names (now (rs .entry)) ⌝ }
     ensures told { λ r. ⌜ (refusalOf r ≡ none → length (records (now (rs .entry))) < length (now (tops .entry)) → TellsStarts names (now (rs .entry)) (now (tops .exit))) ⌝ }
+    ensures leaves { λ _. ⌜ Leaves names (now (rs .entry)) (now (tops .entry)) (now (tops .exit)) ⌝ }
 {
     if rs.len() % record::WIDTH != 0 {
         return Checked::Ragged;

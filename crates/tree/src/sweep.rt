@@ -8,7 +8,7 @@ ghost use lib.ListN.{length};
 ghost use Rattle.tree.specs.Record.{records};
 ghost use Rattle.tree.specs.Held.{Steps};
 ghost use Rattle.tree.specs.Clear.{Tells, Clear};
-ghost use Rattle.tree.specs.Starts.{StartsWith, topsIn};
+ghost use Rattle.tree.specs.Starts.{StartsWith, topsIn, Stores};
 use crate::limits;
 use crate::nest::DEEPEST;
 use crate::record;
@@ -67,6 +67,7 @@ pub fn clear(rs: &[u32], names: usize, tops: &mut [u16]) -> bool
     requires { ⌜ length (records (now rs)) < length (now tops) ⌝ }
     ensures { λ r. ⌜ Tells r (Clear names (now (rs .entry))) ⌝ }
     ensures told { λ r. ⌜ (r ≡ true → StartsWith (now (tops .exit)) (topsIn [] 0 (records (now (rs .entry))))) ⌝ }
+    ensures stores { λ _. ⌜ Stores (now (rs .entry)) (now (tops .entry)) (now (tops .exit)) ⌝ }
 {
     let n = record::len(rs);
     let t = limits::all(names);

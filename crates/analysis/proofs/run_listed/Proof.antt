@@ -40,7 +40,7 @@ begins c =
     let g = f .before .before .before in
     let o = g .before .before .before .before .before .before .before .before .before in
     let b = accepted-begins (f .answer-of .ensures ∙ g .check .ensures .0) (c .enum-told .given .1) (o .pre .1) in
-    (begun-told b (o .pre .0) (g .check .ensures .0) (g .check .ensures .1), b)
+    (begun-told b (o .pre .0) (g .check .ensures .0) (g .check .ensures .1 .0), b)
 
 run-twice-requires : tie.Need-run-twice-requires
 run-twice-requires c κs = begins (c .before .before .before .before .before .before)

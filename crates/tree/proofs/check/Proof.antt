@@ -10,7 +10,7 @@ use Rattle.tree.specs.Record.{records}
 use Rattle.tree.specs.Check.{refusal}
 use Rattle.tree.specs.Order.{from3}
 use Rattle.tree.proofs.Telling.{tells-misses}
-use Rattle.tree.proofs.Listing.{list-told}
+use Rattle.tree.proofs.Listing.{list-told, leaves-all, leaves-stored}
 use Rattle.tree.proofs.Order.{ragged, many-records, many-names, past-2, cleared, unrefused}
 use Rattle.tree.proofs.check.Statement.{statement}
 use Rattle.tree.proofs.check.Tie as tie
@@ -26,16 +26,16 @@ refused : (c : tie.Joined4) → let s = start (c .before .before) in length (rec
 refused c h e = ⊎-elim (λ p. tells-misses (p .2 .ensures .0) (p .5 .left) (unrefused _ _ e)) (λ p. omega (arith, p .0 .left, c .before .len2 .ensures)) (c .if4 .came)
 
 returns : tie.Need-returns
-returns c = (ragged _ _ (c .if1 .taken), λ e. absurd (Option·some-ne-none _ e))
+returns c = (ragged _ _ (c .if1 .taken), (λ e. absurd (Option·some-ne-none _ e), leaves-all))
 
 len-requires : tie.Need-len-requires
 len-requires c κs = search needs
 
 returns-2 : tie.Need-returns-2
-returns-2 c = (many-records _ _ (c .before .before .if1 .left) (omega arith), λ e. absurd (Option·some-ne-none _ e))
+returns-2 c = (many-records _ _ (c .before .before .if1 .left) (omega arith), (λ e. absurd (Option·some-ne-none _ e), leaves-all))
 
 returns-3 : tie.Need-returns-3
-returns-3 c = (many-names _ _ (c .before .before .before .if1 .left) (omega arith) (c .if3 .taken), λ e. absurd (Option·some-ne-none _ e))
+returns-3 c = (many-names _ _ (c .before .before .before .if1 .left) (omega arith) (c .if3 .taken), (λ e. absurd (Option·some-ne-none _ e), leaves-all))
 
 len-requires-2 : tie.Need-len-requires-2
 len-requires-2 c κs = search needs
@@ -54,8 +54,10 @@ returns-4 c =
     let d = c .before .before .before .before in
     let b = d .before .before .before .before in
     let N = start b .args .names in
-    let y = c .before .if5 .taken in
-    (c .last .ensures N ∙ sym (from-3 b ∙ cleared N _ (d .clear .ensures .0 .yes y)), λ e h. list-told (d .clear .ensures .1 y))
+    let y = c .before .if5 .taken in (
+      c .last .ensures N ∙ sym (from-3 b ∙ cleared N _ (d .clear .ensures .0 .yes y)),
+      (λ e h. list-told (d .clear .ensures .1 .0 y), leaves-stored (from-3 b) (omega arith) (d .clear .ensures .1 .1)),
+    )
 
 in-order-requires : tie.Need-in-order-requires
 in-order-requires c κs = search needs
@@ -65,8 +67,13 @@ same-length-2 c = ⊎-elim (λ p. ap length (p .6) ∙ p .2 .kept .1 .1 .0) (λ 
 
 returns-5 : tie.Need-returns-5
 returns-5 c =
-    let e = c .in-order .ensures ∙ sym (from-3 (c .before .before .before)) in
-    (e, λ z h. absurd (refused (c .before) h (sym e ∙ z)))
+    let e = c .in-order .ensures ∙ sym (from-3 (c .before .before .before)) in (
+      e,
+      (
+        λ z h. absurd (refused (c .before) h (sym e ∙ z)),
+        ⊎-elim (λ p. rw (p .6) (leaves-stored (from-3 (c .before .before .before)) (omega arith) (p .2 .ensures .1 .1))) (λ p. rw (p .1) leaves-all) (c .before .if4 .came),
+      ),
+    )
 
 pub check-spec : {M : Type 1} → statement M
 check-spec =

@@ -11,14 +11,14 @@ use Rattle.tree.specs.RecordLaws.{nth}
 use Rattle.tree.specs.Limits.{Within}
 use Rattle.tree.proofs.Telling.{tells-no, tells-without}
 use Rattle.tree.proofs.Limiting.{tells-sound, names-at, children-at, names-few, children-few}
-use Rattle.tree.proofs.Listing.{one-listed, list-end}
+use Rattle.tree.proofs.Listing.{one-listed, list-end, more-tops, Storing, store-begin, store-later, store-one, stores}
 use Rattle.tree.proofs.Standing.{stand-some, stand-last, stand-under}
 use Rattle.tree.proofs.Sweeping.{Sweeping, sweep-begin, sweep-next, sweep-end, clear-sound, clear-near, clear-none}
 use Rattle.tree.proofs.sweep.clear.Statement.{statement}
 use Rattle.tree.proofs.sweep.clear.Tie as tie
 
 abbrev Inv-loop : tie.InvT-loop
-Inv-loop rs names tops₀ n t kept₀ inner₀ due₀ top₀ i₀ tops kept inner due top i = (Sweeping names rs tops kept inner due top i) × (length tops ≡ length tops₀)
+Inv-loop rs names tops₀ n t kept₀ inner₀ due₀ top₀ i₀ tops kept inner due top i = (Sweeping names rs tops kept inner due top i) × Storing rs tops₀ tops top
 
 abbrev μ-loop : tie.MeasureT-loop
 μ-loop rs names tops₀ n t kept₀ inner₀ due₀ top₀ i₀ tops kept inner due top i = length (records rs) - i
@@ -50,7 +50,7 @@ mul-result : tie.Need-mul-result Inv-loop μ-loop
 mul-result c = search needs
 
 loop-holds : tie.Need-loop-holds Inv-loop μ-loop
-loop-holds c = let s = c .before .before .before .before in (sweep-begin _ _ _ (s .pre .0) (s .pre .1) (c .before .len .ensures), refl)
+loop-holds c = let s = c .before .before .before .before in (sweep-begin _ _ _ (s .pre .0) (s .pre .1) (c .before .len .ensures), store-begin _ _ 0)
 
 within-requires : tie.Need-within-requires Inv-loop μ-loop
 within-requires c κs = omega arith
@@ -63,7 +63,7 @@ returns c =
     let d = c .before in
     let l = d .before .before .before in (
       tells-without (tells-sound _ (l .before .all .ensures) _ (l .loop .inv .0 .few) (d .within .ensures)) (not-true _ (c .if1 .taken)) (λ k. clear-sound (l .loop .inv .0) k (omega arith)),
-      λ f. absurd (true≢false (sym f)),
+      (λ f. absurd (true≢false (sym f)), stores (l .loop .inv .1) (more-tops (l .loop .inv .0 .places .listed))),
     )
 
 taken-requires : tie.Need-taken-requires Inv-loop μ-loop
@@ -85,10 +85,11 @@ same-length-2 : tie.Need-same-length-2 Inv-loop μ-loop
 same-length-2 c = search needs
 
 returns-2 : tie.Need-returns-2 Inv-loop μ-loop
-returns-2 c = (
-  tells-no (λ k. let h = clear-near (loop (c .before .before .before .before .before) .loop .inv .0) k (omega arith) in omega arith),
-  λ f. absurd (true≢false (sym f)),
-)
+returns-2 c =
+    let l = loop (c .before .before .before .before .before) in (
+      tells-no (λ k. let h = clear-near (l .loop .inv .0) k (omega arith) in omega arith),
+      (λ f. absurd (true≢false (sym f)), stores (l .loop .inv .1) (more-tops (l .loop .inv .0 .places .listed))),
+    )
 
 cast-tops : tie.Need-cast-tops Inv-loop μ-loop
 cast-tops c = search needs
@@ -150,7 +151,7 @@ loop-again c =
           (sweep-next (l .loop .inv .0) (omega arith) (tells-sound _ k _ (l .loop .inv .0 .few) (e .before .within .ensures) .yes (not-false _ (e .if1 .left)))
           (rw (p .before .before .taken .ensures, p .parts .ensures, names-at _ k _ f)) (d .before .before .before .before .before .if2 .left) (c .before .step .ensures)
           (rw (d .parts2 .ensures) (children-at _ k _ f))),
-      simp length-set (l .loop .inv .1),
+      let a = l .loop .inv .0 .places .listed in store-later (store-one (l .loop .inv .1) (omega arith) (omega arith)) (omega arith),
     )
 
 cast-tops-2 : tie.Need-cast-tops-2 Inv-loop μ-loop
@@ -163,13 +164,17 @@ slice-write-tops-2 : tie.Need-slice-write-tops-2 Inv-loop μ-loop
 slice-write-tops-2 c = let a = c .before .loop .inv .0 .places .listed in omega arith
 
 same-length-3 : tie.Need-same-length-3 Inv-loop μ-loop
-same-length-3 c = simp length-set (c .before .before .loop .inv .1)
+same-length-3 c = simp length-set (c .before .before .loop .inv .1 .long)
 
 returns-3 : tie.Need-returns-3 Inv-loop μ-loop
 returns-3 c =
-    let a = c .before .before .loop .inv .0 in (
+    let a = c .before .before .loop .inv .0 in
+    let l = a .places .listed in (
       record { yes = λ t. sweep-end a (omega arith) (eqb-true _ _ t); all = λ k. eq-eqb _ _ (clear-none a k (omega arith)) },
-      λ _. list-end (a .places .listed) (c .before .before .before .before .len .ensures) (omega arith),
+      (
+        λ _. list-end l (c .before .before .before .before .len .ensures) (omega arith),
+        stores (store-one (c .before .before .loop .inv .1) (omega arith) (omega arith)) (more-tops l),
+      ),
     )
 
 pub clear-spec : {M : Type 1} → statement M
