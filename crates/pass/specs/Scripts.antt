@@ -1,70 +1,66 @@
 -- Document 01, "Scripts to try (* proved)": each starred script with what the document says of it, and that the definitions say so.
-use Prim.Native.Nat.{ℕ, zero, suc, _+_, _*_, _/_}
-use mathlib.Core.List.{List, [], _∷_}
-use mathlib.Core.Bool.{true, false}
+use Prim.Native.Nat.{ℕ, suc}
+use mathlib.Core.List.{List, [], _∷_, map, head-eq-of-cons-eq, tail-eq-of-cons-eq}
+use mathlib.Core.Bool.{Bool, true, false}
 use mathlib.Core.Option.{Option, none, some}
-use mathlib.Core.Path.{_≡_, refl}
-use lib.ListN.{getD, replicate}
-use Rattle.tree.specs.Tree.{Ident, Node, Tree, Trees, ident, const, if, letin, define, lambda, begin, call, set!, nil, cons, bit}
+use mathlib.Core.Path.{_≡_, refl, ap}
+use lib.ListN.{length, getD, replicate}
+use Rattle.table.specs.Layout.{layout}
+use Rattle.tree.specs.Record.{numbers, records}
+use Rattle.tree.specs.Form.{formOf, namesOf, othersOf, fits}
+use Rattle.tree.specs.Tree.{Ident, Node, Tree, Trees, ident, const, if, letin, define, lambda, begin, call, set!, nil, cons, flat, flats, size}
 use Rattle.tree.specs.Define.{topLevel, topOf, _⊕_}
-use Rattle.tree.specs.Check.{Refusal}
+use Rattle.tree.specs.Place.{closed, after, placed, left}
+use Rattle.tree.specs.First.{first}
+use Rattle.tree.specs.Check.{Refusal, repeated, check1, check2, check3, check4, check5, check6, check7, check8, refusal}
+use Rattle.tree.specs.Accepted.{All, Accepted}
 use Rattle.scope_map.specs.ScopeMap.{getIn, hasIn, replaceIn, removeIn, layerIn, belowLayer}
 use Rattle.semantic.specs.Information.{NONE}
-use Rattle.semantic.specs.Rows.{Row, Blank, Variable, Function, CallSite, Let, kindNumber, callNumber, selfNumber}
+use Rattle.semantic.specs.Rows.{Row, Blank, Variable, Function, CallSite, Let}
 use Rattle.semantic.specs.declared.IdentifierStatus.{IdentifierStatus}
 use Rattle.semantic.specs.declared.IdentifierStatus.the-variants.{Captured, Free}
 use Rattle.semantic.specs.declared.CallKind.{CallKind}
-use Rattle.semantic.specs.declared.CallKind.the-variants.{Normal, TailCall, SelfTailCall}
+use Rattle.semantic.specs.declared.CallKind.the-variants.{Normal, TailCall}
 use Rattle.semantic.specs.declared.SemanticInformation.{SemanticInformation}
-use Rattle.pass.specs.State.{insert, amend, putEntry}
+use Rattle.pass.specs.State.{State, insert, amend, putEntry}
 use Rattle.pass.specs.Read.{enter, defineFact, enterDefine, enterTopLevelValue, ruleOf, useIn, read, mutate}
 use Rattle.pass.specs.Lists.{capturedIn, capturedVars, insertById, sortById, storeCaptured, storeArguments, rewriteCaptured, numberRow, numberRows, numberList, heapCount, keep, countOf, find, amendList}
 use Rattle.pass.specs.Lambda.{enterName, enterNames, openCaptures, openScope, enterParameters, enterLambda, namesUsed, holdsLambda, markLasts, closeScope, closeCaptures, endParameters, makeFunction, amendFunction, leaveLambda, openLet, closeLet, enterLet, leaveNames, entered, leaveLet}
 use Rattle.pass.specs.Visit.{markArguments, endCall, clearContext, enterChildren, visit, enterTops, visitTop, visitTops}
 use Rattle.pass.specs.Run.{start, noFacts, run, fresh, settled, freshOutcome, settledOutcome, zeros, tablesOf}
+use Rattle.pass.specs.Numbered.{numbered, namesNumbered, accepted-as}
 
--- The printed facts, as their numbers: a line for each fact, and the last line
-
-pub data Line : Type 0 where
-  name : ℕ → ℕ → ℕ → ℕ → ℕ → ℕ → ℕ → Line  -- at, kind, depth, uses, refers, slot, last
-  function : ℕ → ℕ → ℕ → ℕ → Line  -- at, captured, escapes, depth
-  site : ℕ → ℕ → ℕ → Line  -- at, call, self
-  letAt : ℕ → ℕ → ℕ → Line  -- at, let, in
-  total : ℕ → ℕ → ℕ → Line  -- calls, tail, percent
-
-abbrev isTail : CallKind → ℕ
-isTail Normal = 0
-isTail TailCall = 1
-isTail (SelfTailCall d) = 1
-
--- rounded, half up
-abbrev percent : ℕ → ℕ → ℕ
-percent zero tail = 0
-percent (suc n) tail = (200 * tail + suc n) / (2 * suc n)
-
--- the lines of the rows from the record i on; `calls` and `tail` are counted so far
-abbrev lines : ℕ → ℕ → ℕ → List Row → List Line
-lines i calls tail [] = total calls tail (percent calls tail) ∷ []
-lines i calls tail (Blank ∷ l) = lines (suc i) calls tail l
-lines i calls tail (Variable v ∷ l) =
-    name i (kindNumber (v .kind)) (v .depth) (v .«usage_count») (v .«refers_to») (v .«stack_offset») (bit (v .«last_usage»)) ∷ lines (suc i) calls tail l
-lines i calls tail (Function v ∷ l) =
-    function i (v .«captured_vars» .length) (bit (v .escapes)) (v .depth) ∷ lines (suc i) calls tail l
-lines i calls tail (CallSite v ∷ l) =
-    site i (callNumber (v .kind)) (selfNumber (v .kind)) ∷ lines (suc i) (suc calls) (tail + isTail (v .kind)) l
-lines i calls tail (Let v ∷ l) = letAt i (v .«stack_offset») (v .«function_context») ∷ lines (suc i) calls tail l
-
--- What the document says of a script. A number before another is a record.
+-- What the document says of the facts after the fresh run. A number before another is a record.
 
 pub data Saying : Type 0 where
-  prints : List Line → Saying  -- the fresh run's printed facts
   callAt : ℕ → Option CallKind → Saying
   kindAt : ℕ → Option IdentifierStatus → Saying
   depthAt : ℕ → ℕ → Saying
   slotAt : ℕ → ℕ → Saying
   usesAt : ℕ → ℕ → Saying
-  freshRefused : Option Refusal → Saying
-  settledRefused : Option Refusal → Saying
+
+pub record Script : Type 0 where
+  pub names : ℕ
+  pub tree : Trees
+  pub fresh : Option Refusal  -- the fresh run's; none where it is accepted
+  pub settled : Option Refusal
+  pub says : List Saying
+
+abbrev pub classes : Script → List ℕ
+classes s = replicate (s .names) 0
+
+abbrev pub recordsOf : Script → List ℕ
+recordsOf s = numbers (flats (s .tree))
+
+-- to unfold it is to unfold all that a fresh run computes with
+unfoldable pub freshRun : Script → State
+unfolding topLevel topOf _⊕_ getIn hasIn replaceIn removeIn layerIn belowLayer insert amend putEntry enter defineFact enterDefine enterTopLevelValue ruleOf useIn read mutate capturedIn capturedVars insertById sortById storeCaptured storeArguments rewriteCaptured numberRow numberRows numberList heapCount keep countOf find amendList enterName enterNames openCaptures openScope enterParameters enterLambda namesUsed holdsLambda markLasts closeScope closeCaptures endParameters makeFunction amendFunction leaveLambda openLet closeLet enterLet leaveNames entered leaveLet markArguments endCall clearContext enterChildren visit enterTops visitTop visitTops start noFacts run fresh
+freshRun s = fresh (classes s) (s .tree)
+
+-- What the definitions say instead
+
+abbrev rowAt : Script → ℕ → Row
+rowAt s i = getD (freshRun s .facts .rows) i Blank
 
 abbrev callIn : Row → Option CallKind
 callIn Blank = none
@@ -89,39 +85,31 @@ abbrev numberIn : (SemanticInformation → ℕ) → Option SemanticInformation �
 numberIn f none = NONE
 numberIn f (some v) = f v
 
-pub record Script : Type 0 where
-  pub names : ℕ
-  pub tree : Trees
-  pub says : List Saying
-
-abbrev classes : Script → List ℕ
-classes s = replicate (s .names) 0
-
-abbrev rowAt : Script → ℕ → Row
-rowAt s i = getD (fresh (classes s) (s .tree) .facts .rows) i Blank
-
--- what the definitions say instead
-abbrev defined : Script → Saying → Saying
-defined s (prints l) = prints (lines 0 0 0 (fresh (classes s) (s .tree) .facts .rows))
+abbrev pub defined : Script → Saying → Saying
 defined s (callAt i k) = callAt i (callIn (rowAt s i))
 defined s (kindAt i k) = kindAt i (kindIn (variableIn (rowAt s i)))
 defined s (depthAt i d) = depthAt i (numberIn (λ v. v .depth) (variableIn (rowAt s i)))
 defined s (slotAt i d) = slotAt i (numberIn (λ v. v .«stack_offset») (variableIn (rowAt s i)))
 defined s (usesAt i d) = usesAt i (numberIn (λ v. v .«usage_count») (variableIn (rowAt s i)))
-defined s (freshRefused r) = freshRefused (freshOutcome (classes s) (s .tree) .refused)
-defined s (settledRefused r) = settledRefused (settledOutcome (classes s) (s .tree) .refused)
 
-abbrev definedAll : Script → List Saying → List Saying
-definedAll s [] = []
-definedAll s (a ∷ l) = defined s a ∷ definedAll s l
+pub record Answer : Type 0 where
+  pub numbered : Bool  -- is the tree numbered in preorder
+  pub checked : Option Refusal  -- by checks 1 to 8, of the tree's records
+  pub fresh : Option Refusal
+  pub settled : Option Refusal
+  pub says : List Saying
 
-abbrev pub computed : List Script → List (List Saying)
-computed [] = []
-computed (s ∷ l) = definedAll s (s .says) ∷ computed l
+abbrev pub computed : Script → Answer
+computed s = record {
+  numbered = numbered 0 (s .tree);
+  checked = refusal (length (classes s)) (recordsOf s);
+  fresh = freshOutcome (classes s) (s .tree) .refused;
+  settled = settledOutcome (classes s) (s .tree) .refused;
+  says = map (defined s) (s .says);
+}
 
-abbrev pub expected : List Script → List (List Saying)
-expected [] = []
-expected (s ∷ l) = s .says ∷ expected l
+abbrev pub expected : Script → Answer
+expected s = record { numbered = true; checked = none; fresh = s .fresh; settled = s .settled; says = s .says }
 
 -- Writing trees: what has an id has its record's number plus 1; an if, a begin, a define and a set! have none
 
@@ -155,29 +143,30 @@ refused n i = some (record { number = n; at = i })
 
 -- The scripts in the document's order, each under the document's words. Names are numbered as they come.
 
+-- "(define f (lambda (x) (f x))), f id 1, lambda 2, x 3, call 4, then 5 and 6, prints": the lines are in listing/specs/Scripts.antt
+abbrev pub sample : Script
+sample = record {
+  names = 2;
+  tree = only (define (bare 0) (identOf 1 1 0) (lambda (nodeOf 2 2) (identOf 3 3 1 ∷ []) (call (nodeOf 4 4) (ident (identOf 5 5 0)) (only (ident (identOf 6 6 1))))));
+  fresh = none;
+  settled = none;
+  says = [];
+}
+
+-- "No records: the last line alone, all 0.": the line is there too
+abbrev pub noRecords : Script
+noRecords = record { names = 0; tree = nil; fresh = none; settled = none; says = [] }
+
 abbrev pub scripts : List Script
 scripts =
-    -- "(define f (lambda (x) (f x))), f id 1, lambda 2, x 3, call 4, then 5 and 6, prints": the lines at "The printed facts"
-    record {
-      names = 2;
-      tree = only (define (bare 0) (identOf 1 1 0) (lambda (nodeOf 2 2) (identOf 3 3 1 ∷ []) (call (nodeOf 4 4) (ident (identOf 5 5 0)) (only (ident (identOf 6 6 1))))));
-      says = prints (
-          name 1 1 1 1 NONE NONE 0
-          ∷ function 2 0 0 1
-          ∷ name 3 2 2 1 NONE NONE 0
-          ∷ site 4 3 1
-          ∷ name 5 1 1 1 1 NONE 0
-          ∷ name 6 2 2 1 3 0 1
-          ∷ total 1 1 100
-          ∷ []
-          ) ∷ [];
-    }
-    -- "No records: the last line alone, all 0."
-    ∷ record { names = 0; tree = nil; says = prints (total 0 0 0 ∷ []) ∷ [] }
+    sample
+    ∷ noRecords
     -- "(f x) alone: Normal; both Free."
     ∷ record {
       names = 2;
       tree = only (call (at 0) (reads 1 0) (only (reads 2 1)));
+      fresh = none;
+      settled = none;
       says = callAt 0 (some Normal) ∷ kindAt 1 (some Free) ∷ kindAt 2 (some Free) ∷ [];
     }
     -- "(lambda (c) (if (p c) (q c) (r c))): Normal, TailCall, TailCall."
@@ -187,47 +176,83 @@ scripts =
           (call (at 3) (reads 4 1) (only (reads 5 0)))
           (call (at 6) (reads 7 2) (only (reads 8 0)))
           (call (at 9) (reads 10 3) (only (reads 11 0)))));
+      fresh = none;
+      settled = none;
       says = callAt 3 (some Normal) ∷ callAt 6 (some TailCall) ∷ callAt 9 (some TailCall) ∷ [];
     }
     -- "(lambda (p) (g 7 (let ((y p)) y))): y's slot 2."
     ∷ record {
       names = 3;
       tree = only (lambda (at 0) (named 1 0 ∷ []) (call (at 2) (reads 3 1) (cons (number 4) (only (letin (at 5) (named 6 2 ∷ []) (only (reads 7 0)) (reads 8 2))))));
+      fresh = none;
+      settled = none;
       says = slotAt 8 2 ∷ [];
     }
     -- "(lambda (x) (lambda () x)): Captured, slot 0, depth 3."
     ∷ record {
       names = 1;
       tree = only (lambda (at 0) (named 1 0 ∷ []) (lambda (at 2) [] (reads 3 0)));
+      fresh = none;
+      settled = none;
       says = kindAt 3 (some Captured) ∷ slotAt 3 0 ∷ depthAt 3 3 ∷ [];
     }
     -- "(lambda (x) (set! x 1)): x has 2 uses."
     ∷ record {
       names = 1;
       tree = only (lambda (at 0) (named 1 0 ∷ []) (set! (bare 2) (named 3 0) (number 4)));
+      fresh = none;
+      settled = none;
       says = usesAt 1 2 ∷ [];
     }
     -- "(lambda (x) (let ((x 1)) x)): 9 at 3."
     ∷ record {
       names = 1;
       tree = only (lambda (at 0) (named 1 0 ∷ []) (letin (at 2) (named 3 0 ∷ []) (only (number 4)) (reads 5 0)));
-      says = freshRefused (refused 9 3) ∷ settledRefused (refused 9 3) ∷ [];
+      fresh = refused 9 3;
+      settled = refused 9 3;
+      says = [];
     }
     -- "(lambda (x) (lambda () (begin (lambda () x) (set! x 1)))), settled: 12 at 5; fresh: accepted."
     ∷ record {
       names = 1;
       tree = only (lambda (at 0) (named 1 0 ∷ []) (lambda (at 2) [] (begin (bare 3)
           (cons (lambda (at 4) [] (reads 5 0)) (only (set! (bare 6) (named 7 0) (number 8)))))));
-      says = settledRefused (refused 12 5) ∷ freshRefused none ∷ [];
+      fresh = none;
+      settled = refused 12 5;
+      says = [];
     }
     -- "(let ((x 1)) (lambda () (set! x 2))), settled: 11 at 1."
     ∷ record {
       names = 1;
       tree = only (letin (at 0) (named 1 0 ∷ []) (only (number 2)) (lambda (at 3) [] (set! (bare 4) (named 5 0) (number 6))));
-      says = settledRefused (refused 11 1) ∷ [];
+      fresh = none;
+      settled = refused 11 1;
+      says = [];
     }
     ∷ []
 
-pub scripts-hold : computed scripts ≡ expected scripts
-unfolding topLevel topOf _⊕_ getIn hasIn replaceIn removeIn layerIn belowLayer insert amend putEntry enter defineFact enterDefine enterTopLevelValue ruleOf useIn read mutate capturedIn capturedVars insertById sortById storeCaptured storeArguments rewriteCaptured numberRow numberRows numberList heapCount keep countOf find amendList enterName enterNames openCaptures openScope enterParameters enterLambda namesUsed holdsLambda markLasts closeScope closeCaptures endParameters makeFunction amendFunction leaveLambda openLet closeLet enterLet leaveNames entered leaveLet markArguments endCall clearContext enterChildren visit enterTops visitTop visitTops start noFacts run fresh settled freshOutcome settledOutcome zeros tablesOf
+pub scripts-hold : map computed scripts ≡ map expected scripts
+unfolding freshRun numbered namesNumbered flat size layout records fits formOf namesOf othersOf closed after placed left first repeated check1 check2 check3 check4 check5 check6 check7 check8 refusal settled freshOutcome settledOutcome zeros tablesOf
 scripts-hold = refl
+
+-- So each tree is the one that its records say, and both runs refuse or accept it as the document says
+
+pub record AsSaid (s : Script) : Type 0 where
+  pub accepted : Accepted (length (classes s)) (recordsOf s) (s .tree)
+  pub fresh : freshOutcome (classes s) (s .tree) .refused ≡ s .fresh
+  pub settled : settledOutcome (classes s) (s .tree) .refused ≡ s .settled
+
+as-said : (l : List Script) → map computed l ≡ map expected l → All AsSaid l
+as-said [] e = tt
+as-said (s ∷ l) e =
+    let h : computed s ≡ expected s = head-eq-of-cons-eq e in (
+      record {
+        accepted = accepted-as (length (classes s)) (s .tree) (ap (λ (a : Answer). a .numbered) h) (ap (λ (a : Answer). a .checked) h);
+        fresh = ap (λ (a : Answer). a .fresh) h;
+        settled = ap (λ (a : Answer). a .settled) h;
+      },
+      as-said l (tail-eq-of-cons-eq e),
+    )
+
+pub all-as-said : All AsSaid scripts
+all-as-said = as-said scripts scripts-hold
