@@ -2,3 +2,4 @@ pub mod Listing
 pub mod Printed
 pub mod Fits
 pub mod Answered
+pub mod Scripts
