@@ -25,8 +25,9 @@ use Rattle.execution.specs.Positions.{Same}
 abbrev pub rows : State → List Row
 rows s = s .facts .rows
 
--- Demand 2: "proved are tail position and, where no define is inner, binding from R7RS". Tail position: a call has a fact exactly if its head is no
--- constant, and its kind is TailCall or SelfTailCall exactly if R7RS puts it in tail position. Of every accepted tree, inner defines or not.
+-- Demand 2: "proved are tail position and, where no define is inner, binding from R7RS". Tail position: a record has a call's fact exactly if it is a
+-- call whose head is no constant, and that fact's kind is TailCall or SelfTailCall exactly if R7RS puts the call in tail position. Of every accepted
+-- tree, inner defines or not.
 
 abbrev pub TailFresh : Type 0
 TailFresh = (classes rs : List ℕ) (ts : Trees) → FreshAccepts classes rs ts → CallsRecorded (rows (fresh classes ts)) ts

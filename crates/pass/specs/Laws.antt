@@ -10,7 +10,7 @@ pub mod Ranges
 pub mod Keeps
 pub mod Tops
 pub mod Calls
-pub mod Silent
+pub mod Sites
 pub mod Tail
 pub mod Entries
 pub mod Layers

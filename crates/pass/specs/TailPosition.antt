@@ -1,11 +1,12 @@
--- Demand 2, tail position: a call has a fact exactly if its head is no constant, and that fact is of a tail call, TailCall or SelfTailCall, exactly if
--- the call stands in tail position of the innermost lambda around it, as R7RS 3.5 has it (`calls`). So after one run and after two, for every tree that
--- is accepted, inner defines included. Proved in Laws/Tail.antt.
+-- Demand 2, tail position: a record has a call's fact exactly if it is a call whose head is no constant, and that fact is of a tail call, TailCall or
+-- SelfTailCall, exactly if the call stands in tail position of the innermost lambda around it, as R7RS 3.5 has it (`calls`). So after one run and after
+-- two, for every tree that is accepted, inner defines included. Proved in Laws/Tail.antt.
 use Prim.Native.Nat.{ℕ, _≤_}
-use mathlib.Core.List.{List}
-use mathlib.Core.Bool.{Bool, true, false, not}
+use mathlib.Core.List.{List, [], _∷_}
+use mathlib.Core.Bool.{Bool, true, false, not, _&&_, _||_}
 use mathlib.Core.Path.{_≡_}
 use lib.ListN.{getD}
+use lib.Dec.{eqb}
 use Rattle.tree.specs.Tree.{Tree, Trees, ident, const, if, letin, define, lambda, begin, call, set!, sizes, Nums}
 use Rattle.tree.specs.Accepted.{All}
 use Rattle.semantic.specs.Rows.{Row, Blank, Variable, Function, CallSite, Let}
@@ -31,13 +32,16 @@ isCallSite (Function v) = false
 isCallSite (CallSite v) = true
 isCallSite (Let v) = false
 
--- the rows T have the call's fact
-pub record CallRecorded (T : List Row) (c : Call) : Type 0 where
-  pub fact : isCallSite (getD T (c .at) Blank) ≡ not (isConstant (c .head))
-  pub tail : isConstant (c .head) ≡ false → isTailRow (getD T (c .at) Blank) ≡ c .tail
+-- i is the record of one of the calls, and its head is no constant
+unfoldable pub hasFact : ℕ → List Call → Bool
+hasFact i [] = false
+hasFact i (c ∷ l) = (eqb (c .at) i && not (isConstant (c .head))) || hasFact i l
 
-abbrev pub CallsRecorded : List Row → Trees → Type 0
-CallsRecorded T ts = All (CallRecorded T) (callsIn ts)
+pub record CallsRecorded (T : List Row) (ts : Trees) : Type 0 where
+  -- the row at i is a call's fact exactly if i is the record of a call whose head is no constant
+  pub fact : (i : ℕ) → isCallSite (getD T i Blank) ≡ hasFact i (callsIn ts)
+  -- that fact is of a tail call exactly if the call stands in tail position
+  pub tail : All (λ c. isConstant (c .head) ≡ false → isTailRow (getD T (c .at) Blank) ≡ c .tail) (callsIn ts)
 
 abbrev pub TailPosition : Type 0
 TailPosition =

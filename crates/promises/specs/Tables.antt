@@ -30,8 +30,8 @@ use Rattle.promises.specs.Back.{rows-same}
 -- What holds of the tree ts and of the rows T that the table of facts is
 
 pub record FreshFacts (classes : List ℕ) (ts : Trees) (T : List Row) : Type 0 where
-  -- "proved are tail position": a call has a fact exactly if its head is no constant, and that fact is of a tail call exactly if R7RS has the call
-  -- in tail position
+  -- "proved are tail position": a record has a call's fact exactly if it is a call whose head is no constant, and that fact is of a tail call exactly if
+  -- R7RS has the call in tail position
   pub tail : CallsRecorded T ts
   -- each name that is defined at top level is Global, of depth 1, with no reference and no slot; each lambda tells the layer that it is made at
   pub defined : DefinesNamed ts T × LambdasMade ts T

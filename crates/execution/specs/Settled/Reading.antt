@@ -21,8 +21,8 @@ use Rattle.semantic.specs.declared.SemanticInformation.{SemanticInformation}
 use Rattle.pass.specs.State.{Entry, Facts, Capture, Scope, State, infoAt, insert, amend, rowAt, putEntry, entryAt, depth, binderIn, usedEntry, lastEntry, capturedEntry, noteSecond, withCaptures}
 use Rattle.pass.specs.Read.{isPrelude, span, freeFact, Rule, noEntry, depthOne, currentLayer, takenCapture, takenFact, captureOffsets, hasNumber, useIn, useCapture, countUses, readBy, read, mutateAt, mutate}
 use Rattle.pass.specs.Laws.Rows.{key, key-variable, row-same}
-use Rattle.pass.specs.Laws.Changes.{Changes, keeps-lengths, row}
-use Rattle.pass.specs.Laws.Names.{by-changes, set-changes}
+use Rattle.pass.specs.Laws.Changes.{Changes, keeps-lengths}
+use Rattle.pass.specs.Laws.Names.{unfound-changes, by-changes, set-changes}
 use Rattle.pass.specs.Laws.Leaves.{names}
 use Rattle.pass.specs.Laws.Says.{cellOf, isSetIn, usedInside, Tells, SaysOf}
 use Rattle.pass.specs.Laws.Finds.{entryIn, Around, Global, liveIn, Of, of-none, of-some, Got, got-none, got-some}
@@ -143,7 +143,7 @@ module _ (classes : List ℕ) (S : Script) {own left : ℕ → Type 0} {bottom :
   by-again : {o : Option Binder} {r : Rule} → find (p .scope) (x .name) ≡ o → Rereads S own fr s (f .captures .top) p bottom (x .name) o r
       → Again S left bottom function fr d old p (readBy classes r x s)
   unfolding insert amend putEntry
-  by-again e (again-none g) = calmly-again S f parts (λ free. row (x .at) _ refl) refl
+  by-again e (again-none g) = calmly-again S f parts (λ free. unfound-changes classes x s refl) refl
   by-again e (again-global {d} g h v) =
       used-again S f (d .at) _ parts
       (λ b two k z. absurd (omega (arith, k .depth, h, ap (λ (i : ℕ). entryAt s i .depth) z)))

@@ -10,10 +10,12 @@ use lib.ListN.{length, getD, length-set}
 use Rattle.scope_map.specs.ScopeMap.{ScopeMap, popLayer}
 use Rattle.tree.specs.Tree.{Ident}
 use Rattle.tree.specs.Check.{Refusal}
-use Rattle.semantic.specs.Rows.{Row, Blank}
+use Rattle.semantic.specs.Rows.{Row, Blank, CallSite}
 use Rattle.semantic.specs.declared.SemanticInformation.{SemanticInformation}
+use Rattle.semantic.specs.declared.CallSiteInformation.{CallSiteInformation}
 use Rattle.pass.specs.State.{Entry, Facts, Capture, Noted, State, withFacts, withNames, withCaptures, withContext, withNoted, rowAt, insert, amend, entryAt, putEntry, depth}
 use Rattle.pass.specs.Lambda.{openScope, closeScope}
+use Rattle.pass.specs.TailPosition.{isCallSite}
 use Rattle.pass.specs.Laws.Rows.{key, Marks, row-other, key-amended}
 
 -- a refusal that only a second run meets
@@ -60,27 +62,36 @@ pub record Used (d e : Entry) : Type 0 where
   pub kept : lastingEntry e ≡ lastingEntry d
 
 infixl 40 _⨾_
--- Facts and entries are written at the records in `own`; the fact of any other is at most marked, its entry at most used. Names, entries and
--- captures change if `free` holds.
-pub data Steps (free : Type 0) (own : ℕ → Type 0) : State → State → Type 0 where
-  same : {s : State} → Steps free own s s
-  _⨾_ : {s t u : State} → Steps free own s t → Steps free own t u → Steps free own s u
-  row : {s : State} (i : ℕ) (r : Row) → own i → Steps free own s (insert i r s)
-  mark : {s : State} (f : SemanticInformation → SemanticInformation) (i : ℕ) → Marks f → Steps free own s (amend f i s)
-  entry : {s : State} → free → (i : ℕ) (e : Entry) → own i → Steps free own s (putEntry i e s)
-  used : {s : State} → free → (i : ℕ) (e : Entry) → Used (entryAt s i) e → Steps free own s (putEntry i e s)
-  names : {s : State} → free → (m : ScopeMap Ident) → m .depth ≡ depth s → Steps free own s (withNames m s)
-  layer : {s t : State} → free → Steps free own (openScope s) t → Steps free own s (closeScope t)
-  lists : {s : State} (f : Facts) → Relisted (s .facts) f → Steps free own s (withFacts f s)
-  captures : {s : State} → free → (m : ScopeMap Capture) → Steps free own s (withCaptures m s)
-  context : {s : State} (c : ℕ) → Steps free own s (withContext c s)
-  note : {s : State} (n : Noted) → Noting free (s .noted) n → Steps free own s (withNoted n s)
+-- Facts and entries are written at the records in `own`, a call's fact at those in `sites`; the fact of any other is at most marked, its entry at most
+-- used. Names, entries and captures change if `free` holds.
+pub data CallSteps (free : Type 0) (own sites : ℕ → Type 0) : State → State → Type 0 where
+  same : {s : State} → CallSteps free own sites s s
+  _⨾_ : {s t u : State} → CallSteps free own sites s t → CallSteps free own sites t u → CallSteps free own sites s u
+  row : {s : State} (i : ℕ) (r : Row) → own i → (isCallSite (rowAt s i) ≡ false → isCallSite r ≡ false) → CallSteps free own sites s (insert i r s)
+  site : {s : State} (i : ℕ) (v : CallSiteInformation) → sites i → CallSteps free own sites s (insert i (CallSite v) s)
+  mark : {s : State} (f : SemanticInformation → SemanticInformation) (i : ℕ) → Marks f → CallSteps free own sites s (amend f i s)
+  entry : {s : State} → free → (i : ℕ) (e : Entry) → own i → CallSteps free own sites s (putEntry i e s)
+  used : {s : State} → free → (i : ℕ) (e : Entry) → Used (entryAt s i) e → CallSteps free own sites s (putEntry i e s)
+  names : {s : State} → free → (m : ScopeMap Ident) → m .depth ≡ depth s → CallSteps free own sites s (withNames m s)
+  layer : {s t : State} → free → CallSteps free own sites (openScope s) t → CallSteps free own sites s (closeScope t)
+  lists : {s : State} (f : Facts) → Relisted (s .facts) f → CallSteps free own sites s (withFacts f s)
+  captures : {s : State} → free → (m : ScopeMap Capture) → CallSteps free own sites s (withCaptures m s)
+  context : {s : State} (c : ℕ) → CallSteps free own sites s (withContext c s)
+  note : {s : State} (n : Noted) → Noting free (s .noted) n → CallSteps free own sites s (withNoted n s)
+
+abbrev pub CallChanges : (ℕ → Type 0) → (ℕ → Type 0) → State → State → Type 0
+CallChanges = CallSteps (Unit {0})
+
+-- every fact is written there
+abbrev pub Steps : Type 0 → (ℕ → Type 0) → State → State → Type 0
+Steps free own = CallSteps free own own
 
 abbrev pub Changes : (ℕ → Type 0) → State → State → Type 0
 Changes = Steps (Unit {0})
 
 -- by a test
-pub either : {free : Type 0} {own : ℕ → Type 0} {s t u : State} (b : Bool) → Steps free own s t → Steps free own s u → Steps free own s (cond b t u)
+pub either : {free : Type 0} {own sites : ℕ → Type 0} {s t u : State} (b : Bool) → CallSteps free own sites s t → CallSteps free own sites s u
+    → CallSteps free own sites s (cond b t u)
 either true c d = c
 either false c d = d
 
@@ -88,7 +99,8 @@ either false c d = d
 pub widen : {free : Type 0} {own wide : ℕ → Type 0} → ((x : ℕ) → own x → wide x) → {s t : State} → Steps free own s t → Steps free wide s t
 widen w same = same
 widen w (c ⨾ d) = widen w c ⨾ widen w d
-widen w (row i r o) = row i r (w i o)
+widen w (row i r o p) = row i r (w i o) p
+widen w (site i v o) = site i v (w i o)
 widen w (mark f i m) = mark f i m
 widen w (entry n i e o) = entry n i e (w i o)
 widen w (used n i e u) = used n i e u
@@ -104,7 +116,8 @@ pub keeps-key : {free : Type 0} {own : ℕ → Type 0} {s t : State} → Steps f
 unfolding putEntry openScope closeScope
 keeps-key same x o = refl
 keeps-key (c ⨾ d) x o = keeps-key d x o ∙ keeps-key c x o
-keeps-key (row {s} i r w) x o = ap key (row-other i r s x (λ e. o (rw e w)))
+keeps-key (row {s} i r w p) x o = ap key (row-other i r s x (λ e. o (rw e w)))
+keeps-key (site {s} i v w) x o = ap key (row-other i (CallSite v) s x (λ e. o (rw e w)))
 keeps-key (mark {s} f i m) x o = key-amended f m i s x
 keeps-key (entry n i e w) x o = refl
 keeps-key (used n i e u) x o = refl
@@ -146,7 +159,8 @@ pub keeps-lengths : {free : Type 0} {own : ℕ → Type 0} {s t : State} → Ste
 unfolding putEntry openScope closeScope amend
 keeps-lengths same = untouched refl refl
 keeps-lengths (c ⨾ d) = lengths-trans (keeps-lengths c) (keeps-lengths d)
-keeps-lengths (row {s} i r w) = insert-lengths i r s
+keeps-lengths (row {s} i r w p) = insert-lengths i r s
+keeps-lengths (site {s} i v w) = insert-lengths i (CallSite v) s
 keeps-lengths (mark {s} f i m) = insert-lengths i _ s
 keeps-lengths (entry {s} n i e w) = put-lengths i e s
 keeps-lengths (used {s} n i e u) = put-lengths i e s
@@ -161,20 +175,24 @@ keeps-lengths (note n l) = untouched refl refl
 popped : {A : Type 0} (m : ScopeMap A) → 2 ≤ m .depth → popLayer m .depth ≡ m .depth - 1
 popped m h = rw (lt-ltb 1 (m .depth) h)
 
-pub keeps-depth : {free : Type 0} {own : ℕ → Type 0} {s t : State} → Steps free own s t → 1 ≤ depth s → depth t ≡ depth s
+pub same-depth : {free : Type 0} {own sites : ℕ → Type 0} {s t : State} → CallSteps free own sites s t → 1 ≤ depth s → depth t ≡ depth s
 unfolding putEntry openScope closeScope amend insert
-keeps-depth same h = refl
-keeps-depth (c ⨾ d) h = let e = keeps-depth c h in keeps-depth d (omega arith) ∙ e
-keeps-depth (row i r w) h = refl
-keeps-depth (mark f i m) h = refl
-keeps-depth (entry n i e w) h = refl
-keeps-depth (used n i e u) h = refl
-keeps-depth (names n m e) h = e
-keeps-depth (layer {s} {t} n c) h = let e = keeps-depth c (omega arith) in popped (t .scope .names) (omega arith) ∙ omega arith
-keeps-depth (lists f l) h = refl
-keeps-depth (captures n m) h = refl
-keeps-depth (context c) h = refl
-keeps-depth (note n l) h = refl
+same-depth same h = refl
+same-depth (c ⨾ d) h = let e = same-depth c h in same-depth d (omega arith) ∙ e
+same-depth (row i r w p) h = refl
+same-depth (site i v w) h = refl
+same-depth (mark f i m) h = refl
+same-depth (entry n i e w) h = refl
+same-depth (used n i e u) h = refl
+same-depth (names n m e) h = e
+same-depth (layer {s} {t} n c) h = let e = same-depth c (omega arith) in popped (t .scope .names) (omega arith) ∙ omega arith
+same-depth (lists f l) h = refl
+same-depth (captures n m) h = refl
+same-depth (context c) h = refl
+same-depth (note n l) h = refl
+
+pub keeps-depth : {free : Type 0} {own : ℕ → Type 0} {s t : State} → Steps free own s t → 1 ≤ depth s → depth t ≡ depth s
+keeps-depth c h = same-depth c h
 
 -- Refusals: one that was noted stays
 pub no-later : {n : Noted} → Later n n
@@ -196,7 +214,8 @@ pub keeps-noted : {free : Type 0} {own : ℕ → Type 0} {s t : State} → Steps
 unfolding putEntry openScope closeScope amend insert
 keeps-noted same = no-later
 keeps-noted (c ⨾ d) = later-trans (keeps-noted c) (keeps-noted d)
-keeps-noted (row i r w) = no-later
+keeps-noted (row i r w p) = no-later
+keeps-noted (site i v w) = no-later
 keeps-noted (mark f i m) = no-later
 keeps-noted (entry n i e w) = no-later
 keeps-noted (used n i e u) = no-later
@@ -220,7 +239,8 @@ quiet (c ⨾ d) =
     let p = quiet c in
     let q = quiet d in
     record { scope = q .scope ∙ p .scope; captures = q .captures ∙ p .captures; nine = q .nine ∙ p .nine }
-quiet (row i r w) = record { scope = refl; captures = refl; nine = refl }
+quiet (row i r w p) = record { scope = refl; captures = refl; nine = refl }
+quiet (site i v w) = record { scope = refl; captures = refl; nine = refl }
 quiet (mark f i m) = record { scope = refl; captures = refl; nine = refl }
 quiet (entry n i e w) = absurd n
 quiet (used n i e u) = absurd n

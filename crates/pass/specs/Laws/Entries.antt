@@ -8,7 +8,7 @@ use lib.ListN.{length, getD}
 use lib.Seq.{getD-set-same, getD-set-other, set-out}
 use Rattle.pass.specs.State.{Entry, State, noEntry, insert, amend, entryAt, putEntry}
 use Rattle.pass.specs.Lambda.{openScope, closeScope}
-use Rattle.pass.specs.Laws.Changes.{Used, Steps, same, _⨾_, row, mark, entry, used, names, layer, lists, captures, context, note}
+use Rattle.pass.specs.Laws.Changes.{Used, Steps, same, _⨾_, row, site, mark, entry, used, names, layer, lists, captures, context, note}
 use Rattle.pass.specs.Laws.Moves.{Moves, by, opens, closes, _⨟_}
 
 pub unused : {e : Entry} → Used e e
@@ -43,7 +43,8 @@ pub keeps-entry : {free : Type 0} {own : ℕ → Type 0} {s t : State} → Steps
 unfolding openScope closeScope amend insert
 keeps-entry same x o = unused
 keeps-entry (c ⨾ d) x o = used-again (keeps-entry c x o) (keeps-entry d x o)
-keeps-entry (row i r w) x o = unused
+keeps-entry (row i r w p) x o = unused
+keeps-entry (site i v w) x o = unused
 keeps-entry (mark f i m) x o = unused
 keeps-entry (entry {s} n i e w) x o = rw (entry-other i e s x (λ q. o (rw q w))) unused
 keeps-entry (used {s} n i e u) x o = put-used i e s u x

@@ -10,14 +10,17 @@ use Rattle.tree.specs.Tree.{Ident, Tree}
 use Rattle.tree.specs.Check.{Refusal}
 use Rattle.scope_map.specs.ScopeMap.{hasAtTop}
 use Rattle.scope_map.specs.ScopeMap as map
+use Rattle.semantic.specs.Amend.{usedOr}
 use Rattle.semantic.specs.Information.{NONE, withUsageCount, markSet, markShadowed}
+use Rattle.semantic.specs.Rows.{Row, Blank, Variable, Function, CallSite, Let}
 use Rattle.semantic.specs.declared.IdentifierStatus.{IdentifierStatus}
 use Rattle.semantic.specs.declared.ScopeInfo.{ScopeInfo}
 use Rattle.semantic.specs.declared.SemanticInformation.{SemanticInformation}
-use Rattle.pass.specs.State.{infoAt, Entry, Noted, State, withNames, depth, newest, orKept, noteNine, noteTen, noteSecond, putEntry}
+use Rattle.pass.specs.State.{infoAt, rowAt, Entry, Noted, State, withNames, depth, newest, orKept, noteNine, noteTen, noteSecond, putEntry}
 use Rattle.pass.specs.Read.{noteLive, enter, enterDefine, markIf, shadowIfBuiltin, shadow, enterTopLevelValue, Rule, noEntry, depthOne, currentLayer, takenCapture, homeSlot, ruleOf, hasNumber, noteTaken, oneUseMore, readBy, read, mutateAt, mutate}
+use Rattle.pass.specs.TailPosition.{isCallSite}
 use Rattle.pass.specs.Laws.Rows.{lasting}
-use Rattle.pass.specs.Laws.Changes.{lastingEntry, Used, Second, Later, Steps, Changes, same, _⨾_, either, row, mark, entry, used, names, captures, note}
+use Rattle.pass.specs.Laws.Changes.{lastingEntry, Used, Second, Later, CallSteps, CallChanges, same, _⨾_, either, row, mark, entry, used, names, captures, note}
 
 -- An entry that is read, read from an inner lambda, or set
 
@@ -57,65 +60,76 @@ marked-if : (b : Bool) (v : SemanticInformation) → lasting (markIf b markShado
 marked-if true v = refl
 marked-if false v = refl
 
-module _ {free : Type 0} {own : ℕ → Type 0} where
-  pub ten-changes : (i : ℕ) (s : State) → Steps free own s (noteTen i s)
+-- a row that is used is a call's fact if it was one
+used-site : (v : SemanticInformation) (r : Row) → isCallSite r ≡ false → isCallSite (usedOr v r) ≡ false
+used-site v Blank e = refl
+used-site v (Variable w) e = refl
+used-site v (Function w) e = refl
+used-site v (CallSite w) e = e
+used-site v (Let w) e = refl
+
+module _ {free : Type 0} {own sites : ℕ → Type 0} where
+  pub ten-changes : (i : ℕ) (s : State) → CallSteps free own sites s (noteTen i s)
   ten-changes i s = note _ (record { later = ten-later i (s .noted); nine = λ o. refl })
 
-  pub second-changes : (n i : ℕ) (s : State) → (11 ≤ n) × (n ≤ 12) → Steps free own s (noteSecond n i s)
+  pub second-changes : (n i : ℕ) (s : State) → (11 ≤ n) × (n ≤ 12) → CallSteps free own sites s (noteSecond n i s)
   second-changes n i s b = note _ (record { later = second-later n i (s .noted) b; nine = λ o. refl })
 
-  taken-changes : (c : ScopeInfo) (x : Ident) (s : State) → Steps free own s (noteTaken c x s)
+  taken-changes : (c : ScopeInfo) (x : Ident) (s : State) → CallSteps free own sites s (noteTaken c x s)
   taken-changes c x s = either (hasNumber (c .«read_capture_offset») && eqb (c .«capture_offset») NONE) (second-changes 12 (x .at) s (omega arith, omega arith)) same
 
-  pub shadow-changes : (classes : List ℕ) (o : Option Ident) (s : State) → Steps free own s (shadow classes o s)
+  pub unfound-changes : (classes : List ℕ) (x : Ident) (s : State) → own (x .at) → CallSteps free own sites s (readBy classes noEntry x s)
+  unfound-changes classes x s o = row (x .at) _ o (used-site _ (rowAt s (x .at)))
+
+  pub shadow-changes : (classes : List ℕ) (o : Option Ident) (s : State) → CallSteps free own sites s (shadow classes o s)
   shadow-changes classes none s = same
   shadow-changes classes (some b) s = mark (shadowIfBuiltin classes) (b .at) (λ v. marked-if (v .builtin) v)
 
-module _ {own : ℕ → Type 0} where
-  pub nine-changes : (i : ℕ) (s : State) → Changes own s (noteNine i s)
+module _ {own sites : ℕ → Type 0} where
+  pub nine-changes : (i : ℕ) (s : State) → CallChanges own sites s (noteNine i s)
   nine-changes i s = note _ (record { later = nine-later i (s .noted); nine = λ o. absurd (o tt) })
 
   -- A name is read
 
   module _ (classes : List ℕ) where
-    pub by-changes : (r : Rule) (x : Ident) (s : State) → own (x .at) → Changes own s (readBy classes r x s)
-    by-changes noEntry x s o = row (x .at) _ o
-    by-changes (depthOne b) x s o = used tt (b .at) _ (read-used refl refl refl) ⨾ mark oneUseMore (b .at) (λ v. refl) ⨾ row (x .at) _ o
-    by-changes (currentLayer b) x s o = used tt (b .at) _ (read-used refl refl refl) ⨾ mark (withUsageCount _) (b .at) (λ v. refl) ⨾ row (x .at) _ o
+    pub by-changes : (r : Rule) (x : Ident) (s : State) → own (x .at) → CallChanges own sites s (readBy classes r x s)
+    by-changes noEntry x s o = unfound-changes classes x s o
+    by-changes (depthOne b) x s o = used tt (b .at) _ (read-used refl refl refl) ⨾ mark oneUseMore (b .at) (λ v. refl) ⨾ row (x .at) _ o (λ e. refl)
+    by-changes (currentLayer b) x s o = used tt (b .at) _ (read-used refl refl refl) ⨾ mark (withUsageCount _) (b .at) (λ v. refl) ⨾ row (x .at) _ o (λ e. refl)
     by-changes (takenCapture b c) x s o =
-        captures tt _ ⨾ used tt (b .at) _ (captured-used refl refl refl) ⨾ mark (withUsageCount _) (c .binder .at) (λ v. refl) ⨾ row (x .at) _ o ⨾ taken-changes (infoAt s (c .row)) x _
-    by-changes (homeSlot b) x s o = used tt (b .at) _ (captured-used refl refl refl) ⨾ mark (withUsageCount _) (b .at) (λ v. refl) ⨾ row (x .at) _ o
+        captures tt _ ⨾ used tt (b .at) _ (captured-used refl refl refl) ⨾ mark (withUsageCount _) (c .binder .at) (λ v. refl) ⨾ row (x .at) _ o (λ e. refl) ⨾ taken-changes (infoAt s (c .row)) x _
+    by-changes (homeSlot b) x s o = used tt (b .at) _ (captured-used refl refl refl) ⨾ mark (withUsageCount _) (b .at) (λ v. refl) ⨾ row (x .at) _ o (λ e. refl)
 
-    pub read-changes : (x : Ident) (s : State) → own (x .at) → Changes own s (read classes x s)
+    pub read-changes : (x : Ident) (s : State) → own (x .at) → CallChanges own sites s (read classes x s)
     unfolding read
     read-changes x s o = by-changes (ruleOf s (x .name)) x s o
 
   -- and set
 
-  pub set-changes : (o : Option Ident) (s : State) → Changes own s (mutateAt o s)
+  pub set-changes : (o : Option Ident) (s : State) → CallChanges own sites s (mutateAt o s)
   set-changes none s = same
   set-changes (some b) s = used tt (b .at) _ (set-used refl refl refl) ⨾ mark markSet (b .at) (λ v. refl)
 
-  pub mutate-changes : (x : ℕ) (s : State) → Changes own s (mutate x s)
+  pub mutate-changes : (x : ℕ) (s : State) → CallChanges own sites s (mutate x s)
   unfolding mutate
   mutate-changes x s = set-changes (newest s x) s
 
   -- A name enters
 
   noted-enters : (b : Bool) (x : Ident) (e : Entry) (s : State) → own (x .at)
-      → Changes own s (putEntry (x .at) e (withNames (map.define (x .name) x (s .scope .names)) (noteLive b (x .at) s)))
+      → CallChanges own sites s (putEntry (x .at) e (withNames (map.define (x .name) x (s .scope .names)) (noteLive b (x .at) s)))
   noted-enters true x e s o = nine-changes (x .at) s ⨾ names tt _ refl ⨾ entry tt (x .at) e o
   noted-enters false x e s o = names tt _ refl ⨾ entry tt (x .at) e o
 
-  pub enter-changes : (x : Ident) (e : Entry) (s : State) → own (x .at) → Changes own s (enter x e s)
+  pub enter-changes : (x : Ident) (e : Entry) (s : State) → own (x .at) → CallChanges own sites s (enter x e s)
   unfolding enter
   enter-changes x e s o = noted-enters (ltb 1 (depth s) && hasAtTop (s .scope .names) (x .name)) x e s o
 
   module _ (classes : List ℕ) where
-    pub define-changes : (k : IdentifierStatus) (a : ℕ) (x : Ident) (b : Tree) (s : State) → own (x .at) → Changes own s (enterDefine classes k a x b s)
+    pub define-changes : (k : IdentifierStatus) (a : ℕ) (x : Ident) (b : Tree) (s : State) → own (x .at) → CallChanges own sites s (enterDefine classes k a x b s)
     unfolding enterDefine
-    define-changes k a x b s o = enter-changes x _ s o ⨾ row (x .at) _ o
+    define-changes k a x b s o = enter-changes x _ s o ⨾ row (x .at) _ o (λ e. refl)
 
-    pub value-changes : (x : Ident) (b : Tree) (s : State) → own (x .at) → Changes own s (enterTopLevelValue classes x b s)
+    pub value-changes : (x : Ident) (b : Tree) (s : State) → own (x .at) → CallChanges own sites s (enterTopLevelValue classes x b s)
     unfolding enterTopLevelValue
     value-changes x b s o = shadow-changes classes (newest s (x .name)) s ⨾ define-changes _ _ x b _ o

@@ -22,7 +22,7 @@ module _ (own : ℕ → Type 0) where
   mutual
     unfolding Num size Writes
 
-    pub tree-writes : (k : ℕ) (t : Tree) → Num k t → Covers own k (k + size t) → Writes own t
+    pub tree-writes : (k : ℕ) (t : Tree) → Num k t → Covers own k (k + size t) → Writes own own t
     tree-writes k (ident x) n o = o (x .at) (omega arith) (omega arith)
     tree-writes k (const m q) n o = tt
     tree-writes k (if m a b c) n o = (
@@ -50,7 +50,7 @@ module _ (own : ℕ → Type 0) where
     )
     tree-writes k (set! m x e) n o = (o (x .at) (omega arith) (omega arith), tree-writes (k + 2) e (n .2) (λ y l u. o y (omega arith) (omega arith)))
 
-    pub trees-writes : (k : ℕ) (ts : Trees) → Nums k ts → Covers own k (k + sizes ts) → WritesAll own ts
+    pub trees-writes : (k : ℕ) (ts : Trees) → Nums k ts → Covers own k (k + sizes ts) → WritesAll own own ts
     trees-writes k nil n o = tt
     trees-writes k (cons t ts) n o = (
       tree-writes k t (n .0) (λ y l u. o y l (omega arith)),
@@ -60,12 +60,12 @@ module _ (own : ℕ → Type 0) where
 -- What stands at top level
 
 module _ (own : ℕ → Type 0) where
-  writes-⊕ : (ts us : Trees) → WritesAll own ts → WritesAll own us → WritesAll own (ts ⊕ us)
+  writes-⊕ : (ts us : Trees) → WritesAll own own ts → WritesAll own own us → WritesAll own own (ts ⊕ us)
   unfolding _⊕_ Writes
   writes-⊕ nil us v w = w
   writes-⊕ (cons t ts) us v w = (v .0, writes-⊕ ts us (v .1) w)
 
-  writes-of : (t : Tree) → Writes own t → WritesAll own (topOf t)
+  writes-of : (t : Tree) → Writes own own t → WritesAll own own (topOf t)
   unfolding topOf Writes
   writes-of (ident x) w = (w, tt)
   writes-of (const n q) w = (w, tt)
@@ -77,7 +77,7 @@ module _ (own : ℕ → Type 0) where
   writes-of (call n h es) w = (w, tt)
   writes-of (set! n x e) w = (w, tt)
 
-  pub writes-top : (ts : Trees) → WritesAll own ts → WritesAll own (topLevel ts)
+  pub writes-top : (ts : Trees) → WritesAll own own ts → WritesAll own own (topLevel ts)
   unfolding topLevel Writes
   writes-top nil w = tt
   writes-top (cons t ts) w = writes-⊕ (topOf t) (topLevel ts) (writes-of t (w .0)) (writes-top ts (w .1))
@@ -86,7 +86,7 @@ module _ (own : ℕ → Type 0) where
 mutual
   unfolding Writes
 
-  pub tree-any : (t : Tree) → Writes Any t
+  pub tree-any : (t : Tree) → Writes Any Any t
   tree-any (ident x) = tt
   tree-any (const n q) = tt
   tree-any (if n a b c) = (tree-any a, tree-any b, tree-any c)
@@ -97,6 +97,6 @@ mutual
   tree-any (call n h es) = (λ e. tt, tree-any h, trees-any es)
   tree-any (set! n x e) = (tt, tree-any e)
 
-  pub trees-any : (ts : Trees) → WritesAll Any ts
+  pub trees-any : (ts : Trees) → WritesAll Any Any ts
   trees-any nil = tt
   trees-any (cons t ts) = (tree-any t, trees-any ts)

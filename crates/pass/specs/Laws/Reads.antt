@@ -21,9 +21,9 @@ use Rattle.r7rs.specs.Binding.{Binder, Place, Mention, Use, find, meant, useOf}
 use Rattle.pass.specs.State.{Entry, Capture, State, insert, amend, rowAt, putEntry, entryAt, depth, binderIn, usedEntry, lastEntry, capturedEntry}
 use Rattle.pass.specs.Read.{isPrelude, span, markIf, freeRow, Rule, noEntry, depthOne, currentLayer, homeSlot, captureRule, entryRule, ruleOf, globalFact, heapFact, homeFact, readBy, read}
 use Rattle.pass.specs.Laws.Rows.{key, key-variable, row-same}
-use Rattle.pass.specs.Laws.Changes.{Changes, keeps-lengths, row}
+use Rattle.pass.specs.Laws.Changes.{Changes, keeps-lengths}
 use Rattle.pass.specs.Laws.Moves.{by}
-use Rattle.pass.specs.Laws.Names.{by-changes}
+use Rattle.pass.specs.Laws.Names.{unfound-changes, by-changes}
 use Rattle.pass.specs.Laws.Leaves.{names}
 use Rattle.pass.specs.Laws.Says.{cellOf, Tells, SaysOf}
 use Rattle.pass.specs.Laws.Finds.{Around, Stands, Global, Finds, all-map, all-zip, liveIn, Of, of-none, of-some, Got, got-some, deep, search-for}
@@ -92,7 +92,7 @@ module _ (classes : List ℕ) {own left : ℕ → Type 0} {bottom : List (Live I
     (parts : Parts own (Only (x .at)) left) (f : Finds own bottom before p s) where
   by-finds : {o : Option Binder} {r : Rule} → Reads own (s .scope .entries) before p bottom (x .name) o r → Finds left bottom (before ++ useOf (readAt x p) o) p (readBy classes r x s)
   unfolding insert amend putEntry
-  by-finds (reads-none e) = rw append-nil (calmly parts f (λ free. row (x .at) _ refl))
+  by-finds (reads-none e) = rw append-nil (calmly parts f (λ free. unfound-changes classes x s refl))
   by-finds (reads-global {d} e v) =
       rw append-nil
       (used-finds (d .at) _ parts f v (no-use (d .at) before) (record { captured = kept-flag refl; mutated = kept-flag refl; kept = refl })

@@ -22,63 +22,63 @@ use Rattle.pass.specs.State.{Capture, State, itemAt, rowAt, depth, entry
 use Rattle.pass.specs.Lists.{capturedMost, storeCaptured, storeArguments, rewriteCaptured, isOf, numberRow, numberRows, numberList}
 use Rattle.pass.specs.Lambda.{isHeap, noteHeap, enterName, enterNames, functionIn, markLast, openCaptures, openScope, enterParameters, enterLambda, markLasts, closeScope, closeCaptures, endedFact, endParameters, makeFunction, amendFunction, functionEnds, leaveLambda, openLet, closeLet, atBottom, enterLet, leaveNames, makeLet, leaveLet}
 use Rattle.pass.specs.Static.{letDepth}
-use Rattle.pass.specs.Laws.Changes.{Steps, Changes, same, _⨾_, either, row, mark, names, layer, lists, captures, context, keeps-depth}
+use Rattle.pass.specs.Laws.Changes.{CallSteps, CallChanges, same, _⨾_, either, row, mark, names, layer, lists, captures, context, keeps-depth}
 use Rattle.pass.specs.Laws.Names.{ten-changes, second-changes, enter-changes}
 
 stored-length : (b : Bool) (c l : List Item) (t : ℕ) → length (cond b c (sets c t l)) ≡ length c
 stored-length true c l t = refl
 stored-length false c l t = length-sets c t l
 
-module _ {free : Type 0} {own : ℕ → Type 0} where
+module _ {free : Type 0} {own sites : ℕ → Type 0} where
   -- Lists
 
-  pub captured-changes : (i : ℕ) (l : List Item) (s : State) → Steps free own s (storeCaptured i l s)
+  pub captured-changes : (i : ℕ) (l : List Item) (s : State) → CallSteps free own sites s (storeCaptured i l s)
   unfolding storeCaptured
   captured-changes i l s =
       let full = ltb capturedMost (s .facts .capturedTop + length l) in
       let stored = lists _ (record { rows = refl; captured = stored-length full (s .facts .captured) l (s .facts .capturedTop); arguments = refl }) in
       either full (stored ⨾ ten-changes i _) stored
 
-  pub arguments-changes : (l : List Item) (s : State) → Steps free own s (storeArguments l s)
+  pub arguments-changes : (l : List Item) (s : State) → CallSteps free own sites s (storeArguments l s)
   unfolding storeArguments
   arguments-changes l s = lists _ (record { rows = refl; captured = refl; arguments = length-sets (s .facts .arguments) _ l })
 
-  pub rewrite-changes : (e : Entries) (l : List Item) (s : State) → Steps free own s (rewriteCaptured e l s)
+  pub rewrite-changes : (e : Entries) (l : List Item) (s : State) → CallSteps free own sites s (rewriteCaptured e l s)
   unfolding rewriteCaptured
   rewrite-changes e l s = lists _ (record { rows = refl; captured = length-sets (s .facts .captured) (e .first) (l ++ replicate (e .length - length l) noItem); arguments = refl })
 
   -- Lambda
 
-  pub last-changes : (o : Option Ident) (s : State) → Steps free own s (markLast o s)
+  pub last-changes : (o : Option Ident) (s : State) → CallSteps free own sites s (markLast o s)
   last-changes none s = same
   last-changes (some x) s = mark markLastUsage (x .at) (λ v. refl)
 
-  pub lasts-changes : (l : List (Live Ident)) (s : State) → Steps free own s (markLasts l s)
+  pub lasts-changes : (l : List (Live Ident)) (s : State) → CallSteps free own sites s (markLasts l s)
   unfolding markLasts
   lasts-changes [] s = same
   lasts-changes (e ∷ l) s = last-changes (entryAt s (e .value .at) .lastUsed) s ⨾ lasts-changes l _
 
-  pub ended-changes : (xs : List Ident) (s : State) → Steps free own s (endParameters xs s)
+  pub ended-changes : (xs : List Ident) (s : State) → CallSteps free own sites s (endParameters xs s)
   unfolding endParameters
   ended-changes [] s = same
   ended-changes (x ∷ xs) s = mark (endedFact (entryAt s (x .at) .usageCount) (newest s (x .name))) (x .at) (λ v. refl) ⨾ ended-changes xs _
 
   pub function-changes : (f : Option FunctionInformation) (n : Node) (b : Tree) (escapes : Bool) (now arguments : List Item) (m : ScopeMap Capture) (s : State)
-      → own (n .at) → Steps free own s (functionEnds f n b escapes now arguments m s)
+      → own (n .at) → CallSteps free own sites s (functionEnds f n b escapes now arguments m s)
   unfolding makeFunction amendFunction
-  function-changes none n b escapes now arguments m s o = captured-changes (n .at) _ s ⨾ arguments-changes arguments _ ⨾ row (n .at) _ o
-  function-changes (some v) n b escapes now arguments m s o = rewrite-changes (v .«captured_vars») _ s ⨾ row (n .at) _ o
+  function-changes none n b escapes now arguments m s o = captured-changes (n .at) _ s ⨾ arguments-changes arguments _ ⨾ row (n .at) _ o (λ e. refl)
+  function-changes (some v) n b escapes now arguments m s o = rewrite-changes (v .«captured_vars») _ s ⨾ row (n .at) _ o (λ e. refl)
 
   -- at its end, past the scope and the captures
-  pub lambda-ends : (n : Node) (xs : List Ident) (b : Tree) (escapes : Bool) (s : State) → own (n .at) → Steps free own (closeCaptures (closeScope s)) (leaveLambda n xs b escapes s)
+  pub lambda-ends : (n : Node) (xs : List Ident) (b : Tree) (escapes : Bool) (s : State) → own (n .at) → CallSteps free own sites (closeCaptures (closeScope s)) (leaveLambda n xs b escapes s)
   unfolding leaveLambda
   lambda-ends n xs b escapes s o =
       lasts-changes (newestLayer (s .scope .names)) _ ⨾ ended-changes xs _ ⨾ function-changes (functionIn (rowAt s (n .at))) n b escapes _ _ _ _ o
 
   -- Let
 
-  pub make-changes : (r : Row) (n : Node) (l : List Item) (height : ℕ) (function : Option Node) (s : State) → own (n .at) → Steps free own s (makeLet r n l height function s)
-  make-changes Blank n l height function s o = arguments-changes l s ⨾ row (n .at) _ o
+  pub make-changes : (r : Row) (n : Node) (l : List Item) (height : ℕ) (function : Option Node) (s : State) → own (n .at) → CallSteps free own sites s (makeLet r n l height function s)
+  make-changes Blank n l height function s o = arguments-changes l s ⨾ row (n .at) _ o (λ e. refl)
   make-changes (Variable v) n l height function s o = same
   make-changes (Function v) n l height function s o = same
   make-changes (CallSite v) n l height function s o = same
@@ -86,18 +86,18 @@ module _ {free : Type 0} {own : ℕ → Type 0} where
 
   -- Names enter
 
-  heap-changes : (o : Option ℕ) (x : Ident) (s : State) → Steps free own s (noteHeap o x s)
+  heap-changes : (o : Option ℕ) (x : Ident) (s : State) → CallSteps free own sites s (noteHeap o x s)
   heap-changes none x s = second-changes 11 (x .at) s (omega arith, omega arith)
   heap-changes (some n) x s = same
 
-module _ {own : ℕ → Type 0} where
+module _ {own sites : ℕ → Type 0} where
   module _ (kind : IdentifierStatus) (base : ℕ) (heaps : Option ℕ) (before : List Item) where
-    pub name-changes : (b : Bool) (x : Ident) (j h : ℕ) (s : State) → own (x .at) → Changes own s (enterName kind base heaps before b x j h s)
+    pub name-changes : (b : Bool) (x : Ident) (j h : ℕ) (s : State) → own (x .at) → CallChanges own sites s (enterName kind base heaps before b x j h s)
     unfolding enterName
-    name-changes true x j h s o = heap-changes heaps x s ⨾ enter-changes x _ _ o ⨾ row (x .at) _ o
-    name-changes false x j h s o = enter-changes x _ s o ⨾ row (x .at) _ o
+    name-changes true x j h s o = heap-changes heaps x s ⨾ enter-changes x _ _ o ⨾ row (x .at) _ o (λ e. refl)
+    name-changes false x j h s o = enter-changes x _ s o ⨾ row (x .at) _ o (λ e. refl)
 
-    pub names-changes : (xs : List Ident) (j h : ℕ) (s : State) → All (λ x. own (x .at)) xs → Changes own s (enterNames kind base heaps before xs j h s)
+    pub names-changes : (xs : List Ident) (j h : ℕ) (s : State) → All (λ x. own (x .at)) xs → CallChanges own sites s (enterNames kind base heaps before xs j h s)
     unfolding enterNames
     names-changes [] j h s o = same
     names-changes (x ∷ xs) j h s o = name-changes (isHeap before j) x j h s (o .0) ⨾ names-changes xs (suc j) _ _ (o .1)
@@ -105,52 +105,52 @@ module _ {own : ℕ → Type 0} where
   -- a lambda's list is numbered
 
   module _ (which : Bool) (numbered : ℕ → Option ScopeInfo → ScopeInfo → ScopeInfo) where
-    numbered-changes : (k r i : ℕ) (s : State) → Changes own s (numberRows which numbered k r i s)
+    numbered-changes : (k r i : ℕ) (s : State) → CallChanges own sites s (numberRows which numbered k r i s)
     unfolding numberRows numberRow
     numbered-changes zero r i s = same
     numbered-changes (suc k) r i s =
         either (isOf which numbered (itemAt s r)) (lists _ (record { rows = refl; captured = length-set (s .facts .captured) r _; arguments = refl }) ⨾ captures tt _) same
         ⨾ numbered-changes k (suc r) _ _
 
-  list-changes : (e : Entries) (s : State) → Changes own s (numberList e s)
+  list-changes : (e : Entries) (s : State) → CallChanges own sites s (numberList e s)
   unfolding numberList
   list-changes e s = numbered-changes _ _ (e .length) (e .first) 0 s ⨾ numbered-changes _ _ (e .length) (e .first) 0 _
 
-  pub open-changes : (f : Option FunctionInformation) (s : State) → Changes own s (openCaptures f s)
+  pub open-changes : (f : Option FunctionInformation) (s : State) → CallChanges own sites s (openCaptures f s)
   unfolding openCaptures
   open-changes none s = captures tt _
   open-changes (some v) s = captures tt _ ⨾ list-changes (v .«captured_vars») _ ⨾ context _
 
-  pub parameters-changes : (f : Option FunctionInformation) (xs : List Ident) (s : State) → All (λ x. own (x .at)) xs → Changes own s (enterParameters f xs s)
+  pub parameters-changes : (f : Option FunctionInformation) (xs : List Ident) (s : State) → All (λ x. own (x .at)) xs → CallChanges own sites s (enterParameters f xs s)
   unfolding enterParameters
   parameters-changes none xs s o = names-changes _ _ _ _ xs 0 0 s o
   parameters-changes (some v) xs s o = names-changes _ _ _ _ xs 0 0 s o
 
-  pub leave-changes : (n : Node) (xs : List Ident) (b : Tree) (escapes : Bool) (s : State) → own (n .at) → Changes own (closeScope s) (leaveLambda n xs b escapes s)
+  pub leave-changes : (n : Node) (xs : List Ident) (b : Tree) (escapes : Bool) (s : State) → own (n .at) → CallChanges own sites (closeScope s) (leaveLambda n xs b escapes s)
   unfolding closeCaptures
   leave-changes n xs b escapes s o = captures tt _ ⨾ lambda-ends n xs b escapes s o
 
   -- the whole of a lambda
   pub lambda-changes : (n : Node) (xs : List Ident) (b : Tree) (escapes : Bool) (s t : State) → own (n .at) → All (λ x. own (x .at)) xs
-      → Changes own (enterLambda n xs s) t → Changes own s (leaveLambda n xs b escapes t)
+      → CallChanges own sites (enterLambda n xs s) t → CallChanges own sites s (leaveLambda n xs b escapes t)
   unfolding enterLambda
   lambda-changes n xs b escapes s t o p c =
       let f = functionIn (rowAt s (n .at)) in
       open-changes f s ⨾ layer tt (parameters-changes f xs _ p ⨾ c) ⨾ leave-changes n xs b escapes t o
 
-  pub leaving-changes : (xs : List Ident) (s : State) → Changes own s (leaveNames xs s)
+  pub leaving-changes : (xs : List Ident) (s : State) → CallChanges own sites s (leaveNames xs s)
   unfolding leaveNames
   leaving-changes [] s = same
   leaving-changes (x ∷ xs) s = names tt _ refl ⨾ last-changes (entryAt s (x .at) .lastUsed) _ ⨾ leaving-changes xs _
 
-  opened-changes : (b : Bool) (s t : State) → Changes own (openLet b s) t → Changes own s (closeLet b t)
+  opened-changes : (b : Bool) (s t : State) → CallChanges own sites (openLet b s) t → CallChanges own sites s (closeLet b t)
   unfolding openLet closeLet
   opened-changes true s t c = layer tt c
   opened-changes false s t c = c
 
   -- the whole of a let, after its initial expressions
   pub let-changes : (b : Bool) (n : Node) (xs : List Ident) (height : ℕ) (function : Option Node) (s t : State) → b ≡ atBottom s → own (n .at) → All (λ x. own (x .at)) xs
-      → Changes own (enterLet n xs height function s) t → Changes own s (leaveLet b n xs height function t)
+      → CallChanges own sites (enterLet n xs height function s) t → CallChanges own sites s (leaveLet b n xs height function t)
   unfolding enterLet leaveLet
   let-changes b n xs height function s t e o p c =
       rw e (opened-changes (atBottom s) s _ (names-changes _ height _ _ xs 0 0 _ p ⨾ c ⨾ leaving-changes xs t ⨾ make-changes (rowAt t (n .at)) n _ height function _ o))

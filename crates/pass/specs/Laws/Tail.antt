@@ -1,80 +1,79 @@
 -- Demand 2, tail position: the theorem of TailPosition.antt.
-use Prim.Native.Nat.{ℕ, zero, suc, _+_, _≤_}
-use mathlib.Core.List.{List}
-use mathlib.Core.Bool.{Bool, true, false, not}
-use mathlib.Core.Path.{_≡_, refl, ap, _∙_}
+use Prim.Native.Nat.{ℕ, zero, suc, _≤_}
+use mathlib.Core.List.{List, [], _∷_}
+use mathlib.Core.Bool.{Bool, true, false, not, _&&_, _||_, true≢false}
+use mathlib.Core.Path.{_≡_, refl, ap, sym, _∙_}
 use native.Mathlib.Omega.{arith}
+use borrow.Author.Tests.{eqb-true}
 use lib.ListN.{length, getD, replicate, length-replicate}
+use lib.Dec.{eqb}
 use Rattle.tree.specs.Tree.{Trees, sizes, Nums}
+use Rattle.tree.specs.Define.{topLevel}
 use Rattle.tree.specs.Accepted.{All}
 use Rattle.semantic.specs.Rows.{Row, Blank}
 use Rattle.r7rs.specs.Tail.{Call, callsIn}
 use Rattle.pass.specs.State.{Facts}
 use Rattle.pass.specs.Static.{isTailRow}
 use Rattle.pass.specs.Run.{rowsMost, noFacts, start, run, fresh, settled}
-use Rattle.pass.specs.TailPosition.{isConstant, isCallSite, CallRecorded, TailPosition}
-use Rattle.pass.specs.Laws.All.{all-of, all-map, all-zip}
-use Rattle.pass.specs.Laws.Rows.{key, key-blank}
-use Rattle.pass.specs.Laws.Changes.{keeps-key, keeps-lengths}
+use Rattle.pass.specs.TailPosition.{isConstant, isCallSite, hasFact, CallsRecorded, TailPosition}
+use Rattle.pass.specs.Laws.All.{all-map}
+use Rattle.pass.specs.Laws.Changes.{keeps-lengths}
 use Rattle.pass.specs.Laws.Visits.{run-changes}
-use Rattle.pass.specs.Laws.Ranges.{writes-top}
-use Rattle.pass.specs.Laws.Keeps.{But, ran}
+use Rattle.pass.specs.Laws.Tops.{calls-top}
+use Rattle.pass.specs.Laws.Keeps.{ran}
 use Rattle.pass.specs.Laws.Calls.{Marked, marks-run}
-use Rattle.pass.specs.Laws.Silent.{Silent, SparesAll, silent-in}
-
--- a call with a constant head has no row
-abbrev Unrecorded : List Row → Call → Type 0
-Unrecorded T c = isConstant (c .head) ≡ true → getD T (c .at) Blank ≡ Blank
-
-record Exact (T : List Row) (c : Call) : Type 0 where
-  site : Marked T c
-  blank : Unrecorded T c
+use Rattle.pass.specs.Laws.Sites.{keeps-sites, Site, Sited, trees-sites, all-sited}
 
 pub blank-rows : (n i : ℕ) → getD (replicate n Blank) i Blank ≡ Blank
 blank-rows zero i = refl
 blank-rows (suc n) zero = refl
 blank-rows (suc n) (suc i) = blank-rows n i
 
-recorded : (T : List Row) (c : Call) → Exact T c → CallRecorded T c
-recorded T c x = record { fact = fact (isConstant (c .head)) refl; tail = λ e. let s = x .site e in ap isTailRow (s .is) ∙ s .tail }
+-- the calls' facts stand in T
+marked : (T : List Row) (i : ℕ) (l : List Call) → All (Marked T) l → hasFact i l ≡ true → isCallSite (getD T i Blank) ≡ true
+unfolding hasFact
+marked T i [] m e = absurd (true≢false (sym e))
+marked T i (c ∷ l) m e = go (eqb (c .at) i) refl (isConstant (c .head)) refl (marked T i l (m .1))
   where
-    fact : (b : Bool) → isConstant (c .head) ≡ b → isCallSite (getD T (c .at) Blank) ≡ not b
-    fact true e = ap isCallSite (x .blank e)
-    fact false e = ap isCallSite (x .site e .is)
+    go : (b : Bool) → eqb (c .at) i ≡ b → (k : Bool) → isConstant (c .head) ≡ k → (hasFact i l ≡ true → isCallSite (getD T i Blank) ≡ true)
+        → isCallSite (getD T i Blank) ≡ true
+    go true p false q f = rw (← eqb-true (c .at) i p) (ap isCallSite (m .0 q .is))
+    go true p true q f = f (rw (p, q) at e)
+    go false p k q f = f (rw p at e)
 
-all-recorded : (T : List Row) (l : List Call) → All (Exact T) l → All (CallRecorded T) l
-all-recorded T = all-map (Exact T) (CallRecorded T) (recorded T)
+-- and no other does
+record Exact (T : List Row) (ts : Trees) : Type 0 where
+  marks : All (Marked T) (callsIn ts)
+  others : (i : ℕ) → hasFact i (callsIn ts) ≡ false → isCallSite (getD T i Blank) ≡ false
+
+recorded : (T : List Row) (ts : Trees) → Exact T ts → CallsRecorded T ts
+recorded T ts x = record {
+  fact = λ i. by-test i (hasFact i (callsIn ts)) refl;
+  tail = all-map (Marked T) _ (λ c m e. let s = m e in ap isTailRow (s .is) ∙ s .tail) (callsIn ts) (x .marks);
+}
+  where
+    by-test : (i : ℕ) (b : Bool) → hasFact i (callsIn ts) ≡ b → isCallSite (getD T i Blank) ≡ hasFact i (callsIn ts)
+    by-test i true e = marked T i (callsIn ts) (x .marks) e ∙ sym e
+    by-test i false e = x .others i e ∙ sym e
 
 module _ (classes : List ℕ) (ts : Trees) (n : Nums 0 ts) (h : sizes ts ≤ rowsMost) where
-  -- a run leaves the row of a call with a constant head as it was
-  unwritten : (f : Facts) (c : Call) → Silent 0 (0 + sizes ts) (SparesAll ts) c → Unrecorded (f .rows) c
-      → Unrecorded (run classes ts f .facts .rows) c
+  exact : (f : Facts) → length (f .rows) ≡ rowsMost → ((i : ℕ) → hasFact i (callsIn ts) ≡ false → isCallSite (getD (f .rows) i Blank) ≡ false)
+      → Exact (run classes ts f .facts .rows) ts
   unfolding start
-  unwritten f c s u e =
-      key-blank _ (keeps-key (run-changes classes ts f (writes-top (But (c .at)) ts (s .apart e))) (c .at) (λ d. d refl) ∙ ap key (u e))
-
-  exact : (f : Facts) → length (f .rows) ≡ rowsMost → All (Unrecorded (f .rows)) (callsIn ts)
-      → All (Exact (run classes ts f .facts .rows)) (callsIn ts)
   exact f l u =
-      let T = run classes ts f .facts .rows in
-      let s = silent-in 0 ts n in
-      let b = all-zip (Silent 0 (0 + sizes ts) (SparesAll ts)) (Unrecorded (f .rows)) (Unrecorded T) (unwritten f) (callsIn ts) s u in
-      let m = marks-run classes rowsMost T ts n f h (omega arith) (record { at = λ x y z. refl }) in
-      all-zip (Marked T) (Unrecorded T) (Exact T) (λ c p q. record { site = p; blank = q }) (callsIn ts) m b
+      let w = trees-sites (Site (callsIn ts)) (topLevel ts) (rw calls-top (all-sited (callsIn ts))) in
+      record {
+        marks = marks-run classes rowsMost (run classes ts f .facts .rows) ts n f h (omega arith) (record { at = λ x y z. refl });
+        others = λ i e. keeps-sites (run-changes classes ts f w) i (λ s. true≢false (sym s ∙ e)) (u i e);
+      }
 
-  exact-fresh : All (Exact (fresh classes ts .facts .rows)) (callsIn ts)
+  exact-fresh : Exact (fresh classes ts .facts .rows) ts
   unfolding fresh noFacts
-  exact-fresh =
-      exact noFacts (length-replicate rowsMost Blank)
-      (all-of (Unrecorded (noFacts .rows)) (λ c e. blank-rows rowsMost (c .at)) (callsIn ts))
+  exact-fresh = exact noFacts (length-replicate rowsMost Blank) (λ i e. ap isCallSite (blank-rows rowsMost i))
 
-  exact-settled : All (Exact (settled classes ts .facts .rows)) (callsIn ts)
+  exact-settled : Exact (settled classes ts .facts .rows) ts
   unfolding settled fresh noFacts start
-  exact-settled =
-      let T = fresh classes ts .facts .rows in
-      exact (fresh classes ts .facts) (keeps-lengths (ran classes ts noFacts) .rows ∙ length-replicate rowsMost Blank)
-      (all-map (Exact T) (Unrecorded T) (λ c x. x .blank) (callsIn ts) exact-fresh)
+  exact-settled = exact (fresh classes ts .facts) (keeps-lengths (ran classes ts noFacts) .rows ∙ length-replicate rowsMost Blank) (exact-fresh .others)
 
 pub tail-position : TailPosition
-tail-position classes ts n h =
-    (all-recorded _ (callsIn ts) (exact-fresh classes ts n h), all-recorded _ (callsIn ts) (exact-settled classes ts n h))
+tail-position classes ts n h = (recorded _ ts (exact-fresh classes ts n h), recorded _ ts (exact-settled classes ts n h))

@@ -57,7 +57,7 @@ pub spread-end : (i j : ℕ) (ts : Trees) → Spread i j ts → i ≤ j
 spread-end i j nil p = p
 spread-end i j (cons t ts) p = omega (arith, p .1, spread-end (p .0 + size t) j ts (p .3))
 
-pub spread-writes : (own : ℕ → Type 0) (i j : ℕ) (ts : Trees) → Spread i j ts → Covers own i j → WritesAll own ts
+pub spread-writes : (own : ℕ → Type 0) (i j : ℕ) (ts : Trees) → Spread i j ts → Covers own i j → WritesAll own own ts
 unfolding Writes
 spread-writes own i j nil p o = tt
 spread-writes own i j (cons t ts) p o =
