@@ -4,10 +4,10 @@ use mathlib.Core.List.{List, [], _∷_}
 use mathlib.Core.Bool.{Bool, true, false, cond, not, _&&_, _||_}
 use mathlib.Core.Option.{Option, none, some}
 use lib.Dec.{eqb, ltb}
-use Rattle.tree.specs.Tree.{Ident, bit}
-use Rattle.tree.specs.Check.{Refusal, member}
+use Rattle.tree.specs.Tree.{Ident, Trees, bit}
+use Rattle.tree.specs.Check.{Refusal, member, orElse}
 use Rattle.pass.specs.Lists.{capturedMost}
-use Rattle.r7rs.specs.Binding.{Binder, Mention, Event, enters, mentions, ends, mentionsIn, find, meant}
+use Rattle.r7rs.specs.Binding.{Binder, Mention, Event, enters, mentions, ends, mentionsIn, events, find, meant}
 use Rattle.execution.specs.References.{isSetOf, isInnerOf, any, isShared}
 
 -- 9, "a binder entering a layer above the bottom where its name is live": the first in entering order. The names in scope are the live ones.
@@ -95,3 +95,11 @@ module _ (all : List Mention) where
 
 abbrev pub secondIn : List Event → Option Refusal
 secondIn l = secondFrom (mentionsIn l) [] l
+
+-- What a run refuses: "each check covers the whole input before the next", and 11 and 12 stand after 10, where the second run meets one first
+
+abbrev pub freshRefusal : Trees → Option Refusal
+freshRefusal ts = orElse 9 (nineIn (events ts)) (orElse 10 (tenIn (events ts)) none)
+
+abbrev pub settledRefusal : Trees → Option Refusal
+settledRefusal ts = orElse 9 (nineIn (events ts)) (orElse 10 (tenIn (events ts)) (secondIn (events ts)))

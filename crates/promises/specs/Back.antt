@@ -1,7 +1,7 @@
 -- Rows from the numbers of a table: no other rows have them.
-use Prim.Native.Nat.{ℕ, zero, suc, _*_, _<_}
-use mathlib.Core.List.{List, [], _∷_, _++_}
-use mathlib.Core.Bool.{Bool, true, false, cond}
+use Prim.Native.Nat.{ℕ, _<_}
+use mathlib.Core.List.{List, [], _∷_}
+use mathlib.Core.Bool.{cond}
 use mathlib.Core.Path.{_≡_, refl, ap, sym, _∙_}
 use native.Mathlib.Omega.{arith}
 use borrow.Author.Tests.{ne-eqb, lt-ltb}
@@ -15,7 +15,6 @@ use Rattle.semantic.specs.Decode.{informationOf, information-back, functionOf, 
 use Rattle.semantic.specs.KindLaws.{kind-low}
 use Rattle.semantic.specs.declared.CallKind.{CallKind}
 use Rattle.semantic.specs.declared.CallKind.the-variants.{Normal, TailCall, SelfTailCall}
-use Rattle.semantic.specs.declared.SemanticInformation.{SemanticInformation}
 use Rattle.semantic.specs.declared.CallSiteInformation.{CallSiteInformation}
 
 abbrev pub callKindOf : ℕ → ℕ → CallKind

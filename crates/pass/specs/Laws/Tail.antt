@@ -1,7 +1,7 @@
 -- Demand 2, tail position: the theorem of TailPosition.antt.
 use Prim.Native.Nat.{ℕ, zero, suc, _≤_}
 use mathlib.Core.List.{List, [], _∷_}
-use mathlib.Core.Bool.{Bool, true, false, not, _&&_, _||_, true≢false}
+use mathlib.Core.Bool.{Bool, true, false, true≢false}
 use mathlib.Core.Path.{_≡_, refl, ap, sym, _∙_}
 use native.Mathlib.Omega.{arith}
 use borrow.Author.Tests.{eqb-true}
@@ -22,7 +22,7 @@ use Rattle.pass.specs.Laws.Visits.{run-changes}
 use Rattle.pass.specs.Laws.Tops.{calls-top}
 use Rattle.pass.specs.Laws.Keeps.{ran}
 use Rattle.pass.specs.Laws.Calls.{Marked, marks-run}
-use Rattle.pass.specs.Laws.Sites.{keeps-sites, Site, Sited, trees-sites, all-sited}
+use Rattle.pass.specs.Laws.Sites.{keeps-sites, Site, trees-sites, all-sited}
 
 pub blank-rows : (n i : ℕ) → getD (replicate n Blank) i Blank ≡ Blank
 blank-rows zero i = refl
