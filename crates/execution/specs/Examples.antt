@@ -1,15 +1,15 @@
 -- Both machines run: the last value and the number of moments of some scripts; and that demand 3 needs both of its premises.
-use Prim.Native.Nat.{ℕ, suc}
-use mathlib.Core.List.{List, [], _∷_}
+use Prim.Native.Nat.{ℕ}
+use mathlib.Core.List.{[], _∷_}
 use mathlib.Core.Bool.{false}
 use mathlib.Core.Option.{Option, none}
 use mathlib.Core.Path.{_≡_, refl}
 use lib.ListN.{replicate}
-use Rattle.tree.specs.Tree.{Ident, Node, Tree, Trees, ident, const, letin, define, lambda, begin, call, set!, nil, cons}
+use Rattle.tree.specs.Tree.{Tree, Trees, ident, const, letin, define, lambda, begin, call, nil, cons}
 use Rattle.tree.specs.Check.{Refusal}
 use Rattle.r7rs.specs.Machine.{next, ended, stopped, outside}
-use Rattle.r7rs.specs.Plain.{pconst, punit, pclo, POut}
 use Rattle.r7rs.specs.Run.{plain}
+use Rattle.r7rs.specs.Examples.{Last, running, constant, unspecified, procedure, stop, astray, lastP, x, nd, bare, one, shared}
 use Rattle.pass.specs.Run.{fresh, refusedFirst}
 use Rattle.execution.specs.Slot.{sconst, sunit, sclo, SOut, slots}
 -- for what `examples` unfolds
@@ -26,23 +26,6 @@ use Rattle.pass.specs.Run as Pass
 use Rattle.pass.specs.State
 use Rattle.pass.specs.Visit
 use Rattle.execution.specs.Facts
-
--- what a run has come to
-pub data Last : Type 0 where
-  running : Last
-  constant : ℕ → Last  -- the constant with this id
-  unspecified : Last
-  procedure : ℕ → Last  -- of the lambda at this record
-  stop : Last
-  astray : Last  -- outside a frame
-
-abbrev lastP : POut → Last
-lastP (next s) = running
-lastP (ended (pconst c q) m) = constant c
-lastP (ended punit m) = unspecified
-lastP (ended (pclo i xs e ρ) m) = procedure i
-lastP stopped = stop
-lastP outside = astray
 
 abbrev lastS : SOut → Last
 lastS (next s) = running
@@ -65,34 +48,17 @@ seen names ts n =
     let p = plain ts n in
     record { refused = refusedFirst (s .noted); moments = p .made; bySlots = lastS (slots ts (s .facts .rows) n .now); plainly = lastP (p .now) }
 
--- the identifier at record i whose name is n; other records; those with no id
-abbrev x : ℕ → ℕ → Ident
-x i n = record { at = i; id = suc i; name = n; from = 0; to = 0 }
-
-abbrev nd : ℕ → Node
-nd i = record { at = i; id = suc i; from = 0; to = 0 }
-
-abbrev bare : ℕ → Node
-bare i = record { at = i; id = 0; from = 0; to = 0 }
-
-abbrev one : Tree → Trees
-one t = cons t nil
-
 -- ((lambda (x) (let ((f (lambda () x))) (f))) 3), within the premises
 abbrev unshared : Trees
 unshared = one (call (nd 0) (lambda (nd 1) (x 2 0 ∷ []) (letin (nd 3) (x 4 1 ∷ []) (one (lambda (nd 5) [] (ident (x 6 0))))
     (call (nd 7) (ident (x 8 1)) nil))) (one (const (nd 9) false)))
-
--- ((lambda (x) (let ((f (lambda () x))) (begin (set! x 2) (f)))) 3): a set! of a parameter that an inner lambda mentions
-abbrev shared : Trees
-shared = one (call (nd 0) (lambda (nd 1) (x 2 0 ∷ []) (letin (nd 3) (x 4 1 ∷ []) (one (lambda (nd 5) [] (ident (x 6 0))))
-    (begin (bare 7) (cons (set! (bare 8) (x 9 0) (const (nd 10) false)) (one (call (nd 11) (ident (x 12 1)) nil)))))) (one (const (nd 13) false)))
 
 -- ((lambda (x) ((lambda () (begin (define x 1) x)))) 2): an inner define
 abbrev inner : Trees
 inner = one (call (nd 0) (lambda (nd 1) (x 2 0 ∷ []) (call (nd 3) (lambda (nd 4) []
     (begin (bare 5) (cons (define (bare 6) (x 7 0) (const (nd 8) false)) (one (ident (x 9 0)))))) nil)) (one (const (nd 10) false)))
 
+-- `shared`: a set! of a parameter that an inner lambda mentions
 examples : (seen 2 unshared 40 ∷ seen 2 shared 40 ∷ seen 1 inner 40 ∷ []) ≡ (
     record { refused = none; moments = 12; bySlots = constant 10; plainly = constant 10 }
     ∷ record { refused = none; moments = 15; bySlots = constant 14; plainly = constant 11 }

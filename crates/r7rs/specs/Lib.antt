@@ -5,3 +5,4 @@ pub mod Machine
 pub mod Steps
 pub mod Plain
 pub mod Run
+pub mod Examples
