@@ -55,7 +55,7 @@ DefinedFresh = (classes rs : List ℕ) (ts : Trees) → FreshAccepts classes rs 
 abbrev pub DefinedSettled : Type 0
 DefinedSettled = (classes rs : List ℕ) (ts : Trees) → SettledAccepts classes rs ts → DefinesNamed ts (rows (settled classes ts)) × LambdasMade ts (rows (settled classes ts))
 
--- How often each parameter and let name is used, after a fresh run
+-- How often each name is used, after a fresh run: parameters and let names, names defined at top level, identifiers read or set
 
 abbrev pub UsesFresh : Type 0
 UsesFresh = (classes rs : List ℕ) (ts : Trees) → FreshAccepts classes rs ts → innerDefines ts ≡ [] → UsesCounted ts (rows (fresh classes ts))

@@ -1,7 +1,7 @@
 -- What the facts have to say of each name, by R7RS's binding. Demand 2; document 01, "Rules of the pass".
 use Prim.Native.Nat.{ℕ, _+_}
 use mathlib.Core.List.{List, [], _∷_, _++_}
-use mathlib.Core.Bool.{Bool, true, false, cond, _&&_, _||_}
+use mathlib.Core.Bool.{Bool, true, false, cond, not, _&&_, _||_}
 use mathlib.Core.Option.{Option, none, some}
 use mathlib.Core.Path.{_≡_}
 use lib.Dec.{eqb}
@@ -154,8 +154,30 @@ definedName = reference Global NONE 1 NONE
 abbrev pub DefinesNamed : Trees → List Row → Type 0
 DefinesNamed ts T = All (λ d. referenceIn (rowOf T (d .name .at)) ≡ some definedName) (definesOf (topLevel ts))
 
--- the facts T count the uses of each parameter and let name: every mention, read or set, and every set! once more
-abbrev pub UsesCounted : Trees → List Row → Type 0
-UsesCounted ts T =
-    let l = mentionsIn (events ts) in
-    All (λ b. usesIn (rowOf T (b .ident .at)) ≡ some (count (isOf b) l + count (isSetOf b) l)) (bindersIn (events ts))
+-- Uses. "On a fresh run a set! adds two uses to a local name and one to a global definition's fact."
+
+abbrev pub isNone : {A : Type 0} → Option A → Bool
+isNone none = true
+isNone (some a) = false
+
+abbrev pub isIdent : Ident → Option Ident → Bool
+isIdent d none = false
+isIdent d (some e) = eqb (d .at) (e .at)
+
+-- the identifier m refers to the define of the name d: it means no parameter or let name, and d is its bottom entry
+abbrev pub refersTo : Trees → Ident → Mention → Bool
+refersTo ts d m = isNone (meant m) && isIdent d (bottomEntry ts (m .ident .name) (m .ident .at))
+
+-- it refers to a parameter, a let name or a define
+abbrev pub hasEntry : Trees → Mention → Bool
+hasEntry ts m = not (isNone (meant m)) || not (isNone (bottomEntry ts (m .ident .name) (m .ident .at)))
+
+-- the facts T count the uses
+pub record UsesCounted (ts : Trees) (T : List Row) : Type 0 where
+  -- of each parameter and let name: every mention, read or set, and every set! once more
+  pub bound : let l = mentionsIn (events ts) in
+      All (λ b. usesIn (rowOf T (b .ident .at)) ≡ some (count (isOf b) l + count (isSetOf b) l)) (bindersIn (events ts))
+  -- of each name that is defined at top level: every mention
+  pub defined : All (λ d. usesIn (rowOf T (d .name .at)) ≡ some (count (refersTo ts (d .name)) (mentionsIn (events ts)))) (definesOf (topLevel ts))
+  -- of each identifier read or set: its own, if it refers to anything
+  pub mentioned : All (λ m. usesIn (rowOf T (m .ident .at)) ≡ some (cond (hasEntry ts m) 1 0)) (mentionsIn (events ts))

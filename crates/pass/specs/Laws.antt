@@ -36,6 +36,7 @@ pub mod Presumed
 pub mod Levels
 pub mod Bottoms
 pub mod Uses
+pub mod Spots
 pub mod Defined
 pub mod LambdaPlaces
 pub mod Depths

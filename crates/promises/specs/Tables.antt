@@ -37,7 +37,7 @@ pub record FreshFacts (classes : List ℕ) (ts : Trees) (T : List Row) : Type 0 
   pub defined : DefinesNamed ts T × LambdasMade ts T
   -- "and, where no define is inner, binding from R7RS": kind, reference, depth and slot of each identifier read or set, parameter and let name
   pub binding : innerDefines ts ≡ [] → Referred ts T (freshReference classes ts) (freshBinder classes ts)
-  -- how often each parameter and let name is used
+  -- how often each name is used: parameters and let names, names defined at top level, identifiers read or set
   pub uses : innerDefines ts ≡ [] → UsesCounted ts T
   -- "for every number n, after n moments", the machine that goes by these facts and the plain machine are in step
   pub machines : Premises ts → (n : ℕ) → Lockstep ts T (slots ts T n) (plain ts n)

@@ -1,8 +1,8 @@
--- How often each parameter and let name was used so far on a fresh run, in its entry and in its row. A record has been entered by such a name exactly
--- if the depth of its entry is 2 or more.
+-- How many uses the rows of a fresh run have counted so far: those that the mentions before give to each record. A mention gives one to its own
+-- record where it has an entry, and one to its binder's or its define's; a set! gives its binder two.
 use Prim.Native.Nat.{ℕ, suc, _+_, _≤_, _<_}
 use mathlib.Core.List.{List, [], _∷_, _++_}
-use mathlib.Core.Bool.{cond}
+use mathlib.Core.Bool.{Bool, true, false, cond, _&&_}
 use mathlib.Core.Option.{Option, none, some, Option·some-injective, Option·none-ne-some}
 use mathlib.Core.Path.{_≡_, refl, ap, sym, subst, _∙_}
 use native.Mathlib.Decide.{ℕ-discrete, decLt}
@@ -13,304 +13,312 @@ use lib.Seq.{getD-set-same, getD-set-other}
 use lib.Dec.{eqb}
 use Rattle.tree.specs.Tree.{Ident}
 use Rattle.scope_map.specs.ScopeMap.{Live}
-use Rattle.semantic.specs.Information.{withUsageCount, markSet}
+use Rattle.semantic.specs.Information.{withUsageCount, markBuiltin, markSet}
 use Rattle.semantic.specs.Rows.{Row, Blank, Variable, Function, CallSite, Let}
 use Rattle.semantic.specs.declared.SemanticInformation.{SemanticInformation}
-use Rattle.r7rs.specs.Binding.{Binder, Place, Use, find, meant}
-use Rattle.pass.specs.State.{Entry, State, insert, amend, amended, rowAt, putEntry, entryAt, noEntry, depth, binderIn, usedEntry, mutatedEntry}
-use Rattle.pass.specs.Read.{Rule, oneUseMore, readBy, read, mutateAt, mutate}
-use Rattle.pass.specs.Laws.Rows.{row-same, row-other, row-out}
+use Rattle.r7rs.specs.Binding.{Binder, Place, Mention, Event, enters, mentions, ends, Use, mentionsIn, entering, find, meant}
+use Rattle.pass.specs.State.{Entry, State, insert, amend, amended, rowAt, putEntry, entryAt, noEntry, binderIn, usedEntry, lastEntry}
+use Rattle.pass.specs.Read.{Rule, isPrelude, markIf, freeFact, freeRow, heapFact, oneUseMore, readBy, read, mutateAt, mutate}
+use Rattle.pass.specs.Laws.Rows.{row-same, row-other}
+use Rattle.pass.specs.Laws.Says.{Each, cellOf, mentions-in, mentions-entering}
 use Rattle.pass.specs.Laws.Finds.{entryIn, Around, Stands, Global, Finds, Of, of-none, of-some, Got, got-none, got-some, liveIn, search-for}
 use Rattle.pass.specs.Laws.Onward.{Parts}
 use Rattle.pass.specs.Laws.Reads.{Reads, reads-none, reads-global, reads-own, reads-outer, rules, Only}
-use Rattle.pass.specs.Laws.Bodies.{no-part}
 
--- a use counts once, a set! twice: it mutates, and it is read
+-- What the mentions give
 
-abbrev pub weight : ℕ → Use → ℕ
-weight y u = cond (eqb (u .binder) y) (cond (u .isSet) 2 1) 0
+-- n to the record y, if it is i
+abbrev pub share : ℕ → ℕ → ℕ → ℕ
+share i n y = cond (eqb i y) n 0
 
-abbrev pub tally : ℕ → List Use → ℕ
-tally y [] = 0
-tally y (u ∷ l) = weight y u + tally y l
+pub share-same : (i n : ℕ) → share i n i ≡ n
+share-same i n = rw (eq-eqb i i refl)
 
-pub tally-append : (y : ℕ) (l r : List Use) → tally y (l ++ r) ≡ tally y l + tally y r
-tally-append y [] r = omega arith
-tally-append y (u ∷ l) r = let e = tally-append y l r in omega arith
+pub share-other : (i n y : ℕ) → ¬ (y ≡ i) → share i n y ≡ 0
+share-other i n y h = rw (ne-eqb i y (λ e. h (sym e)))
 
--- the row and the entry of the record y have counted m and n uses
-pub record Counted (T : List Row) (E : List Entry) (m n y : ℕ) : Type 0 where
-  pub fact : SemanticInformation
-  pub is : getD T y Blank ≡ Variable fact
-  pub uses : fact .«usage_count» ≡ m
-  pub entry : entryIn E y .usageCount ≡ n
+-- an identifier that no parameter or let name binds, with its bottom entry
+abbrev pub creditCell : Ident → Option Ident → ℕ → ℕ
+creditCell x none y = 0
+creditCell x (some d) y = share (d .at) 1 y + share (x .at) 1 y
 
--- the rows of names that have entered tell `shown`, their entries `held`; the records in `own` are still to be visited
+-- `cell` tells an identifier's bottom entry, where it has one
+module _ (cell : Ident → Option Ident) where
+  abbrev pub credit : Mention → Option Binder → ℕ → ℕ
+  credit m none y = creditCell (m .ident) (cell (m .ident)) y
+  credit m (some b) y = share (b .ident .at) (cond (m .isSet) 2 1) y + share (m .ident .at) 1 y
+
+  abbrev pub creditsOf : List Mention → ℕ → ℕ
+  creditsOf [] y = 0
+  creditsOf (m ∷ l) y = credit m (meant m) y + creditsOf l y
+
+  abbrev pub credits : List Event → ℕ → ℕ
+  credits l y = creditsOf (mentionsIn l) y
+
+  credits-of : (l r : List Mention) (y : ℕ) → creditsOf (l ++ r) y ≡ creditsOf l y + creditsOf r y
+  credits-of [] r y = omega arith
+  credits-of (m ∷ l) r y = omega (arith, credits-of l r y)
+
+  pub credits-append : (l r : List Event) (y : ℕ) → credits (l ++ r) y ≡ credits l y + credits r y
+  credits-append l r y = ap (λ (k : List Mention). creditsOf k y) (mentions-in l r) ∙ credits-of (mentionsIn l) (mentionsIn r) y
+
+  -- names that enter give nothing
+  pub credits-entering : (bs sc : List Binder) (y : ℕ) → credits (entering bs sc) y ≡ 0
+  credits-entering bs sc y = ap (λ (k : List Mention). creditsOf k y) (mentions-entering bs sc)
+
+-- with the same bottom entries
+pub credits-cell : (c d : Ident → Option Ident) (l : List Event) → Each (λ m. c (m .ident) ≡ d (m .ident)) l → (y : ℕ) → credits c l y ≡ credits d l y
+credits-cell c d [] e y = refl
+credits-cell c d (enters b sc ∷ l) e y = credits-cell c d l e y
+credits-cell c d (mentions m ∷ l) e y = omega (arith, go (meant m), credits-cell c d l (e .1) y)
+  where
+    go : (o : Option Binder) → credit c m o y ≡ credit d m o y
+    go none = ap (λ (q : Option Ident). creditCell (m .ident) q y) (e .0)
+    go (some b) = refl
+credits-cell c d (ends i xs sc ∷ l) e y = credits-cell c d l e y
+
+-- What the rows tell
+
+-- a row that is an identifier's has counted n uses
+abbrev pub Told : ℕ → Row → Type 0
+Told n Blank = Unit {0}
+Told n (Variable v) = v .«usage_count» ≡ n
+Told n (Function v) = Unit {0}
+Told n (CallSite v) = Unit {0}
+Told n (Let v) = Unit {0}
+
+pub told-insert : (i : ℕ) (r : Row) (s : State) (n y : ℕ) → (y ≡ i → Told n r) → (¬ (y ≡ i) → Told n (rowAt s y)) → Told n (rowAt (insert i r s) y)
+unfolding insert
+told-insert i r s n y here there = go (ℕ-discrete y i) (decLt y (length (s .facts .rows)))
+  where
+    go : Dec (y ≡ i) → Dec (y < length (s .facts .rows)) → Told n (rowAt (insert i r s) y)
+    go (no d) l = subst (Told n) (sym (row-other i r s y d)) (there d)
+    go (yes d) (yes l) = subst (Told n) (sym (ap (rowAt (insert i r s)) d ∙ row-same i r s (omega arith))) (here d)
+    go (yes d) (no l) =
+        subst (Told n) (sym (List·getD-eq-default (set (s .facts .rows) i r) Blank {n = y} (omega (arith, length-set (s .facts .rows) i r)))) tt
+
+told-amended : (f : SemanticInformation → SemanticInformation) (m n : ℕ) → ((v : SemanticInformation) → v .«usage_count» ≡ m → f v .«usage_count» ≡ n)
+    → (r : Row) → Told m r → Told n (amended f r)
+told-amended f m n h Blank t = tt
+told-amended f m n h (Variable v) t = h v t
+told-amended f m n h (Function v) t = tt
+told-amended f m n h (CallSite v) t = tt
+told-amended f m n h (Let v) t = tt
+
+pub told-amend : (f : SemanticInformation → SemanticInformation) (i : ℕ) (s : State) (m n y : ℕ) → (y ≡ i → (v : SemanticInformation) → v .«usage_count» ≡ m → f v .«usage_count» ≡ n)
+    → (¬ (y ≡ i) → m ≡ n) → Told m (rowAt s y) → Told n (rowAt (amend f i s) y)
+unfolding amend
+told-amend f i s m n y here there t =
+    told-insert i (amended f (rowAt s i)) s n y (λ e. told-amended f m n (here e) (rowAt s i) (subst (λ (z : ℕ). Told m (rowAt s z)) e t))
+    (λ d. subst (λ (k : ℕ). Told k (rowAt s y)) (there d) t)
+
+-- the rows tell `shown`, the entries of parameters and let names `held`; the records in `own` are still to be visited
 pub record CountsBy (own : ℕ → Type 0) (shown held : ℕ → ℕ) (s : State) : Type 0 where
-  pub told : (y : ℕ) → 2 ≤ entryIn (s .scope .entries) y .depth → Counted (s .facts .rows) (s .scope .entries) (shown y) (held y) y
-  pub unentered : (y : ℕ) → own y → entryIn (s .scope .entries) y .depth ≡ 0
-  pub untold : (y : ℕ) → own y → held y ≡ 0
+  pub told : (y : ℕ) → Told (shown y) (rowAt s y)
+  pub entries : (y : ℕ) → 2 ≤ entryAt s y .depth → entryAt s y .usageCount ≡ held y
+  pub unentered : (y : ℕ) → own y → entryAt s y .depth ≡ 0
+  pub unused : (y : ℕ) → own y → shown y ≡ 0
 
--- both tell the uses before
-pub record Counts (own : ℕ → Type 0) (before : List Use) (s : State) : Type 0 where
-  pub both : CountsBy own (λ y. tally y before) (λ y. tally y before) s
+-- both tell n
+abbrev pub Counts : (ℕ → Type 0) → (ℕ → ℕ) → State → Type 0
+Counts own n s = CountsBy own n n s
 
-pub counts-as : {own : ℕ → Type 0} {shown held : ℕ → ℕ} {s : State} (shown′ held′ : ℕ → ℕ) → ((y : ℕ) → shown y ≡ shown′ y) → ((y : ℕ) → held y ≡ held′ y)
-    → CountsBy own shown held s → CountsBy own shown′ held′ s
-counts-as shown′ held′ a b c =
+pub counts-as : {own : ℕ → Type 0} {n m : ℕ → ℕ} {s : State} → ((y : ℕ) → n y ≡ m y) → Counts own n s → Counts own m s
+counts-as {s = s} e c =
     record {
-      told = λ y h. let k = c .told y h in record { fact = k .fact; is = k .is; uses = k .uses ∙ a y; entry = k .entry ∙ b y };
+      told = λ y. subst (λ (k : ℕ). Told k (rowAt s y)) (e y) (c .told y);
+      entries = λ y h. c .entries y h ∙ e y;
       unentered = c .unentered;
-      untold = λ y o. sym (b y) ∙ c .untold y o;
+      unused = λ y o. sym (e y) ∙ c .unused y o;
     }
 
-pub counts-fewer : {own left : ℕ → Type 0} {shown held : ℕ → ℕ} {s : State} → ((x : ℕ) → left x → own x) → CountsBy own shown held s → CountsBy left shown held s
-counts-fewer w c = record { told = c .told; unentered = λ y l. c .unentered y (w y l); untold = λ y l. c .untold y (w y l) }
-
-pub counts-uses : {own : ℕ → Type 0} {before after : List Use} {s : State} → before ≡ after → Counts own before s → Counts own after s
-counts-uses {own} {s = s} e c = subst (λ (u : List Use). Counts own u s) e c
+pub counts-fewer : {own left : ℕ → Type 0} {n : ℕ → ℕ} {s : State} → ((y : ℕ) → left y → own y) → Counts own n s → Counts left n s
+counts-fewer w c = record { told = c .told; entries = c .entries; unentered = λ y l. c .unentered y (w y l); unused = λ y l. c .unused y (w y l) }
 
 -- Steps that count nothing
 
-abbrev pub SameCount : Row → Row → Type 0
-SameCount r q = (v : SemanticInformation) → r ≡ Variable v → (w : SemanticInformation) × (q ≡ Variable w) × (w .«usage_count» ≡ v .«usage_count»)
-
-pub record Quietly (out : ℕ → Type 0) (s t : State) : Type 0 where
+pub record Quietly (s t : State) : Type 0 where
   pub entries : t .scope .entries ≡ s .scope .entries
-  pub rows : (y : ℕ) → (out y → ⊥) → SameCount (rowAt s y) (rowAt t y)
+  pub rows : (n y : ℕ) → Told n (rowAt s y) → Told n (rowAt t y)
 
-pub same-count : {r q : Row} → r ≡ q → SameCount r q
-same-count e v i = (v, sym e ∙ i, refl)
+pub quietly-then : {s t u : State} → Quietly s t → Quietly t u → Quietly s u
+quietly-then a b = record { entries = b .entries ∙ a .entries; rows = λ n y t. b .rows n y (a .rows n y t) }
 
-pub quietly-then : {out : ℕ → Type 0} {s t u : State} → Quietly out s t → Quietly out t u → Quietly out s u
-quietly-then a b =
-    record {
-      entries = b .entries ∙ a .entries;
-      rows = λ y o v i. let (w, j, e) = a .rows y o v i in let (x, k, g) = b .rows y o w j in (x, k, g ∙ e);
-    }
+pub untouched-rows : {s t : State} → t .scope .entries ≡ s .scope .entries → t .facts .rows ≡ s .facts .rows → Quietly s t
+untouched-rows e r = record { entries = e; rows = λ n y t. subst (λ (T : List Row). Told n (getD T y Blank)) (sym r) t }
 
-pub untouched-rows : {out : ℕ → Type 0} {s t : State} → t .scope .entries ≡ s .scope .entries → t .facts .rows ≡ s .facts .rows → Quietly out s t
-untouched-rows e r = record { entries = e; rows = λ y o. same-count (ap (λ (T : List Row). getD T y Blank) (sym r)) }
-
-pub insert-quietly : {out : ℕ → Type 0} (i : ℕ) (r : Row) (s : State) → out i → Quietly out s (insert i r s)
+-- a fact of something else than an identifier
+pub insert-quietly : (i : ℕ) (r : Row) (s : State) → ((n : ℕ) → Told n r) → Quietly s (insert i r s)
 unfolding insert
-insert-quietly {out} i r s o = record { entries = refl; rows = λ y n. same-count (sym (row-other i r s y (λ e. n (subst out (sym e) o)))) }
+insert-quietly i r s h = record { entries = refl; rows = λ n y t. told-insert i r s n y (λ e. h n) (λ d. t) }
 
 -- a mark that is no count
-amended-count : (f : SemanticInformation → SemanticInformation) → ((v : SemanticInformation) → f v .«usage_count» ≡ v .«usage_count») → (r : Row) → SameCount r (amended f r)
-amended-count f m Blank v i = (v, i, refl)
-amended-count f m (Variable u) v i = (f u, refl, m u ∙ ap (λ (r : Row). countOf r) i)
-  where
-    countOf : Row → ℕ
-    countOf Blank = 0
-    countOf (Variable w) = w .«usage_count»
-    countOf (Function w) = 0
-    countOf (CallSite w) = 0
-    countOf (Let w) = 0
-amended-count f m (Function u) v i = (v, i, refl)
-amended-count f m (CallSite u) v i = (v, i, refl)
-amended-count f m (Let u) v i = (v, i, refl)
-
-pub mark-quietly : {out : ℕ → Type 0} (f : SemanticInformation → SemanticInformation) → ((v : SemanticInformation) → f v .«usage_count» ≡ v .«usage_count»)
-    → (i : ℕ) (s : State) → Quietly out s (amend f i s)
+pub mark-quietly : (f : SemanticInformation → SemanticInformation) → ((v : SemanticInformation) → f v .«usage_count» ≡ v .«usage_count») → (i : ℕ) (s : State) → Quietly s (amend f i s)
 unfolding amend insert
-mark-quietly f m i s = record { entries = refl; rows = λ y o. go y (ℕ-discrete y i) (decLt i (length (s .facts .rows))) }
-  where
-    go : (y : ℕ) → Dec (y ≡ i) → Dec (i < length (s .facts .rows)) → SameCount (rowAt s y) (rowAt (insert i (amended f (rowAt s i)) s) y)
-    go y (no d) h = same-count (sym (row-other i (amended f (rowAt s i)) s y d))
-    go y (yes d) (no h) = same-count (sym (row-out i (amended f (rowAt s i)) s y (omega arith)))
-    go y (yes d) (yes h) = λ v e.
-        let (w, q, c) = amended-count f m (rowAt s i) v (ap (rowAt s) (sym d) ∙ e) in
-        (w, ap (rowAt (insert i (amended f (rowAt s i)) s)) d ∙ row-same i (amended f (rowAt s i)) s h ∙ q, c)
+mark-quietly f m i s = record { entries = refl; rows = λ n y t. told-amend f i s n n y (λ e v q. m v ∙ q) (λ d. refl) t }
 
--- what is told outlives them
-pub counts-quietly : {own out left : ℕ → Type 0} {shown held : ℕ → ℕ} {s t : State} → Parts own out left → CountsBy own shown held s → Quietly out s t → CountsBy left shown held t
-counts-quietly {own} {out} {left} {s = s} {t} parts c q =
-    let same : (y : ℕ) → entryIn (t .scope .entries) y ≡ entryIn (s .scope .entries) y = λ y. ap (λ (E : List Entry). entryIn E y) (q .entries) in
+pub counts-quietly : {own left : ℕ → Type 0} {n : ℕ → ℕ} {s t : State} → ((y : ℕ) → left y → own y) → Counts own n s → Quietly s t → Counts left n t
+counts-quietly {n = n} {s} {t} w c q =
+    let same : (y : ℕ) → entryAt t y ≡ entryAt s y = λ y. ap (λ (E : List Entry). entryIn E y) (q .entries) in
     record {
-      told = λ y h.
-          let k = c .told y (omega (arith, ap (λ (e : Entry). e .depth) (same y))) in
-          let r = q .rows y (λ o. omega (arith, c .unentered y (parts .written y o), ap (λ (e : Entry). e .depth) (same y))) (k .fact) (k .is) in
-          record { fact = r .0; is = r .1; uses = r .2 ∙ k .uses; entry = ap (λ (e : Entry). e .usageCount) (same y) ∙ k .entry };
-      unentered = λ y l. ap (λ (e : Entry). e .depth) (same y) ∙ c .unentered y (parts .kept y l);
-      untold = λ y l. c .untold y (parts .kept y l);
+      told = λ y. q .rows (n y) y (c .told y);
+      entries = λ y h. ap (λ (e : Entry). e .usageCount) (same y) ∙ c .entries y (omega (arith, ap (λ (e : Entry). e .depth) (same y)));
+      unentered = λ y l. ap (λ (e : Entry). e .depth) (same y) ∙ c .unentered y (w y l);
+      unused = λ y l. c .unused y (w y l);
     }
 
--- An entry is used
+-- An entry is put
 
-abbrev pub raise : ℕ → (ℕ → ℕ) → (ℕ → ℕ) → ℕ → ℕ
-raise i held other y = cond (eqb i y) (suc (held y)) (other y)
+module _ (E : List Entry) (i : ℕ) (e : Entry) where
+  pub put-other : (y : ℕ) → ¬ (y ≡ i) → entryIn (set E i e) y ≡ entryIn E y
+  put-other y d = getD-set-other E i y e noEntry d
 
--- the entry at i, which no record in `own` is, becomes e; any row that counts is as it was but perhaps the one at i
-counts-entry : {own out left : ℕ → Type 0} {shown held shown′ : ℕ → ℕ} {s t : State} (i : ℕ) (e : Entry) → Parts own out left → CountsBy own shown held s → (own i → ⊥)
-    → e .depth ≡ entryIn (s .scope .entries) i .depth → e .usageCount ≡ suc (entryIn (s .scope .entries) i .usageCount) → t .scope .entries ≡ set (s .scope .entries) i e
-    → ((y : ℕ) → ¬ (y ≡ i) → (out y → ⊥) → SameCount (rowAt s y) (rowAt t y)) → ((y : ℕ) → ¬ (y ≡ i) → shown′ y ≡ shown y)
-    → ((v : SemanticInformation) → rowAt s i ≡ Variable v → v .«usage_count» ≡ shown i → entryIn (s .scope .entries) i .usageCount ≡ held i
-    → (w : SemanticInformation) × (rowAt t i ≡ Variable w) × (w .«usage_count» ≡ shown′ i))
-    → CountsBy left shown′ (raise i held held) t
-counts-entry {own} {out} {left} {shown} {held} {shown′} {s} {t} i e parts c n d u q rows other here =
-    record {
-      told = λ y h. go y (ℕ-discrete y i) h;
-      unentered = λ y l. let z = c .unentered y (parts .kept y l) in ap (λ (k : Entry). k .depth) (at-other y (λ g. n (subst own g (parts .kept y l)))) ∙ z;
-      untold = λ y l. rw (ne-eqb i y (λ g. n (subst own (sym g) (parts .kept y l)))) (c .untold y (parts .kept y l));
-    }
-  where
-    at-other : (y : ℕ) → ¬ (y ≡ i) → entryIn (t .scope .entries) y ≡ entryIn (s .scope .entries) y
-    at-other y g = ap (λ (E : List Entry). entryIn E y) q ∙ getD-set-other (s .scope .entries) i y e noEntry g
+  -- one that is deep is there
+  pub put-held : (n y : ℕ) → (y ≡ i → 2 ≤ e .depth → e .usageCount ≡ n) → (¬ (y ≡ i) → 2 ≤ entryIn E y .depth → entryIn E y .usageCount ≡ n)
+      → 2 ≤ entryIn (set E i e) y .depth → entryIn (set E i e) y .usageCount ≡ n
+  put-held n y here there = go (ℕ-discrete y i) (decLt y (length E))
+    where
+      go : Dec (y ≡ i) → Dec (y < length E) → 2 ≤ entryIn (set E i e) y .depth → entryIn (set E i e) y .usageCount ≡ n
+      go (no d) l h = ap (λ (k : Entry). k .usageCount) (put-other y d) ∙ there d (omega (arith, ap (λ (k : Entry). k .depth) (put-other y d)))
+      go (yes d) (yes l) h =
+          let is : entryIn (set E i e) y ≡ e = ap (entryIn (set E i e)) d ∙ getD-set-same E i e noEntry (omega arith) in
+          ap (λ (k : Entry). k .usageCount) is ∙ here d (omega (arith, ap (λ (k : Entry). k .depth) is))
+      go (yes d) (no l) h = absurd (omega (arith, ap (λ (k : Entry). k .depth) (List·getD-eq-default (set E i e) noEntry {n = y} (omega (arith, length-set E i e)))))
 
-    inside : (2 ≤ entryIn (t .scope .entries) i .depth) → Dec (i < length (s .scope .entries)) → i < length (s .scope .entries)
-    inside h (yes l) = l
-    inside h (no l) =
-        let gone : entryIn (t .scope .entries) i ≡ noEntry = ap (λ (E : List Entry). entryIn E i) q
-        ∙ List·getD-eq-default (set (s .scope .entries) i e) noEntry {n = i} (omega (arith, length-set (s .scope .entries) i e)) in
-        absurd (omega (arith, ap (λ (k : Entry). k .depth) gone))
+-- A name is read
 
-    go : (y : ℕ) → Dec (y ≡ i) → 2 ≤ entryIn (t .scope .entries) y .depth → Counted (t .facts .rows) (t .scope .entries) (shown′ y) (raise i held held y) y
-    go y (no g) h =
-        let k = c .told y (omega (arith, ap (λ (x : Entry). x .depth) (at-other y g))) in
-        let out-of : out y → ⊥ = λ o. omega (arith, c .unentered y (parts .written y o), ap (λ (x : Entry). x .depth) (at-other y g)) in
-        let (w, j, z) = rows y g out-of (k .fact) (k .is) in
-        record {
-          fact = w;
-          is = j;
-          uses = z ∙ k .uses ∙ sym (other y g);
-          entry = ap (λ (x : Entry). x .usageCount) (at-other y g) ∙ k .entry ∙ sym (rw (ne-eqb i y (λ f. g (sym f))) refl);
-        }
-    go y (yes g) h = subst (λ (z : ℕ). Counted (t .facts .rows) (t .scope .entries) (shown′ z) (raise i held held z) z) (sym g) (own-count (subst (λ (z : ℕ). 2 ≤ entryIn (t .scope .entries) z .depth) g h))
-      where
-        own-count : 2 ≤ entryIn (t .scope .entries) i .depth → Counted (t .facts .rows) (t .scope .entries) (shown′ i) (raise i held held i) i
-        own-count h =
-            let at-i : entryIn (t .scope .entries) i ≡ e = ap (λ (E : List Entry). entryIn E i) q
-            ∙ getD-set-same (s .scope .entries) i e noEntry (inside h (decLt i (length (s .scope .entries)))) in
-            let k = c .told i (omega (arith, ap (λ (x : Entry). x .depth) at-i, d)) in
-            let (w, j, z) = here (k .fact) (k .is) (k .uses) (k .entry) in
-            record {
-              fact = w;
-              is = j;
-              uses = z;
-              entry = ap (λ (x : Entry). x .usageCount) at-i ∙ u ∙ ap suc (k .entry) ∙ sym (rw (eq-eqb i i refl) refl);
-            }
+-- what the entries tell before: those of a binder are one ahead of the rows where the read is a set!'s
+abbrev pub Ahead : Bool → (ℕ → ℕ) → (ℕ → ℕ) → Option Binder → Type 0
+Ahead q n h none = (y : ℕ) → h y ≡ n y
+Ahead q n h (some b) = (h (b .ident .at) ≡ n (b .ident .at) + cond q 1 0) × ((y : ℕ) → ¬ (y ≡ b .ident .at) → h y ≡ n y)
 
--- or it is an entry of the bottom layer, which is not told of
-pub counts-bottom : {own out left : ℕ → Type 0} {shown held : ℕ → ℕ} {s t : State} (i : ℕ) (e : Entry) → Parts own out left → CountsBy own shown held s → (left i → ⊥)
-    → e .depth ≤ 1 → t .scope .entries ≡ set (s .scope .entries) i e → ((y : ℕ) → ¬ (y ≡ i) → (out y → ⊥) → SameCount (rowAt s y) (rowAt t y))
-    → CountsBy left shown held t
-counts-bottom {own} {out} {left} {shown} {held} {s} {t} i e parts c n d q rows =
-    record {
-      told = λ y h. go y (ℕ-discrete y i) h;
-      unentered = λ y l. ap (λ (k : Entry). k .depth) (at-other y (λ g. n (subst left g l))) ∙ c .unentered y (parts .kept y l);
-      untold = λ y l. c .untold y (parts .kept y l);
-    }
-  where
-    at-other : (y : ℕ) → ¬ (y ≡ i) → entryIn (t .scope .entries) y ≡ entryIn (s .scope .entries) y
-    at-other y g = ap (λ (E : List Entry). entryIn E y) q ∙ getD-set-other (s .scope .entries) i y e noEntry g
+module _ {own left : ℕ → Type 0} {n h : ℕ → ℕ} {s : State} (x : Ident) (parts : Parts own (Only (x .at)) left) (o : own (x .at)) (c : CountsBy own n h s) where
+  -- through the entry of the visited record i, which gets k
+  used-counts : (i k : ℕ) (e : Entry) (f : SemanticInformation → SemanticInformation) (v : SemanticInformation) → (own i → ⊥) → v .«usage_count» ≡ 1
+      → (2 ≤ e .depth → e .usageCount ≡ n i + k) → ((u : SemanticInformation) → u .«usage_count» ≡ n i → f u .«usage_count» ≡ n i + k) → ((y : ℕ) → ¬ (y ≡ i) → h y ≡ n y)
+      → Counts left (λ y. n y + (share i k y + share (x .at) 1 y)) (insert (x .at) (Variable v) (amend f i (putEntry i e s)))
+  unfolding insert amend putEntry
+  used-counts i k e f v z one deep counted rest =
+      let t = putEntry i e s in
+      let apart : ¬ (i ≡ x .at) = λ q. z (subst own (sym q) o) in
+      let here : n i + (share i k i + share (x .at) 1 i) ≡ n i + k = omega (arith, share-same i k, share-other (x .at) 1 i apart) in
+      let other : (y : ℕ) → ¬ (y ≡ i) → ¬ (y ≡ x .at) → n y + (share i k y + share (x .at) 1 y) ≡ n y = λ y d g. omega (arith, share-other i k y d, share-other (x .at) 1 y g) in
+      record {
+        told = λ y. told-insert (x .at) (Variable v) (amend f i t) _ y
+            (λ q. one ∙ rw q (omega (arith, c .unused (x .at) o, share-same (x .at) 1, share-other i k (x .at) (λ r. apart (sym r)))))
+            (λ d. told-amend f i t (n y) _ y (λ q u r. rw q (counted u (r ∙ ap n q) ∙ sym here)) (λ g. sym (other y g d)) (c .told y));
+        entries = λ y. put-held (s .scope .entries) i e _ y (λ q l. rw q (deep l ∙ sym here)) (λ g l. go y g l (ℕ-discrete y (x .at)));
+        unentered = λ y l. ap (λ (k : Entry). k .depth) (put-other (s .scope .entries) i e y (λ q. z (subst own q (parts .kept y l)))) ∙ c .unentered y (parts .kept y l);
+        unused = λ y l. other y (λ q. z (subst own q (parts .kept y l))) (parts .apart y l) ∙ c .unused y (parts .kept y l);
+      }
+    where
+      go : (y : ℕ) → ¬ (y ≡ i) → 2 ≤ entryAt s y .depth → Dec (y ≡ x .at) → entryAt s y .usageCount ≡ n y + (share i k y + share (x .at) 1 y)
+      go y g l (yes q) = absurd (omega (arith, c .unentered y (subst own (sym q) o)))
+      go y g l (no d) = c .entries y l ∙ rest y g ∙ omega (arith, share-other i k y g, share-other (x .at) 1 y d)
 
-    low : Dec (i < length (s .scope .entries)) → entryIn (t .scope .entries) i .depth ≤ 1
-    low (yes l) = omega (arith, ap (λ (k : Entry). k .depth) (ap (λ (E : List Entry). entryIn E i) q ∙ getD-set-same (s .scope .entries) i e noEntry l))
-    low (no l) =
-        let gone : entryIn (t .scope .entries) i ≡ noEntry = ap (λ (E : List Entry). entryIn E i) q
-        ∙ List·getD-eq-default (set (s .scope .entries) i e) noEntry {n = i} (omega (arith, length-set (s .scope .entries) i e)) in
-        omega (arith, ap (λ (k : Entry). k .depth) gone)
-
-    go : (y : ℕ) → Dec (y ≡ i) → 2 ≤ entryIn (t .scope .entries) y .depth → Counted (t .facts .rows) (t .scope .entries) (shown y) (held y) y
-    go y (no g) h =
-        let k = c .told y (omega (arith, ap (λ (x : Entry). x .depth) (at-other y g))) in
-        let out-of : out y → ⊥ = λ o. omega (arith, c .unentered y (parts .written y o), ap (λ (x : Entry). x .depth) (at-other y g)) in
-        let (w, j, z) = rows y g out-of (k .fact) (k .is) in
-        record { fact = w; is = j; uses = z ∙ k .uses; entry = ap (λ (x : Entry). x .usageCount) (at-other y g) ∙ k .entry }
-    go y (yes g) h =
-        let l = low (decLt i (length (s .scope .entries))) in
-        absurd (omega (arith, ap (λ (z : ℕ). entryIn (t .scope .entries) z .depth) g))
-
-row-in : {v : SemanticInformation} (i : ℕ) (s : State) → rowAt s i ≡ Variable v → i < length (s .facts .rows)
-row-in i s e = go (decLt i (length (s .facts .rows)))
-  where
-    go : Dec (i < length (s .facts .rows)) → i < length (s .facts .rows)
-    go (yes l) = l
-    go (no l) =
-        let z : Blank ≡ Variable _ = sym (List·getD-eq-default (s .facts .rows) Blank {n = i} (omega arith)) ∙ e in
-        let q : _≡_ {A = ℕ} 0 1 = cc in absurd (omega arith)
-
-pub amend-row : (f : SemanticInformation → SemanticInformation) (i : ℕ) (s : State) {v : SemanticInformation} → rowAt s i ≡ Variable v → rowAt (amend f i s) i ≡ Variable (f v)
-unfolding amend
-amend-row f i s e = row-same i (amended f (rowAt s i)) s (row-in i s e) ∙ ap (amended f) e
-
-pub amend-other : (f : SemanticInformation → SemanticInformation) (i : ℕ) (s : State) (y : ℕ) → ¬ (y ≡ i) → rowAt (amend f i s) y ≡ rowAt s y
-unfolding amend
-amend-other f i s y n = row-other i (amended f (rowAt s i)) s y n
-
-abbrev pub shownBy : Option Binder → (ℕ → ℕ) → (ℕ → ℕ) → ℕ → ℕ
-shownBy none shown held = shown
-shownBy (some b) shown held = raise (b .ident .at) held shown
-
-abbrev pub heldBy : Option Binder → (ℕ → ℕ) → ℕ → ℕ
-heldBy none held = held
-heldBy (some b) held = raise (b .ident .at) held held
+  -- no entry
+  free-counts : (q : Bool) (d : ℕ) → rowAt s (x .at) ≡ Blank → ((y : ℕ) → h y ≡ n y) → Counts left (λ y. n y + 0) (insert (x .at) (freeRow q d x (rowAt s (x .at))) s)
+  unfolding insert
+  free-counts q d b e =
+      record {
+        told = λ y. told-insert (x .at) _ s _ y (λ g. subst (λ (r : Row). Told (n y + 0) (freeRow q d x r)) (sym b) (go q ∙ omega (arith, c .unused (x .at) o, ap n g)))
+            (λ g. subst (λ (k : ℕ). Told k (rowAt s y)) (omega arith) (c .told y));
+        entries = λ y l. c .entries y l ∙ omega (arith, e y);
+        unentered = λ y l. c .unentered y (parts .kept y l);
+        unused = λ y l. omega (arith, c .unused y (parts .kept y l));
+      }
+    where
+      go : (q : Bool) → freeFact q d x .«usage_count» ≡ 0
+      go true = refl
+      go false = refl
 
 -- an entry of the bottom has depth 1
 global-depth : {own : ℕ → Type 0} {E : List Entry} {q : Option (Live Ident)} (d : Ident) → Got (Global own E) q → binderIn q ≡ some d → entryIn E (d .at) .depth ≡ 1
 global-depth d got-none e = absurd (Option·none-ne-some d e)
 global-depth {E = E} d (got-some {e = l} g) e = ap (λ (b : Ident). entryIn E (b .at) .depth) (sym (Option·some-injective (l .value) d e)) ∙ g .depth
 
-module _ (classes : List ℕ) {own left : ℕ → Type 0} {bottom : List (Live Ident)} {before : List Use} {p : Place} {shown held : ℕ → ℕ} {s : State} (x : Ident)
-    (parts : Parts own (Only (x .at)) left) (o : own (x .at)) (f : Finds own bottom before p s) (c : CountsBy own shown held s) where
+-- a mark that is made or not
+pub marked : (q : Bool) (f : SemanticInformation → SemanticInformation) → ((v : SemanticInformation) → f v .«usage_count» ≡ v .«usage_count») → (v : SemanticInformation)
+    → markIf q f v .«usage_count» ≡ v .«usage_count»
+marked true f m v = m v
+marked false f m v = refl
+
+module _ (classes : List ℕ) {own left : ℕ → Type 0} {bottom : List (Live Ident)} {before : List Use} {p : Place} {n h : ℕ → ℕ} {s : State} (x : Ident) (isSet : Bool)
+    (parts : Parts own (Only (x .at)) left) (o : own (x .at)) (f : Finds own bottom before p s) (c : CountsBy own n h s) where
+  abbrev mention : Mention
+  mention = record { ident = x; isSet = isSet; place = p }
+
   -- a name of the body or of one around it: its row takes the entry's uses
-  bound-counts : (b : Ident) (e : Entry) (r : Row) → (own (b .at) → ⊥) → e .depth ≡ entryAt s (b .at) .depth → e .usageCount ≡ suc (entryAt s (b .at) .usageCount)
-      → CountsBy left (raise (b .at) held shown) (raise (b .at) held held) (insert (x .at) r (amend (withUsageCount (e .usageCount)) (b .at) (putEntry (b .at) e s)))
-  unfolding insert amend putEntry
-  bound-counts b e r n d u =
-      let t = putEntry (b .at) e s in
-      let m = amend (withUsageCount (e .usageCount)) (b .at) t in
-      let apart : ¬ (b .at ≡ x .at) = λ g. n (subst own (sym g) o) in
-      counts-entry {shown′ = raise (b .at) held shown} {t = insert (x .at) r m} (b .at) e parts c n d u refl
-      (λ y g w. same-count (sym (amend-other (withUsageCount (e .usageCount)) (b .at) t y g) ∙ sym (row-other (x .at) r m y (λ q. w q))))
-      (λ y g. rw (ne-eqb (b .at) y (λ q. g (sym q))) refl)
-      (λ v i q k. (
-        withUsageCount (e .usageCount) v,
-        row-other (x .at) r m (b .at) apart ∙ amend-row (withUsageCount (e .usageCount)) (b .at) t i,
-        u ∙ ap suc k ∙ sym (rw (eq-eqb (b .at) (b .at) refl) refl),
-      ))
+  bound-counts : (b : Binder) (e : Entry) (v : SemanticInformation) → Stands own (s .scope .entries) before b → 2 ≤ b .layer → e .usageCount ≡ suc (entryAt s (b .ident .at) .usageCount)
+      → v .«usage_count» ≡ 1 → Ahead isSet n h (some b)
+      → Counts left (λ y. n y + credit (cellOf bottom) mention (some b) y)
+      (insert (x .at) (Variable v) (amend (withUsageCount (e .usageCount)) (b .ident .at) (putEntry (b .ident .at) e s)))
+  bound-counts b e v k two u one a =
+      let i = b .ident .at in
+      let all : e .usageCount ≡ n i + cond isSet 2 1 = u ∙ ap suc (c .entries i (omega (arith, k .held .depth)) ∙ a .0) ∙ go isSet in
+      used-counts x parts o c i (cond isSet 2 1) e (withUsageCount (e .usageCount)) v (k .apart) one (λ l. all) (λ w r. all) (a .1)
+    where
+      go : (q : Bool) → suc (n (b .ident .at) + cond q 1 0) ≡ n (b .ident .at) + cond q 2 1
+      go true = omega arith
+      go false = omega arith
 
-  global-counts : (d : Ident) (r : Row) → (left (d .at) → ⊥) → entryAt s (d .at) .depth ≡ 1
-      → CountsBy left shown held (insert (x .at) r (amend oneUseMore (d .at) (putEntry (d .at) (usedEntry (entryAt s (d .at))) s)))
-  unfolding insert amend putEntry
-  global-counts d r n g =
-      let t = putEntry (d .at) (usedEntry (entryAt s (d .at))) s in
-      counts-bottom {t = insert (x .at) r (amend oneUseMore (d .at) t)} (d .at) (usedEntry (entryAt s (d .at))) parts c n (omega arith) refl
-      (λ y k w. same-count (sym (amend-other oneUseMore (d .at) t y k) ∙ sym (row-other (x .at) r (amend oneUseMore (d .at) t) y (λ q. w q))))
+  by-counts : {b : Option Binder} {r : Rule} → Reads own (s .scope .entries) before p bottom (x .name) b r → Of (λ b. 2 ≤ b .layer) b → Ahead isSet n h b
+      → Counts left (λ y. n y + credit (cellOf bottom) mention b y) (readBy classes r x s)
+  by-counts (reads-none e) l a = rw e (free-counts x parts o c (isPrelude classes (x .name)) _ (f .tables .blank (x .at) o) a)
+  by-counts (reads-global {d} e v) l a =
+      rw e (used-counts x parts o c (d .at) 1 (usedEntry (entryAt s (d .at))) oneUseMore _ v (marked (isPrelude classes (x .name)) markBuiltin (λ v. refl) _)
+      (λ l. absurd (omega (arith, global-depth d (search-for f (x .name) .global) e))) (λ u q. omega arith) (λ y g. a y))
+  by-counts (reads-own {b} k i) (of-some l) a =
+      let e = entryAt s (b .ident .at) in
+      bound-counts b _ _ k l refl (marked (e .captured && e .mutated) (heapFact (lastEntry x (usedEntry e))) (λ v. refl) _) a
+  by-counts (reads-outer {b} k i) (of-some l) a = bound-counts b _ _ k l refl refl a
 
-  by-counts : {b : Option Binder} {r : Rule} → Reads own (s .scope .entries) before p bottom (x .name) b r → CountsBy left (shownBy b shown held) (heldBy b held) (readBy classes r x s)
-  by-counts (reads-none e) = counts-quietly parts c (insert-quietly (x .at) _ s refl)
-  by-counts (reads-global {d} e v) = global-counts d _ (λ l. v (parts .kept (d .at) l)) (global-depth d (search-for f (x .name) .global) e)
-  by-counts (reads-own {b} k i) = bound-counts (b .ident) _ _ (k .apart) refl refl
-  by-counts (reads-outer {b} k i) = bound-counts (b .ident) _ _ (k .apart) refl refl
-
-  pub read-counts : CountsBy left (shownBy (find (p .scope) (x .name)) shown held) (heldBy (find (p .scope) (x .name)) held) (read classes x s)
+  pub read-counts : Ahead isSet n h (find (p .scope) (x .name)) → Counts left (λ y. n y + credit (cellOf bottom) mention (find (p .scope) (x .name)) y) (read classes x s)
   unfolding read
-  read-counts = by-counts (rules f (x .name))
+  read-counts a = by-counts (rules f (x .name)) (above (search-for f (x .name) .meant)) a
+    where
+      above : {b : Option Binder} → Of (λ b. Around (p .layer) (p .around) b × Stands own (s .scope .entries) before b) b → Of (λ b. 2 ≤ b .layer) b
+      above of-none = of-none
+      above (of-some k) = of-some (k .0 .above)
 
 -- A name is set: its entry counts once more, and its row does so when it is read
 
-module _ {own : ℕ → Type 0} {bottom : List (Live Ident)} {before : List Use} {p : Place} {shown held : ℕ → ℕ} {s : State} (x : ℕ) (f : Finds own bottom before p s) (c : CountsBy own shown held s) where
-  sets-counts : {o : Option Binder} {q : Option (Live Ident)} → Of (λ b. Around (p .layer) (p .around) b × Stands own (s .scope .entries) before b) o
-      → Got (Global own (s .scope .entries)) q → CountsBy own shown (heldBy o held) (mutateAt (binderIn (liveIn o q)) s)
+-- what the entries tell then
+abbrev pub heldBy : Option Binder → (ℕ → ℕ) → ℕ → ℕ
+heldBy none n y = n y
+heldBy (some b) n y = n y + share (b .ident .at) 1 y
+
+pub ahead : (n : ℕ → ℕ) (o : Option Binder) → Ahead true n (heldBy o n) o
+ahead n none = λ y. refl
+ahead n (some b) = (omega (arith, share-same (b .ident .at) 1), λ y g. omega (arith, share-other (b .ident .at) 1 y g))
+
+pub level : (n : ℕ → ℕ) (o : Option Binder) → Ahead false n n o
+level n none = λ y. refl
+level n (some b) = (omega arith, λ y g. refl)
+
+module _ {own : ℕ → Type 0} {bottom : List (Live Ident)} {before : List Use} {p : Place} {n : ℕ → ℕ} {s : State} (x : ℕ) (f : Finds own bottom before p s) (c : Counts own n s) where
+  put-counts : (i : ℕ) (e : Entry) (h : ℕ → ℕ) → (own i → ⊥) → (2 ≤ e .depth → e .usageCount ≡ h i) → ((y : ℕ) → ¬ (y ≡ i) → h y ≡ n y)
+      → CountsBy own n h (amend markSet i (putEntry i e s))
   unfolding insert amend putEntry
+  put-counts i e h z deep rest =
+      record {
+        told = λ y. told-amend markSet i (putEntry i e s) (n y) (n y) y (λ q v r. r) (λ d. refl) (c .told y);
+        entries = λ y. put-held (s .scope .entries) i e _ y (λ q l. rw q (deep l)) (λ g l. c .entries y l ∙ sym (rest y g));
+        unentered = λ y l. ap (λ (k : Entry). k .depth) (put-other (s .scope .entries) i e y (λ q. z (subst own q l))) ∙ c .unentered y l;
+        unused = c .unused;
+      }
+
+  sets-counts : {o : Option Binder} {q : Option (Live Ident)} → Of (λ b. Around (p .layer) (p .around) b × Stands own (s .scope .entries) before b) o
+      → Got (Global own (s .scope .entries)) q → CountsBy own n (heldBy o n) (mutateAt (binderIn (liveIn o q)) s)
   sets-counts of-none got-none = c
-  sets-counts of-none (got-some {e} g) =
-      let d = mutatedEntry (usedEntry (entryAt s (e .value .at))) in
-      let t = putEntry (e .value .at) d s in
-      counts-bottom {t = amend markSet (e .value .at) t} (e .value .at) d no-part c (g .apart) (omega (arith, g .depth)) refl
-      (λ y k w. same-count (sym (amend-other markSet (e .value .at) t y k)))
+  sets-counts of-none (got-some {e} g) = put-counts (e .value .at) _ n (g .apart) (λ l. absurd (omega (arith, g .depth))) (λ y d. refl)
   sets-counts (of-some {b} (a, k)) g =
       let i = b .ident .at in
-      let d = mutatedEntry (usedEntry (entryAt s i)) in
-      let t = putEntry i d s in
-      counts-entry {shown′ = shown} {t = amend markSet i t} i d no-part c (k .apart) refl refl refl
-      (λ y n w. same-count (sym (amend-other markSet i t y n))) (λ y n. refl)
-      (λ v e q z. (markSet v, amend-row markSet i t e, q))
+      put-counts i _ (heldBy (some b) n) (k .apart) (λ l. omega (arith, c .entries i (omega (arith, a .above, k .held .depth)), share-same i 1))
+      (λ y d. omega (arith, share-other i 1 y d))
 
-  pub mutate-counts : CountsBy own shown (heldBy (find (p .scope) x) held) (mutate x s)
+  pub mutate-counts : CountsBy own n (heldBy (find (p .scope) x) n) (mutate x s)
   unfolding mutate
   mutate-counts =
       let q = search-for f x in
-      subst (λ (o : Option (Live Ident)). CountsBy own shown (heldBy (find (p .scope) x) held) (mutateAt (binderIn o) s)) (sym (q .found)) (sets-counts (q .meant) (q .global))
+      subst (λ (o : Option (Live Ident)). CountsBy own n (heldBy (find (p .scope) x) n) (mutateAt (binderIn o) s)) (sym (q .found)) (sets-counts (q .meant) (q .global))

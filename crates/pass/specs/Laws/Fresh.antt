@@ -35,8 +35,8 @@ use Rattle.pass.specs.Laws.Refs.{ctxOf, enter-ctx}
 use Rattle.pass.specs.Laws.Ends.{call-row}
 use Rattle.pass.specs.Laws.Forms.{Minus, reads, sets, names-done, lambda-done, let-done}
 use Rattle.pass.specs.Laws.Done.{with-uses, Done, given, both, ended, closed}
-use Rattle.pass.specs.Laws.Counts.{Counts, counts-fewer, counts-uses, untouched-rows}
-use Rattle.pass.specs.Laws.Counting.{quiet-counts, let-counts, lambda-counts, call-quietly, clear-quietly, left-counts}
+use Rattle.pass.specs.Laws.Counts.{Counts, counts-as, counts-fewer, counts-quietly, untouched-rows}
+use Rattle.pass.specs.Laws.Counting.{let-counts, lambda-counts, call-quietly, clear-quietly, body-deep, left-counts}
 
 module _ (classes : List ℕ) (T : List Row) (P : Premises) (bottom : List (Live Ident)) where
   -- The visits
@@ -53,13 +53,12 @@ module _ (classes : List ℕ) (T : List Row) (P : Premises) (bottom : List (Live
 
     pub visits : (i : ℕ) (t : Tree) → Num i t → defines t ≡ [] → (f : Flags) (b : Bool) → f .tail ≡ b → {own : ℕ → Type 0} {before : List Use} {p : Place} {s : State} → f .height ≡ p .height
         → Covers own i (i + size t) → Finds own bottom before p s → visit classes t f s .noted .nine ≡ none
-        → Done classes T P bottom (Minus own i (i + size t)) before p (walk t p) i (i + size t) (visit classes t f s) (RecAt p b t) (Counts own before s)
+        → Done classes T P bottom (Minus own i (i + size t)) before p (walk t p) i (i + size t) (visit classes t f s) (RecAt p b t) (λ n. Counts own n s)
     visits i (ident x) n d f b t h o g e = reads classes T P bottom i x n o g
     visits i (const m q) n d f b t {before = before} h o g e =
         record {
           finds = with-uses (sym (append-nil before)) (fewer (λ x z. z .0) g);
-          counts = λ c. counts-uses (sym (append-nil before)) (record { both = counts-fewer (λ x z. z .0) (c .both) });
-          entered = tt;
+          counts = λ n c. counts-as (λ y. omega arith) (counts-fewer (λ x z. z .0) c);
           says = λ ag. tt;
           means = λ ag u. r-const;
         }
@@ -83,8 +82,8 @@ module _ (classes : List ℕ) (T : List Row) (P : Premises) (bottom : List (Live
         closed i (i + size (if m a c k)) (omega arith) (omega arith)
         (λ x z. (((z .0, λ l u. z .1 (omega arith) (omega arith)), λ l u. z .1 (omega arith) (omega arith)), λ l u. z .1 (omega arith) (omega arith)))
         (both i₁ j (omega arith) (omega arith) (omega arith) (omega arith) A
-        (by (past i₂ c (n .2) (λ x l u y z. omega arith) (sameTail f) s₁ h₁) ⨟ by (past i₃ k (n .3) (λ x l u y z. omega arith) (sameTail f) s₂ h₂)) (λ c. c)
-        (both i₂ j (omega arith) (omega arith) (omega arith) (omega arith) C (by (past i₃ k (n .3) (λ x l u y z. omega arith) (sameTail f) s₂ h₂)) (λ c. c) K))
+        (by (past i₂ c (n .2) (λ x l u y z. omega arith) (sameTail f) s₁ h₁) ⨟ by (past i₃ k (n .3) (λ x l u y z. omega arith) (sameTail f) s₂ h₂)) (λ k c. c)
+        (both i₂ j (omega arith) (omega arith) (omega arith) (omega arith) C (by (past i₃ k (n .3) (λ x l u y z. omega arith) (sameTail f) s₂ h₂)) (λ k c. c) K))
         (λ q. r-if (q .0) (q .1 .0) (q .1 .1))
     visits i (letin m xs es c) n d f b t {own} {before} {p} {s} h o g e =
         let s₁ = withContext NONE s in
@@ -109,14 +108,14 @@ module _ (classes : List ℕ) (T : List Row) (P : Premises) (bottom : List (Live
         let g₃ : Finds (Minus own i₂ i₃) bottom (before ++ usesIn (walkArguments es p)) p s₃ = calmly no-part (A .finds) (λ free. context (s .context)) in
         let N = enter-let classes {left = Minus (Minus own i₂ i₃) i₁ i₂} m i₁ xs (n .2) (λ x l u. (o x (omega arith) (omega arith), λ y z. omega arith))
         (o (m .at) (omega arith) (omega arith), λ y z. omega arith) (λ y z. z .0) (λ y z l u. z .1 l u) g₃ (f .height) h (f .function) e₄ in
-        let D = names-done classes T P bottom true (p .height) q xs (p .scope) i₁ (n .2) N in
+        let D = names-done classes T P bottom true (p .height) q xs (p .scope) i₁ N in
         let C = visits i₃ c (n .4) (none-right (definesIn es) (defines c) d) k b t (omega (arith, n .1))
         (λ x l u. ((o x (omega arith) (omega arith), λ y z. omega arith), λ y z. omega arith)) (D .finds) e₅ in
         let-done classes T P bottom own before p i m xs es c b (f .height) (f .function) (atBottom s) n o
-        (given {C = Counts own before s} (λ c. quiet-counts no-part c (untouched-rows refl refl)) A)
+        (given {C = λ n. Counts own n s} (λ k c. counts-quietly (λ y z. z) c (untouched-rows refl refl)) A)
         (by (context {s = s₂} (s .context)) ⨟ into-let m xs (f .height) (f .function) s₃ (names-writes _ i₁ xs (n .2) (λ x l u y z. omega arith)))
-        (λ c. let-counts {left = Minus (Minus own i₂ i₃) i₁ i₂} m i₁ xs (n .2) (λ x l u. (o x (omega arith) (omega arith), λ y z. omega arith))
-        (o (m .at) (omega arith) (omega arith), λ y z. omega arith) (λ y z. z .0) (λ y z l u. z .1 l u) g₃ (quiet-counts no-part c (untouched-rows refl refl)) (f .height) (f .function))
+        (λ k c. let-counts {left = Minus (Minus own i₂ i₃) i₁ i₂} m i₁ xs (n .2) (λ x l u. (o x (omega arith) (omega arith), λ y z. omega arith))
+        (o (m .at) (omega arith) (omega arith), λ y z. omega arith) (λ y z. z .0) (λ y z l u. z .1 l u) g₃ (counts-quietly (λ y z. z) c (untouched-rows refl refl)) (f .height) (f .function))
         g₃ (ap (λ (k : ℕ). eqb k 1) (deep g ∙ sym (deep g₃))) e₄ D (λ own w. past i₃ c (n .4) w k s₄ h₄) C
     visits i (define m x c) n d f b t h o g e = absurd (cons-ne-nil (m .at) (defines c) d)
     visits i (lambda m xs c) n d f b t {own} {before} {p} {s} h o g e =
@@ -132,9 +131,9 @@ module _ (classes : List ℕ) (T : List Row) (P : Premises) (bottom : List (Live
         let q = lambdaBody m (length xs) p in
         let here = o (m .at) (omega arith) (omega arith) in
         let N = enter-lambda classes {left = Minus own i₁ i₂} m i₁ xs (n .1) (λ x l u. o x (omega arith) (omega arith)) here (λ y z. z .0) (λ y z l u. z .1 l u) g e₁ in
-        let D = names-done classes T P bottom false 0 q xs (p .scope) i₁ (n .1) N in
-        let into : Counts own before s → Counts (Minus own i₁ i₂) before s₁ =
-        λ z. lambda-counts m i₁ xs (n .1) (λ x l u. o x (omega arith) (omega arith)) here (λ y z. z .0) (λ y z l u. z .1 l u) g z in
+        let D = names-done classes T P bottom false 0 q xs (p .scope) i₁ N in
+        let into : (k : ℕ → ℕ) → Counts own k s → Counts (Minus own i₁ i₂) k s₁ =
+        λ k z. lambda-counts m i₁ xs (n .1) (λ x l u. o x (omega arith) (omega arith)) here (λ y z. z .0) (λ y z l u. z .1 l u) g z in
         let C = visits i₂ c (n .2) d k true refl refl (λ x l u. (o x (omega arith) (omega arith), λ y z. omega arith)) (D .finds) e₂ in
         let parts : Parts (Minus (Minus own i₁ i₂) i₂ j) (Only (m .at)) (Minus own i (i + size (lambda m xs c))) =
         record {
@@ -146,14 +145,14 @@ module _ (classes : List ℕ) (T : List Row) (P : Premises) (bottom : List (Live
         let own-record : Minus (Minus own i₁ i₂) i₂ j (m .at) = ((here, λ l u. omega arith), λ l u. omega arith) in
         let E = lambda-done classes T P bottom i m xs c (f .escape) s₂ (n .0) (C .finds .tables .blank (m .at) own-record) (C .finds .tables .rows (m .at) own-record) left in
         closed i (i + size (lambda m xs c)) (omega arith) (omega arith) (λ x z. z)
-        (both i j (omega arith) (omega arith) (omega arith) (omega arith) (given {C = Counts own before s} into D)
-        (by (past i₂ c (n .2) (λ x l u y z. omega arith) k s₁ h₁) ⨟ out-of-lambda m xs c (f .escape) s₂ (λ l u. omega arith)) (λ c. c)
-        (both i j (omega arith) (omega arith) (omega arith) (omega arith) C (out-of-lambda m xs c (f .escape) s₂ (λ l u. omega arith)) (λ z. left-counts m xs c (f .escape) s₂ parts z) E))
+        (both i j (omega arith) (omega arith) (omega arith) (omega arith) (given {C = λ n. Counts own n s} into D)
+        (by (past i₂ c (n .2) (λ x l u y z. omega arith) k s₁ h₁) ⨟ out-of-lambda m xs c (f .escape) s₂ (λ l u. omega arith)) (λ k c. c)
+        (both i j (omega arith) (omega arith) (omega arith) (omega arith) C (out-of-lambda m xs c (f .escape) s₂ (λ l u. omega arith)) (λ k z. left-counts m xs c (f .escape) s₂ (parts .kept) (body-deep false 0 q xs (p .scope) (C .finds)) z) E))
         (λ z. r-lambda (z .1 .1 .is) (z .1 .1 .depth) (z .0)
         (subst (λ (Γ : Ctx). Rec T P Γ (suc (p .layer)) (length xs) true c) (enter-ctx false 0 q 0 xs 0 (omega arith) (p .scope)) (z .1 .0)))
     visits i (begin m es) n d f b t {own} {before} {p} {s} h o g e =
         subst (λ (u : State). visitChildren classes es f u .noted .nine ≡ none
-        → Done classes T P bottom (Minus own i (i + size (begin m es))) before p (walkAll es p) i (i + size (begin m es)) (visitChildren classes es f u) (RecAt p b (begin m es)) (Counts own before s))
+        → Done classes T P bottom (Minus own i (i + size (begin m es))) before p (walkAll es p) i (i + size (begin m es)) (visitChildren classes es f u) (RecAt p b (begin m es)) (λ n. Counts own n s))
         (sym (none-enters classes es s d))
         (λ e. closed i (i + size (begin m es)) (omega arith) (omega arith) (λ x z. (z .0, λ l u. z .1 (omega arith) (omega arith)))
         (visits-all (i + 1) es (n .1) d f b t h (λ x l u. o x (omega arith) (omega arith)) g e) r-begin) e
@@ -171,7 +170,7 @@ module _ (classes : List ℕ) (T : List Row) (P : Premises) (bottom : List (Live
         let A = visits-in i₂ es (n .2) (none-right (defines c) (definesIn es) d) (argumentFlags f) refl h (λ x l u. o x (omega arith) (omega arith)) g e₁ in
         let C = visits i₁ c (n .1) (none-left (defines c) (definesIn es) d) k false refl (omega arith) (λ x l u. (o x (omega arith) (omega arith), λ y z. omega arith))
         (at-height (p .height + many es) (A .finds)) e₂ in
-        let X = both i₁ j (omega arith) (omega arith) (omega arith) (omega arith) A (by (past i₁ c (n .1) (λ x l u y z. omega arith) k s₁ h₁)) (λ c. c) C in
+        let X = both i₁ j (omega arith) (omega arith) (omega arith) (omega arith) A (by (past i₁ c (n .1) (λ x l u y z. omega arith) k s₁ h₁)) (λ k c. c) C in
         let own-record : Minus (Minus own i₂ j) i₁ i₂ (m .at) = ((o (m .at) (omega arith) (omega arith), λ l u. omega arith), λ l u. omega arith) in
         let parts : Parts (Minus (Minus own i₂ j) i₁ i₂) (Only (m .at)) (Minus own i (i + size (call m c es))) =
         record {
@@ -180,7 +179,7 @@ module _ (classes : List ℕ) (T : List Row) (P : Premises) (bottom : List (Live
           apart = λ x z q. z .1 (omega arith) (omega arith);
         } in
         ended i (i + size (call m c es)) (omega arith) (omega arith) X (by (call-changes m c es f s₂ (λ q l u. omega arith)))
-        (at-height (p .height) (calmly parts (X .finds) (λ free. call-changes m c es f s₂ (λ q. refl)))) (λ z. quiet-counts parts z (call-quietly m c es f s₂))
+        (at-height (p .height) (calmly parts (X .finds) (λ free. call-changes m c es f s₂ (λ q. refl)))) (λ k z. counts-quietly (parts .kept) z (call-quietly m c es f s₂))
         (λ z ag. r-call (z .0) (z .1)
         (λ r. sym t ∙ call-row m c es f s₂ (C .finds .tables .blank (m .at) own-record) (C .finds .tables .rows (m .at) own-record) (getD T (m .at) Blank)
         (ag .at (m .at) (omega arith) (omega arith)) r))
@@ -193,19 +192,18 @@ module _ (classes : List ℕ) (T : List Row) (P : Premises) (bottom : List (Live
         let X = sets classes T P bottom (i + 1) x (n .1) (λ y l u. (o y (omega arith) (omega arith), λ a z. omega arith)) (C .finds) in
         closed i (i + size (set! m x c)) (omega arith) (omega arith)
         (λ y z. ((z .0, λ l u. z .1 (omega arith) (omega arith)), λ l u. z .1 (omega arith) (omega arith)))
-        (both (i + 1) (i + 2 + size c) (omega arith) (omega arith) (omega arith) (omega arith) (given {C = Counts own before s} (λ z. quiet-counts no-part z (clear-quietly x s)) C)
-        (by (mutate-changes (x .name) s₂ ⨾ read-changes classes x _ (λ l u. omega arith))) (λ c. c) X)
+        (both (i + 1) (i + 2 + size c) (omega arith) (omega arith) (omega arith) (omega arith) (given {C = λ n. Counts own n s} (λ k z. counts-quietly (λ y z. z) z (clear-quietly x s)) C)
+        (by (mutate-changes (x .name) s₂ ⨾ read-changes classes x _ (λ l u. omega arith))) (λ k c. c) X)
         (λ z. r-set (z .0) (z .1 .is) (z .1 .means))
 
     pub visits-in : (i : ℕ) (ts : Trees) → Nums i ts → definesIn ts ≡ [] → (f : Flags) → f .tail ≡ false → {own : ℕ → Type 0} {before : List Use} {p : Place} {s : State} → f .height ≡ p .height
         → Covers own i (i + sizes ts) → Finds own bottom before p s → visitArguments classes ts f s .noted .nine ≡ none
         → Done classes T P bottom (Minus own i (i + sizes ts)) before p (walkArguments ts p) i (i + sizes ts) (visitArguments classes ts f s)
-        (Args T P (ctxOf (p .scope)) (p .layer) (p .height) ts) (Counts own before s)
+        (Args T P (ctxOf (p .scope)) (p .layer) (p .height) ts) (λ n. Counts own n s)
     visits-in i nil n d f t {before = before} h o g e =
         record {
           finds = with-uses (sym (append-nil before)) (fewer (λ x z. z .0) g);
-          counts = λ c. counts-uses (sym (append-nil before)) (record { both = counts-fewer (λ x z. z .0) (c .both) });
-          entered = tt;
+          counts = λ n c. counts-as (λ y. omega arith) (counts-fewer (λ x z. z .0) c);
           says = λ ag. tt;
           means = λ ag u. a-nil;
         }
@@ -220,27 +218,26 @@ module _ (classes : List ℕ) (T : List Row) (P : Premises) (bottom : List (Live
         let R = visits-in k ts (n .1) (none-right (defines c) (definesIn ts) d) (pushed f) t (omega arith) (λ x l u. (o x (omega arith) (omega arith), λ y z. omega arith))
         (at-height (p .height + 1) (A .finds)) e in
         let X = both i j (omega arith) (omega arith) (omega arith) (omega arith) A
-        (by (arguments-visited classes ts (pushed f) s₁ (trees-writes _ k ts (n .1) (λ x l u y z. omega arith)) h₁)) (λ c. c) R in
+        (by (arguments-visited classes ts (pushed f) s₁ (trees-writes _ k ts (n .1) (λ x l u y z. omega arith)) h₁)) (λ k c. c) R in
         ended i (i + sizes (cons c ts)) (omega arith) (omega arith) X (by same)
         (at-height (p .height) (fewer (λ x z. ((z .0, λ l u. z .1 (omega arith) (omega arith)), λ l u. z .1 (omega arith) (omega arith))) (X .finds)))
-        (λ c. record { both = counts-fewer (λ x z. ((z .0, λ l u. z .1 (omega arith) (omega arith)), λ l u. z .1 (omega arith) (omega arith))) (c .both) })
+        (λ k c. counts-fewer (λ x z. ((z .0, λ l u. z .1 (omega arith) (omega arith)), λ l u. z .1 (omega arith) (omega arith))) c)
         (λ z ag. a-cons (z .0) (subst (λ (k : ℕ). Args T P (ctxOf (p .scope)) (p .layer) k ts) (add-one (p .height)) (z .1)))
 
     pub visits-all : (i : ℕ) (ts : Trees) → Nums i ts → definesIn ts ≡ [] → (f : Flags) (b : Bool) → f .tail ≡ b → {own : ℕ → Type 0} {before : List Use} {p : Place} {s : State} → f .height ≡ p .height
         → Covers own i (i + sizes ts) → Finds own bottom before p s → visitChildren classes ts f s .noted .nine ≡ none
         → Done classes T P bottom (Minus own i (i + sizes ts)) before p (walkAll ts p) i (i + sizes ts) (visitChildren classes ts f s)
-        (Seq T P (ctxOf (p .scope)) (p .layer) (p .height) b ts) (Counts own before s)
+        (Seq T P (ctxOf (p .scope)) (p .layer) (p .height) b ts) (λ n. Counts own n s)
     visits-all i nil n d f b t {before = before} h o g e =
         record {
           finds = with-uses (sym (append-nil before)) (fewer (λ x z. z .0) g);
-          counts = λ c. counts-uses (sym (append-nil before)) (record { both = counts-fewer (λ x z. z .0) (c .both) });
-          entered = tt;
+          counts = λ n c. counts-as (λ y. omega arith) (counts-fewer (λ x z. z .0) c);
           says = λ ag. tt;
           means = λ ag u. s-nil;
         }
     visits-all i (cons c nil) n d f b t {own} {before} {p} {s} h o g e =
         let C = visits i c (n .0) (none-left (defines c) [] d) (childFlags true f) b (and-true (f .tail) ∙ t) h (λ x l u. o x (omega arith) (omega arith)) g e in
-        subst (λ (l : List Event). Done classes T P bottom (Minus own i (i + sizes (cons c nil))) before p l i (i + sizes (cons c nil)) (visit classes c (childFlags true f) s) (Seq T P (ctxOf (p .scope)) (p .layer) (p .height) b (cons c nil)) (Counts own before s))
+        subst (λ (l : List Event). Done classes T P bottom (Minus own i (i + sizes (cons c nil))) before p l i (i + sizes (cons c nil)) (visit classes c (childFlags true f) s) (Seq T P (ctxOf (p .scope)) (p .layer) (p .height) b (cons c nil)) (λ n. Counts own n s))
         (sym (append-nil (walk c p)))
         (closed i (i + sizes (cons c nil)) (omega arith) (omega arith) (λ x z. (z .0, λ l u. z .1 (omega arith) (omega arith))) C s-one)
     visits-all i (cons c (cons u us)) n d f b t {own} {before} {p} {s} h o g e =
@@ -254,5 +251,5 @@ module _ (classes : List ℕ) (T : List Row) (P : Premises) (bottom : List (Live
         let R = visits-all k (cons u us) (n .1) (none-right (defines c) (definesIn (cons u us)) d) f b t h (λ x l u. (o x (omega arith) (omega arith), λ y z. omega arith)) (A .finds) e in
         closed i (i + sizes (cons c (cons u us))) (omega arith) (omega arith) (λ x z. ((z .0, λ l u. z .1 (omega arith) (omega arith)), λ l u. z .1 (omega arith) (omega arith)))
         (both i j (omega arith) (omega arith) (omega arith) (omega arith) A
-        (by (children-visited classes (cons u us) f s₁ (trees-writes _ k (cons u us) (n .1) (λ x l u y z. omega arith)) h₁)) (λ c. c) R)
+        (by (children-visited classes (cons u us) f s₁ (trees-writes _ k (cons u us) (n .1) (λ x l u y z. omega arith)) h₁)) (λ k c. c) R)
         (λ z. s-more (z .0) (z .1))

@@ -28,11 +28,11 @@ use Rattle.pass.specs.Laws.Says.{cellOf, usesIn, Says, Presumes, presume
 use Rattle.pass.specs.Laws.Finds.{Finds, layered}
 use Rattle.pass.specs.Laws.Onward.{Parts, calmly, fewer}
 use Rattle.pass.specs.Laws.Reads.{Only}
-use Rattle.pass.specs.Laws.Bodies.{None, no-part}
+use Rattle.pass.specs.Laws.Bodies.{no-part}
 use Rattle.pass.specs.Laws.Globals.{definedIn, value-finds, SparedBy, Spared, valuesIn, enteredAll, spared-past, enter-tops}
 use Rattle.pass.specs.Laws.Done.{Done, given, ended, closed}
-use Rattle.pass.specs.Laws.Counts.{Counts, untouched-rows}
-use Rattle.pass.specs.Laws.Counting.{quiet-counts, value-counts}
+use Rattle.pass.specs.Laws.Counts.{Counts, counts-quietly, untouched-rows}
+use Rattle.pass.specs.Laws.Counting.{value-counts}
 use Rattle.pass.specs.Laws.Forms.{Minus}
 use Rattle.pass.specs.Laws.Fresh.{visits}
 
@@ -61,13 +61,13 @@ module _ (classes : List ℕ) (T : List Row) (P : Premises) where
     top-define : (k : ℕ) (n : Node) (x : Ident) (b : Tree) (q : Bool) → isLambda b ≡ q → Num k (define n x b) → defines b ≡ []
         → ((y : ℕ) → k ≤ y → y < k + size (define n x b) → SparedBy (define n x b) y → own y) → visitTopDefine classes q x b s .noted .nine ≡ none
         → Done classes T P (cond q bottom (definedIn x bottom)) (Minus own k (k + size (define n x b))) before top (walk b top) k (k + size (define n x b)) (visitTopDefine classes q x b s)
-        (Rec T P [] 1 0 false (define n x b)) (Counts own before s)
+        (Rec T P [] 1 0 false (define n x b)) (λ n. Counts own n s)
     unfolding Num size
     top-define k n x b true l m d o e =
         let B = visits classes T P bottom (k + 2) b (m .2) d topFlags false refl refl (λ y u v. o y (omega arith) (omega arith) (λ g q. omega arith, tt)) (calmly no-part f (λ free. context (x .id))) e in
-        ended k (k + size (define n x b)) (omega arith) (omega arith) (given {C = Counts own before s} (λ c. quiet-counts no-part c (untouched-rows refl refl)) B) (by (context NONE))
+        ended k (k + size (define n x b)) (omega arith) (omega arith) (given {C = λ n. Counts own n s} (λ g c. counts-quietly (λ y z. z) c (untouched-rows refl refl)) B) (by (context NONE))
         (calmly no-part (fewer (λ y z. (z .0, λ u v. z .1 (omega arith) (omega arith))) (B .finds)) (λ free. context NONE))
-        (λ c. quiet-counts (record { written = λ y o. absurd o; kept = λ y z. (z .0, λ u v. z .1 (omega arith) (omega arith)); apart = λ y z o. o }) c (untouched-rows {out = None} refl refl))
+        (λ g c. counts-quietly (λ y z. (z .0, λ u v. z .1 (omega arith) (omega arith))) c (untouched-rows refl refl))
         (λ g ag. r-define g)
     top-define k n x b false l m d o e =
         let here = o (x .at) (omega arith) (omega arith) (λ g. absurd (true≢false (sym g ∙ l)), tt) in
@@ -77,10 +77,10 @@ module _ (classes : List ℕ) (T : List Row) (P : Premises) where
         (λ y u v. (o y (omega arith) (omega arith) (λ g q. omega arith, tt), λ q. omega arith)) (value-finds classes x b parts here f) e in
         closed k (k + size (define n x b)) (omega arith) (omega arith)
         (λ y z. ((z .0, λ q. z .1 (omega arith) (omega arith)), λ u v. z .1 (omega arith) (omega arith)))
-        (given {C = Counts own before s} (λ c. value-counts classes x b parts c) B) (λ g. r-define g)
+        (given {C = λ n. Counts own n s} (λ g c. value-counts classes x b parts here c) B) (λ g. r-define g)
 
     pub visit-top : (k : ℕ) (t : Tree) → Num k t → below t ≡ [] → ((y : ℕ) → k ≤ y → y < k + size t → SparedBy t y → own y) → visitTop classes t s .noted .nine ≡ none
-        → Done classes T P (bottomFor t bottom) (Minus own k (k + size t)) before top (walk t top) k (k + size t) (visitTop classes t s) (Rec T P [] 1 0 false t) (Counts own before s)
+        → Done classes T P (bottomFor t bottom) (Minus own k (k + size t)) before top (walk t top) k (k + size t) (visitTop classes t s) (Rec T P [] 1 0 false t) (λ n. Counts own n s)
     unfolding visitTop visit below defines walk
     visit-top k (ident x) n d o e = visits classes T P bottom k (ident x) n d topFlags false refl refl (λ y l u. o y l u tt) f e
     visit-top k (const m q) n d o e = visits classes T P bottom k (const m q) n d topFlags false refl refl (λ y l u. o y l u tt) f e
