@@ -172,11 +172,14 @@ refersTo ts d m = isNone (meant m) && isIdent d (bottomEntry ts (m .ident .name)
 abbrev pub hasEntry : Trees → Mention → Bool
 hasEntry ts m = not (isNone (meant m)) || not (isNone (bottomEntry ts (m .ident .name) (m .ident .at)))
 
+-- every mention of b, read or set, and every set! once more
+abbrev pub boundUses : Binder → List Mention → ℕ
+boundUses b l = count (isOf b) l + count (isSetOf b) l
+
 -- the facts T count the uses
 pub record UsesCounted (ts : Trees) (T : List Row) : Type 0 where
-  -- of each parameter and let name: every mention, read or set, and every set! once more
-  pub bound : let l = mentionsIn (events ts) in
-      All (λ b. usesIn (rowOf T (b .ident .at)) ≡ some (count (isOf b) l + count (isSetOf b) l)) (bindersIn (events ts))
+  -- of each parameter and let name
+  pub bound : All (λ b. usesIn (rowOf T (b .ident .at)) ≡ some (boundUses b (mentionsIn (events ts)))) (bindersIn (events ts))
   -- of each name that is defined at top level: every mention
   pub defined : All (λ d. usesIn (rowOf T (d .name .at)) ≡ some (count (refersTo ts (d .name)) (mentionsIn (events ts)))) (definesOf (topLevel ts))
   -- of each identifier read or set: its own, if it refers to anything

@@ -21,7 +21,7 @@ use Rattle.r7rs.specs.Binding.{Binder, Mention, events, mentionsIn, bindersIn, 
 use Rattle.r7rs.specs.Bottom.{Define, definesOf, lastOr, bottomEntry}
 use Rattle.execution.specs.Facts.{rowOf}
 use Rattle.execution.specs.Premises.{FreshAccepts}
-use Rattle.execution.specs.References.{Reference, referenceIn, usesIn, isIt, isSetOf, count, isOf, isNone, isIdent, refersTo, hasEntry, definedName, freshBinder, UsesCounted}
+use Rattle.execution.specs.References.{Reference, referenceIn, usesIn, isIt, count, isNone, isIdent, refersTo, hasEntry, boundUses, definedName, freshBinder, UsesCounted}
 use Rattle.execution.specs.BindingFresh.{eqb-sym, no-nine, binding-fresh}
 use Rattle.execution.specs.DefinedNames.{defined-fresh}
 use Rattle.execution.specs.Claims.{rows, UsesFresh}
@@ -88,7 +88,7 @@ module _ (ts : Trees) where
   -- What all give
 
   bound-credits : (b : Binder) → ((x : Ident) → Some (λ d. ¬ (d .at ≡ b .ident .at)) (cell ts x)) → (l : List Mention) → All (λ m. ¬ (m .ident .at ≡ b .ident .at)) l
-      → creditsOf (cell ts) l (b .ident .at) ≡ count (isOf b) l + count (isSetOf b) l
+      → creditsOf (cell ts) l (b .ident .at) ≡ boundUses b l
   unfolding count
   bound-credits b e [] a = refl
   bound-credits b e (m ∷ l) a = omega (arith, bound-credit b m (meant m) (a .0) (e (m .ident)), bound-credits b e l (a .1))
@@ -175,7 +175,7 @@ module _ (classes rs : List ℕ) (ts : Trees) (a : FreshAccepts classes rs ts) (
       let binding = binding-fresh classes rs ts a d in
       record {
         bound = all-zip (λ b. referenceIn (rowAt (b .ident .at)) ≡ some (freshBinder classes ts b)) (λ b. 1 ≤ times binderAt B (b .ident .at))
-            (λ b. usesIn (rowAt (b .ident .at)) ≡ some (count (isOf b) l + count (isSetOf b) l))
+            (λ b. usesIn (rowAt (b .ident .at)) ≡ some (boundUses b l))
             (λ b r h. let y = b .ident .at in counted y _ r (bound-credits ts b (cells y (omega (arith, one y))) l (times-none mentionAt l y (omega (arith, one y)))))
             B (binding .bound) (times-here binderAt B);
         defined = all-zip (λ e. referenceIn (rowAt (e .name .at)) ≡ some definedName) (λ e. 1 ≤ times defineAt D (e .name .at))
