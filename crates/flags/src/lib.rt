@@ -68,7 +68,7 @@ impl Flags {
     }
 
     // This and the next name every field: a copy of the whole is loaded in wider words than it was just stored in, and waits for them.
-    pub fn not_tail(self) -> Self
+    fn not_tail(self) -> Self
         ensures { λ r. ⌜ r ≡ atPart NotTail self ⌝ }
     {
         let function = self.function;
@@ -82,7 +82,7 @@ impl Flags {
         }
     }
 
-    pub fn same_tail(self) -> Self
+    fn same_tail(self) -> Self
         ensures { λ r. ⌜ r ≡ atPart SameTail self ⌝ }
     {
         let function = self.function;
@@ -123,7 +123,7 @@ impl Flags {
         }
     }
 
-    pub fn argument(mut self) -> Self
+    fn argument(mut self) -> Self
         ensures { λ r. ⌜ r ≡ atPart Argument self ⌝ }
     {
         self.tail = false;
@@ -132,7 +132,7 @@ impl Flags {
         self
     }
 
-    pub fn next(mut self) -> Self
+    fn next(mut self) -> Self
         requires { ⌜ self .height + 1 < Most ⌝ }
         ensures { λ r. ⌜ r ≡ atPart Next self ⌝ }
     {
@@ -140,7 +140,7 @@ impl Flags {
         self
     }
 
-    pub fn head(self, lambda: bool, k: u32) -> Self
+    fn head(self, lambda: bool, k: u32) -> Self
         requires { ⌜ self .height + k < Most ⌝ }
         ensures { λ r. ⌜ r ≡ atPart (Head lambda k) self ⌝ }
     {
@@ -174,7 +174,7 @@ impl Flags {
         self
     }
 
-    pub fn at_part(self, p: Part) -> Self
+    fn at_part(self, p: Part) -> Self
         requires { ⌜ Room p self ⌝ }
         ensures { λ r. ⌜ r ≡ atPart p self ⌝ }
     {

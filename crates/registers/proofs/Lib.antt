@@ -1,2 +1,3 @@
+pub mod AtomCase
 pub mod StepCase
 pub mod StoreCase

@@ -34,25 +34,30 @@ use walk::uses::Names;
 ghost use mathlib.Core.Path.{_≡_};
 ghost use Prim.Native.Nat.{_<_};
 ghost use lib.ListN.{length};
-ghost use Rattle.pass.specs.Read.{read};
 ghost use Rattle.pass.specs.Run.{rowsMost, factsLength};
 ghost use Rattle.work.specs.Passes.{inContext};
-ghost use Rattle.names.specs.Contract.{Room, Defined, EntersValue, Readable, Does, Settable, Mutates};
+ghost use Rattle.names.specs.Contract.{Room, Defined, EntersValue, Settable, Mutates};
 ghost use Rattle.forms.specs.Contract.{LetFits, EntersLet, LetEnds, LeavesLet, DefineFits, BeforeDefine, AfterDefine, LambdaFits, EntersLambda, LambdaEnds, LeavesLambda, ChildrenFit, EntersChildren, CallFits, EndsCall, ClearsContext};
 ghost use Rattle.registers.specs.Registers.{passIn};
+ghost use Rattle.registers.specs.Contract.{AtomFits, VisitsAtom};
 
+// An identifier or a constant, which its form tells. For a constant nothing is done.
 pub fn visit_atom(
     classes: &[u8],
     all: &[u32],
+    form: u32,
     at: usize,
     r: &mut [usize; REGISTERS],
     facts: &mut [u32],
     captured: &[u32],
     work: &mut [u32],
 )
-    requires { ⌜ Readable (length (now classes)) (now all) at (passIn (now r)) (now facts) (now captured) (now work) ⌝ }
-    ensures { λ _. ⌜ Does (now (all .entry)) at (passIn (now (r .entry))) (now (facts .entry)) (now (captured .entry)) (now (work .entry)) (read (now (classes .entry))) (passIn (now (r .exit))) (now (facts .exit)) (now (work .exit)) ⌝ }
+    requires { ⌜ AtomFits (length (now classes)) (now all) form at (passIn (now r)) (now facts) (now captured) (now work) ⌝ }
+    ensures { λ _. ⌜ VisitsAtom (now (classes .entry)) (now (all .entry)) at (passIn (now (r .entry))) (now (facts .entry)) (now (captured .entry)) (now (work .entry)) (passIn (now (r .exit))) (now (facts .exit)) (now (work .exit)) ⌝ }
 {
+    if form != 1 {
+        return;
+    }
     let p = load(r);
     let s = read(&*classes, &*all, at, p, facts, &*captured, work);
     put_second(r, s);

@@ -16,13 +16,15 @@ use Rattle.visits.specs.Contract.{Fit, Done, FitAll, DoneAll}
 -- n records
 pub record Span (rs part : List ℕ) (at n : ℕ) : Type 0 where
   pub long : width * n ≤ length part
+  pub here : n ≤ length (records part)
   pub few : at + n ≤ 4096
   pub inside : at + n ≤ length (records rs)
 
 spans : (rs : List ℕ) {part : List ℕ} {at n : ℕ} → part ≡ drop (width * at) rs → at + n ≤ length (records rs) → at + n ≤ 4096 → Span rs part at n
 spans rs {part} {at} {n} e i f =
     let l : length part ≡ length (drop (width * at) rs) = ap length e in
-    record { long = omega (arith, l, length-drop (width * at) rs, length-records rs, i); few = f; inside = i }
+    let h : width * n ≤ length part = omega (arith, l, length-drop (width * at) rs, length-records rs, i) in
+    record { long = h; here = omega (arith, length-records part); few = f; inside = i }
 
 module _ {classes rs part : List ℕ} {at : ℕ} {g : Coded} {z : Raw} where
   pub whole : (x : Fit classes rs part at g z) → Span rs part at (size (x .t))

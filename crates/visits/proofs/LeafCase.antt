@@ -1,60 +1,64 @@
--- An identifier, and a constant.
-use Prim.Native.Nat.{ℕ, suc, _≤_}
+-- An identifier or a constant: one record.
+use Prim.Native.Nat.{ℕ, zero, suc, _≤_, _<_}
 use mathlib.Core.List.{List}
-use mathlib.Core.Path.{_≡_, refl, sym, subst, _∙_}
+use mathlib.Core.Path.{_≡_, refl, sym, subst}
 use native.Mathlib.Omega.{arith}
 use lib.ListN.{length}
 use Rattle.tree.specs.RecordLaws.{nth}
 use Rattle.tree.specs.Tree.{Tree, size}
-use Rattle.tree.specs.StandsLaws.{ident-name}
-use Rattle.tree.specs.StandsForms.{IdentOf, ident-of, const-of, form-range}
-use Rattle.pass.specs.Read.{read}
-use Rattle.pass.specs.Visit.{visit}
+use Rattle.tree.specs.Stands.{Stands}
+use Rattle.tree.specs.StandsForms.{ident-of, const-of, form-range}
 use Rattle.pass.specs.Laws.Visitable.Leaves.{reliable}
-use Rattle.work.specs.Tied.{raw, Tied, Here}
+use Rattle.work.specs.Tied.{raw}
 use Rattle.work.specs.declared.Pass.{Pass}
-use Rattle.names.specs.Contract.{Readable, Does}
+use Rattle.registers.specs.Contract.{AtomFits, VisitsAtom}
 use Rattle.flags.specs.declared.Flags.{Flags as Coded}
 use Rattle.visits.specs.Contract.{Fit, Done}
-use Rattle.visits.proofs.Views.{known}
+
+-- it is a tree of one record
+atom-size : {N i : ℕ} {rs : List ℕ} {t : Tree} → Stands N rs i t → nth rs i .form ≤ 2 → 1 ≡ size t
+unfolding size
+atom-size {i = i} {rs} {t} s h = go (nth rs i .form) refl (form-range s .0) h
+  where
+    go : (f : ℕ) → nth rs i .form ≡ f → 1 ≤ f → f ≤ 2 → 1 ≡ size t
+    go zero e l u = absurd (omega arith)
+    go (suc zero) e l u = rw (ident-of s e .is) refl
+    go (suc (suc zero)) e l u = rw (const-of s e .is) refl
+    go (suc (suc (suc f))) e l u = absurd (omega arith)
 
 down : (f k : ℕ) → f ≤ suc k → (f ≡ suc k → ⊥) → f ≤ k
 down f k h n = omega arith
 
-pinned : (f : ℕ) → 1 ≤ f → (f ≡ 1 → ⊥) → f ≤ 2 → f ≡ 2
-pinned f h n u = omega arith
+module _ {classes rs part : List ℕ} {at f : ℕ} {g : Coded} {p : Pass} {F C A w : List ℕ} (e : f ≡ nth rs at .form) where
+  pub atom-fits : f ≤ 2 → Fit classes rs part at g (raw p F C A w) → AtomFits (length classes) rs f at p F C w
+  atom-fits h x = record {
+    arguments = A;
+    t = x .t;
+    s = x .s;
+    own = e;
+    atom = h;
+    stands = x .stands;
+    good = reliable (x .fits) .good;
+    tied = x .tied;
+  }
 
-module _ {classes rs part : List ℕ} {at : ℕ} {g : Coded} {p : Pass} {F C A w : List ℕ} where
-  ident-here : (x : Fit classes rs part at g (raw p F C A w)) → (v : IdentOf (length classes) rs at (x .t)) → Here rs at (raw p F C A w) (x .s) (v .x)
-  ident-here x v = record { known = known (v .name); place = v .here; good = reliable (x .fits) .good; tied = x .tied }
-
-  pub ident-reads : nth rs at .form ≡ 1 → Fit classes rs part at g (raw p F C A w) → Readable (length classes) rs at p F C w
-  ident-reads k x =
-      let v = ident-of (x .stands) k in
-      record { arguments = A; s = x .s; x = v .x; here = ident-here x v; named = ident-name (v .x) (v .name) }
-
-  pub ident-done : {p₁ : Pass} {F₁ w₁ : List ℕ} → nth rs at .form ≡ 1 → Does rs at p F C w (read classes) p₁ F₁ w₁
+  pub atom-done : {p₁ : Pass} {F₁ w₁ : List ℕ} → f ≤ 2 → VisitsAtom classes rs at p F C w p₁ F₁ w₁
       → Done classes rs part at g (raw p F C A w) 1 (raw p₁ F₁ C A w₁)
-  unfolding size visit
-  ident-done {p₁} {F₁} {w₁} k r = record {
-    used = λ x. let v = ident-of (x .stands) k in rw (v .is) refl;
-    state = λ x.
-        let v = ident-of (x .stands) k in
-        subst (λ (t : Tree). Tied (raw p₁ F₁ C A w₁) (visit classes t (x .f) (x .s))) (sym (v .is)) (r .is A (x .s) (v .x) (ident-here x v));
+  atom-done h r = record {
+    used = λ x. atom-size (x .stands) (subst (λ (k : ℕ). k ≤ 2) e h);
+    state = λ x. r .is A (x .t) (x .f) (x .s) (x .stands) (reliable (x .fits) .good) (x .tied);
   }
 
-  pub const-done : (Fit classes rs part at g (raw p F C A w) → nth rs at .form ≡ 2) → Done classes rs part at g (raw p F C A w) 1 (raw p F C A w)
-  unfolding size visit
-  const-done k = record {
-    used = λ x. let v = const-of (x .stands) (k x) in rw (v .is) refl;
-    state = λ x.
-        let v = const-of (x .stands) (k x) in
-        subst (λ (t : Tree). Tied (raw p F C A w) (visit classes t (x .f) (x .s))) (sym (v .is)) (x .tied);
-  }
+  -- there are no other forms than those that are visited
 
-  -- the form that no other visit has
-  pub is-const : {f : ℕ} → f ≡ nth rs at .form → (f ≡ 1 → ⊥) → (f ≡ 3 → ⊥) → (f ≡ 4 → ⊥) → (f ≡ 5 → ⊥) → (f ≡ 6 → ⊥) → (f ≡ 7 → ⊥) → (f ≡ 8 → ⊥) → (f ≡ 9 → ⊥)
-      → Fit classes rs part at g (raw p F C A w) → nth rs at .form ≡ 2
-  is-const {f} e a c d h i j l m x =
-      let r = subst (λ (k : ℕ). (1 ≤ k) × (k ≤ 9)) (sym e) (form-range (x .stands)) in
-      sym e ∙ pinned f (r .0) a (down f 2 (down f 3 (down f 4 (down f 5 (down f 6 (down f 7 (down f 8 (r .1) m) l) j) i) h) d) c)
+  range : Fit classes rs part at g (raw p F C A w) → (1 ≤ f) × (f ≤ 9)
+  range x = subst (λ (k : ℕ). (1 ≤ k) × (k ≤ 9)) (sym e) (form-range (x .stands))
+
+  pub none-below : f < 1 → Fit classes rs part at g (raw p F C A w) → ⊥
+  none-below h x = omega (arith, range x .0)
+
+  pub none-above : 3 ≤ f → (f ≡ 3 → ⊥) → (f ≡ 4 → ⊥) → (f ≡ 5 → ⊥) → (f ≡ 6 → ⊥) → (f ≡ 7 → ⊥) → (f ≡ 8 → ⊥) → (f ≡ 9 → ⊥)
+      → Fit classes rs part at g (raw p F C A w) → ⊥
+  none-above h a b c d i j k x =
+      let u = down f 2 (down f 3 (down f 4 (down f 5 (down f 6 (down f 7 (down f 8 (range x .1) k) j) i) d) c) b) a in
+      omega (arith, u, h)

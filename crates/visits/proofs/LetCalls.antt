@@ -22,7 +22,7 @@ use Rattle.visits.proofs.Bounds.{Span, whole}
 use Rattle.visits.proofs.LetCase.{let-long, initials-fit, body-long, names-fit, body-fits, end-fits, let-done}
 
 fewer : {rs part : List ℕ} {at n m : ℕ} → Span rs part at n → m ≤ n → Span rs part at m
-fewer s h = record { long = omega (arith, s .long, h); few = omega (arith, s .few, h); inside = omega (arith, s .inside, h) }
+fewer s h = record { long = omega (arith, s .long, h); here = omega (arith, s .here, h); few = omega (arith, s .few, h); inside = omega (arith, s .inside, h) }
 
 -- the context that was read is put back
 pub put-back : (p p₁ : Pass) {p₅ : Pass} {k : ℕ} → k ≡ p .context → p₅ ≡ inContext k p₁ → p₅ ≡ inContext (p .context) p₁

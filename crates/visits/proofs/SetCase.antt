@@ -1,30 +1,39 @@
 -- set!: the expression, then the target.
 use Prim.Native.Nat.{ℕ, _+_, _*_, _≤_}
-use mathlib.Core.List.{List}
+use mathlib.Core.List.{List, [], _∷_}
 use mathlib.Core.Path.{_≡_, refl, sym, subst, _∙_}
 use native.Mathlib.Omega.{arith}
 use lib.ListN.{length, drop}
 use Rattle.tree.specs.Record.{width}
 use Rattle.tree.specs.RecordLaws.{nth}
-use Rattle.tree.specs.Tree.{Ident, Node, Tree, set!, size}
+use Rattle.tree.specs.Tree.{Ident, Node, Tree, ident, set!, named, flat, size, Num}
 use Rattle.tree.specs.TreeLaws.{size-pos}
-use Rattle.tree.specs.StandsLaws.{ident-name}
+use Rattle.tree.specs.Parts.{own}
+use Rattle.tree.specs.Stands.{Stands}
+use Rattle.tree.specs.WithinLaws.{front, later}
+use Rattle.tree.specs.StandsLaws.{root-form}
 use Rattle.tree.specs.StandsParts.{NamedParts}
 use Rattle.tree.specs.StandsForms.{set-of}
-use Rattle.pass.specs.Read.{read, mutate}
+use Rattle.pass.specs.Read.{mutate}
 use Rattle.pass.specs.Visit.{notTail, clearContext, visit}
 use Rattle.pass.specs.Visitable.{Visitable}
 use Rattle.pass.specs.Laws.Visitable.Parts.{set-expression}
 use Rattle.pass.specs.Laws.Visitable.Leaves.{reliable, set-mutates, set-reads}
 use Rattle.work.specs.Known.{Known}
-use Rattle.work.specs.Tied.{raw, Tied, Here}
+use Rattle.work.specs.Tied.{raw, Tied}
 use Rattle.work.specs.declared.Pass.{Pass}
-use Rattle.names.specs.Contract.{Settable, Mutates, Readable, Does}
+use Rattle.names.specs.Contract.{Settable, Mutates}
 use Rattle.flags.specs.Flags.{Handed}
-use Rattle.forms.specs.Contract.{ClearsContext}
+use Rattle.forms.specs.Contract.{Fits, ClearsContext}
+use Rattle.registers.specs.Contract.{AtomFits, VisitsAtom}
 use Rattle.flags.specs.declared.Flags.{Flags as Coded}
 use Rattle.visits.specs.Contract.{Fit, Done}
-use Rattle.visits.proofs.Views.{part-on, small, known}
+use Rattle.visits.proofs.Views.{part-on, small}
+
+-- the target stands right after its record
+target-stands : {N i : ℕ} {rs : List ℕ} {n : Node} {y : Ident} {e : Tree} → Stands N rs i (set! n y e) → Stands N rs (i + 1) (ident y)
+unfolding flat Num
+target-stands {y = y} {e} s = record { within = front (named y ∷ []) (flat e) (later (s .within)); num = s .num .1 }
 
 module _ {classes rs part : List ℕ} {at : ℕ} {g : Coded} {p : Pass} {F C A w : List ℕ} where
   record SetView (x : Fit classes rs part at g (raw p F C A w)) : Type 0 where
@@ -33,6 +42,7 @@ module _ {classes rs part : List ℕ} {at : ℕ} {g : Coded} {p : Pass} {F C A w
     e : Tree
     tree : x .t ≡ set! n y e
     parts : NamedParts (length classes) rs at 9 n y e
+    target : Stands (length classes) rs (at + 1) (ident y)
     fits : Visitable (Known rs) at (set! n y e) (x .f) (x .s)
 
   view : (x : Fit classes rs part at g (raw p F C A w)) → nth rs at .form ≡ 9 → SetView x
@@ -44,6 +54,7 @@ module _ {classes rs part : List ℕ} {at : ℕ} {g : Coded} {p : Pass} {F C A w
         e = v .e;
         tree = v .is;
         parts = v .parts;
+        target = target-stands (subst (λ (t : Tree). Stands (length classes) rs at t) (v .is) (x .stands));
         fits = subst (λ (t : Tree). Visitable (Known rs) at t (x .f) (x .s)) (v .is) (x .fits);
       }
 
@@ -83,37 +94,42 @@ module _ {classes rs part : List ℕ} {at : ℕ} {g : Coded} {p : Pass} {F C A w
         }
 
     -- and before it is read
-    target-here : {n₁ name : ℕ} {p₂ : Pass} {F₂ C₂ A₂ w₂ F₃ w₃ : List ℕ} → Done classes rs q (at + 2) g₁ (raw p₁ F C A w) n₁ (raw p₂ F₂ C₂ A₂ w₂)
+    target-held : {n₁ name : ℕ} {p₂ : Pass} {F₂ C₂ A₂ w₂ F₃ w₃ : List ℕ} → Done classes rs q (at + 2) g₁ (raw p₁ F C A w) n₁ (raw p₂ F₂ C₂ A₂ w₂)
         → name ≡ nth rs (at + 1) .name → Mutates name p₂ F₂ w₂ F₃ w₃ → (x : Fit classes rs part at g (raw p F C A w))
-        → Here rs (at + 1) (raw p₂ F₃ C₂ A₂ w₃)
-        (mutate (view x k .y .name) (visit classes (view x k .e) (notTail (x .f)) (clearContext (view x k .y) (x .s)))) (view x k .y)
+        → Fits rs (raw p₂ F₃ C₂ A₂ w₃)
+        (mutate (view x k .y .name) (visit classes (view x k .e) (notTail (x .f)) (clearContext (view x k .y) (x .s))))
     unfolding expression-fits
-    target-here {C₂ = C₂} {A₂ = A₂} o named m x =
+    target-held {C₂ = C₂} {A₂ = A₂} o named m x =
         let v = view x k in
         let u = set-mutates small classes at (x .f) (x .s) (v .n) (v .y) (v .e) (v .fits) in
         let s = visit classes (v .e) (notTail (x .f)) (clearContext (v .y) (x .s)) in
         let l : nth rs (v .y .at) .name ≡ v .y .name = rw (v .parts .name .is) refl in
         let i : _ ≡ v .y .name = named ∙ rw (sym (v .parts .place)) l in
         record {
-          known = known (v .parts .name);
-          place = v .parts .place;
           good = set-reads small classes at (x .f) (x .s) (v .n) (v .y) (v .e) (v .fits) .good;
           tied = rw (sym i) (m .is rs C₂ A₂ s (u .good) (o .state (expression-fits k h c d x)));
         }
 
-    pub target-reads : {n₁ name : ℕ} {p₂ : Pass} {F₂ C₂ A₂ w₂ F₃ w₃ : List ℕ} → Done classes rs q (at + 2) g₁ (raw p₁ F C A w) n₁ (raw p₂ F₂ C₂ A₂ w₂)
+    pub target-fits : {n₁ name : ℕ} {p₂ : Pass} {F₂ C₂ A₂ w₂ F₃ w₃ : List ℕ} → Done classes rs q (at + 2) g₁ (raw p₁ F C A w) n₁ (raw p₂ F₂ C₂ A₂ w₂)
         → name ≡ nth rs (at + 1) .name → Mutates name p₂ F₂ w₂ F₃ w₃ → Fit classes rs part at g (raw p F C A w)
-        → Readable (length classes) rs (at + 1) p₂ F₃ C₂ w₃
-    target-reads {A₂ = A₂} o named m x = record {
-      arguments = A₂;
-      s = _;
-      x = view x k .y;
-      here = target-here o named m x;
-      named = ident-name (view x k .y) (view x k .parts .name);
-    }
+        → AtomFits (length classes) rs 1 (at + 1) p₂ F₃ C₂ w₃
+    unfolding own
+    target-fits {A₂ = A₂} o named m x =
+        let v = view x k in
+        let t = target-held o named m x in
+        record {
+          arguments = A₂;
+          t = ident (v .y);
+          s = _;
+          own = sym (root-form (v .target));
+          atom = omega arith;
+          stands = v .target;
+          good = t .good;
+          tied = t .tied;
+        }
 
     pub set-done : {n₁ name : ℕ} {p₂ p₃ : Pass} {F₂ C₂ A₂ w₂ F₃ w₃ F₄ w₄ : List ℕ} → Done classes rs q (at + 2) g₁ (raw p₁ F C A w) n₁ (raw p₂ F₂ C₂ A₂ w₂)
-        → name ≡ nth rs (at + 1) .name → Mutates name p₂ F₂ w₂ F₃ w₃ → Does rs (at + 1) p₂ F₃ C₂ w₃ (read classes) p₃ F₄ w₄
+        → name ≡ nth rs (at + 1) .name → Mutates name p₂ F₂ w₂ F₃ w₃ → VisitsAtom classes rs (at + 1) p₂ F₃ C₂ w₃ p₃ F₄ w₄
         → Done classes rs part at g (raw p F C A w) (2 + n₁) (raw p₃ F₄ C₂ A₂ w₄)
     unfolding size visit expression-fits
     set-done {n₁} {p₃ = p₃} {C₂ = C₂} {A₂ = A₂} {F₄ = F₄} {w₄ = w₄} o named m r = record {
@@ -123,5 +139,7 @@ module _ {classes rs part : List ℕ} {at : ℕ} {g : Coded} {p : Pass} {F C A w
           rw (v .tree) (omega arith);
       state = λ x.
           let v = view x k in
-          subst (λ (y : Tree). Tied (raw p₃ F₄ C₂ A₂ w₄) (visit classes y (x .f) (x .s))) (sym (v .tree)) (r .is A₂ _ (v .y) (target-here o named m x));
+          let t = target-held o named m x in
+          subst (λ (y : Tree). Tied (raw p₃ F₄ C₂ A₂ w₄) (visit classes y (x .f) (x .s))) (sym (v .tree))
+          (r .is A₂ (ident (v .y)) (x .f) _ (v .target) (t .good) (t .tied));
     }

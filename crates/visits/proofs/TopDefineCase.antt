@@ -6,7 +6,7 @@ use mathlib.Core.Path.{_≡_, refl, ap, sym, subst, _∙_}
 use native.Mathlib.Omega.{arith}
 use lib.ListN.{length, drop, length-drop}
 use Rattle.tree.specs.Record.{Record, width, records}
-use Rattle.tree.specs.RecordLaws.{nth, length-records}
+use Rattle.tree.specs.RecordLaws.{nth, length-records, records-drop}
 use Rattle.tree.specs.Tree.{Ident, Node, Tree, ident, const, if, letin, define, lambda, begin, call, set!, size}
 use Rattle.tree.specs.Parts.{own}
 use Rattle.tree.specs.Stands.{Stands}
@@ -30,7 +30,7 @@ use Rattle.forms.specs.Contract.{Fits, DefineFits}
 use Rattle.flags.specs.declared.Flags.{Flags as Coded}
 use Rattle.visits.specs.Contract.{Fit, Done}
 use Rattle.visits.specs.Tops.{beforeTop, afterTop, BeforeTop, leavesTop, TopFits, VisitsTop}
-use Rattle.visits.proofs.Views.{part-on, small, known, names-room}
+use Rattle.visits.proofs.Views.{part-on, own-record, small, known, names-room}
 use Rattle.forms.specs.FitsLaws.{tied-context}
 
 -- Before the body
@@ -78,8 +78,15 @@ left-top true t = tied-context _ t
 left-top false t = t
 
 module _ {classes rs part : List ℕ} {at : ℕ} {z : Raw} (x : TopFits classes rs part at z) where
-  pub inside : at < length (records rs)
-  inside = root (x .stands) .inside
+  -- its own record is the first of the part
+
+  pub inside : 0 < length (records part)
+  inside =
+      let l : length (records part) ≡ length (drop at (records rs)) = ap (λ (l : List ℕ). length (records l)) (x .is) ∙ ap length (records-drop rs at) in
+      omega (arith, l, length-drop at (records rs), root (x .stands) .inside)
+
+  pub own-form : {n : ℕ} → n ≡ nth part 0 .form → n ≡ nth rs at .form
+  own-form e = e ∙ ap (λ (r : Record). r .form) (own-record rs at (x .is))
 
 module _ {classes rs part : List ℕ} {at : ℕ} {p : Pass} {F C A w : List ℕ} where
   pub record DefineView (x : TopFits classes rs part at (raw p F C A w)) : Type 0 where

@@ -4,9 +4,11 @@ use mathlib.Core.List.{List}
 use mathlib.Core.Option.{Option, some}
 use mathlib.Core.Path.{_≡_, ap, sym, subst, _∙_}
 use native.Mathlib.Omega.{arith}
-use lib.ListN.{length, take, drop}
+use lib.ListN.{length, getD, take, drop}
+use lib.Seq.{getD-drop}
 use Rattle.table.specs.Part.{part-is}
-use Rattle.tree.specs.Record.{width}
+use Rattle.tree.specs.Record.{Record, width, records}
+use Rattle.tree.specs.RecordLaws.{blank, nth, records-drop}
 use Rattle.tree.specs.Tree.{Ident, Node, Tree, Trees, lambda, begin, call}
 use Rattle.tree.specs.WithinLaws.{drop-records}
 use Rattle.tree.specs.Stands.{Stands, StandAll}
@@ -28,16 +30,32 @@ use Rattle.work.specs.Works.{recordAt, rowOf}
 use Rattle.work.specs.WorksLaws.{captured-top}
 use Rattle.work.specs.Tied.{Raw, Tied}
 use Rattle.lists.specs.Contract.{Inside}
-use Rattle.flags.specs.Part.{atPart, Hands}
-use Rattle.flags.specs.PartLaws.{hands}
 use Rattle.flags.specs.declared.Flags.{Flags as Coded}
-use Rattle.flags.specs.declared.Part.{Part}
 use Rattle.forms.specs.Defines.{enterEach, children-entered}
 use Rattle.forms.specs.Contract.{NamesRoom, Shallow, ListsFit, EndFits}
+use Rattle.visits.specs.Contract.{Fit}
 
 -- the part of a child that stands k records on
 pub part-on : (rs : List ℕ) (at k : ℕ) {part p : List ℕ} → part ≡ drop (width * at) rs → p ≡ drop (width * k) part → p ≡ drop (width * (at + k)) rs
 part-on rs at k e d = d ∙ ap (drop (width * k)) e ∙ drop-records rs at k
+
+-- the records of the part are those from its tree's own on
+module _ (rs : List ℕ) (at : ℕ) {part : List ℕ} (e : part ≡ drop (width * at) rs) where
+  part-record : (i : ℕ) → nth part i ≡ nth rs (at + i)
+  part-record i = ap (λ (l : List ℕ). nth l i) e ∙ ap (λ (l : List Record). getD l i blank) (records-drop rs at) ∙ getD-drop at (records rs) i blank
+
+  pub own-record : nth part 0 ≡ nth rs at
+  own-record =
+      let z : at + 0 ≡ at = omega arith in
+      part-record 0 ∙ ap (nth rs) z
+
+-- a field that is read in the part: of the tree's own record, and of the one after it
+module _ {classes rs part : List ℕ} {at : ℕ} {g : Coded} {z : Raw} (x : Fit classes rs part at g z) (field : Record → ℕ) {n : ℕ} where
+  pub own-field : n ≡ field (nth part 0) → n ≡ field (nth rs at)
+  own-field e = e ∙ ap field (own-record rs at (x .is))
+
+  pub next-field : n ≡ field (nth part 1) → n ≡ field (nth rs (at + 1))
+  next-field e = e ∙ ap field (part-record rs at (x .is) 1)
 
 -- the part after a record and k more, as a call is lent it
 pub part-after : (l : List ℕ) (k : ℕ) → take (length l - (6 + 6 * k)) (drop (6 + 6 * k) l) ≡ drop (width * (1 + k)) l
@@ -50,10 +68,6 @@ small x k = k .few
 
 pub known : {N : ℕ} {rs : List ℕ} {x : Ident} → IdentAt N rs x → Known rs x
 known i = record { inside = i .inside; few = i .few; is = i .is }
-
--- what a part is handed, from the core that made it
-pub handed : (p : Part) (g : Coded) {r : Coded} → r ≡ atPart p g → Hands p g r
-handed p g e = subst (Hands p g) (sym e) (hands p g)
 
 -- at the same record, told in another way
 

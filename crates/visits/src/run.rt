@@ -179,7 +179,7 @@ fn visit_top(
     ensures { λ n. ⌜ VisitsTop (now (now (classes .entry))) (now (now (all .entry))) (now (rs .entry)) at (held (now (r .entry)) (now (now (facts .entry))) (now (now (captured .entry))) (now (now (arguments .entry))) (now (now (work .entry)))) n (held (now (r .exit)) (now (now (facts .exit))) (now (now (captured .exit))) (now (now (arguments .exit))) (now (now (work .exit)))) ⌝ }
     ensures { λ _. ⌜ tables (now (facts .exit)) (now (captured .exit)) (now (arguments .exit)) (now (work .exit)) ≡ tables (now (facts .entry)) (now (captured .entry)) (now (arguments .entry)) (now (work .entry)) ⌝ }
 {
-    if tree::record::form(*all, at) == 5 {
+    if tree::record::form(rs, 0) == 5 {
         return visit_top_define(classes, all, rs, at, r, facts, captured, arguments, work);
     }
     visit(

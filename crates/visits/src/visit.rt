@@ -1,6 +1,6 @@
-// The visits. Each is given the part of the records that starts at its expression, and tells how many records it used. The pass's own numbers stand in the table r:
-// by value every visit would copy them. The other tables are lent by a reference to their reference, one word that a visit hands on as it is; one that is only read is
-// first lent to a local.
+// The visits. Each is given the part of the records that starts at its expression, reads its own record there, and tells how many records it used. What it does beside
+// visiting parts goes by the number of the record among `all`. The pass's own numbers stand in the table r: by value every visit would copy them. The other tables are
+// lent by a reference to their reference, one word that a visit hands on as it is; one that is only read is first lent to a local.
 use flags::Flags;
 use flags::Part;
 use flags::by_value::part;
@@ -49,11 +49,11 @@ pub fn visit(
     ensures { λ n. ⌜ Done (now (now (classes .entry))) (now (now (all .entry))) (now (rs .entry)) at f (held (now (r .entry)) (now (now (facts .entry))) (now (now (captured .entry))) (now (now (arguments .entry))) (now (now (work .entry)))) n (held (now (r .exit)) (now (now (facts .exit))) (now (now (captured .exit))) (now (now (arguments .exit))) (now (now (work .exit)))) ⌝ }
     ensures { λ _. ⌜ tables (now (facts .exit)) (now (captured .exit)) (now (arguments .exit)) (now (work .exit)) ≡ tables (now (facts .entry)) (now (captured .entry)) (now (arguments .entry)) (now (work .entry)) ⌝ }
 {
-    let form = tree::record::form(*all, at);
+    let form = tree::record::form(rs, 0);
     match form {
-        1 => {
+        1..=2 => {
             let lent = &mut **captured;
-            visit_atom(*classes, *all, at, r, *facts, lent, *work);
+            visit_atom(*classes, *all, form, at, r, *facts, lent, *work);
             1
         }
         3 => visit_if(classes, all, rs, at, f, r, facts, captured, arguments, work),
@@ -78,7 +78,7 @@ pub fn visit(
     }
 }
 
-// A part of an expression. Many parts are identifiers and constants: they need no call of `visit`, and flags are stored for a call alone, as
+// A part of an expression. Many parts are identifiers and constants: they need no call of `visit`, and flags are stored for that call alone, as
 // it is handed a copy.
 fn visit_part(
     classes: &&[u8],
@@ -96,13 +96,10 @@ fn visit_part(
     ensures { λ n. ⌜ Done (now (now (classes .entry))) (now (now (all .entry))) (now (rs .entry)) at f (held (now (r .entry)) (now (now (facts .entry))) (now (now (captured .entry))) (now (now (arguments .entry))) (now (now (work .entry)))) n (held (now (r .exit)) (now (now (facts .exit))) (now (now (captured .exit))) (now (now (arguments .exit))) (now (now (work .exit)))) ⌝ }
     ensures { λ _. ⌜ tables (now (facts .exit)) (now (captured .exit)) (now (arguments .exit)) (now (work .exit)) ≡ tables (now (facts .entry)) (now (captured .entry)) (now (arguments .entry)) (now (work .entry)) ⌝ }
 {
-    let form = tree::record::form(*all, at);
-    if form == 1 {
+    let form = tree::record::form(rs, 0);
+    if form <= 2 {
         let lent = &mut **captured;
-        visit_atom(*classes, *all, at, r, *facts, lent, *work);
-        return 1;
-    }
-    if form == 2 {
+        visit_atom(*classes, *all, form, at, r, *facts, lent, *work);
         return 1;
     }
     let g = f;
@@ -136,13 +133,13 @@ fn visit_if(
     ensures { λ n. ⌜ Done (now (now (classes .entry))) (now (now (all .entry))) (now (rs .entry)) at f (held (now (r .entry)) (now (now (facts .entry))) (now (now (captured .entry))) (now (now (arguments .entry))) (now (now (work .entry)))) n (held (now (r .exit)) (now (now (facts .exit))) (now (now (captured .exit))) (now (now (arguments .exit))) (now (now (work .exit)))) ⌝ }
     ensures { λ _. ⌜ tables (now (facts .exit)) (now (captured .exit)) (now (arguments .exit)) (now (work .exit)) ≡ tables (now (facts .entry)) (now (captured .entry)) (now (arguments .entry)) (now (work .entry)) ⌝ }
 {
-    let g = f.same_tail();
+    let g = part(f, Part::SameTail);
     let a = visit_part(
         classes,
         all,
         &rs[6..],
         at + 1,
-        f.not_tail(),
+        part(f, Part::NotTail),
         r,
         facts,
         captured,
@@ -215,7 +212,7 @@ fn visit_arguments(
             arguments,
             work,
         );
-        g = g.next();
+        g = part(g, Part::Next);
         i += 1;
     }
     used
@@ -237,7 +234,7 @@ fn visit_let(
     ensures { λ n. ⌜ Done (now (now (classes .entry))) (now (now (all .entry))) (now (rs .entry)) at f (held (now (r .entry)) (now (now (facts .entry))) (now (now (captured .entry))) (now (now (arguments .entry))) (now (now (work .entry)))) n (held (now (r .exit)) (now (now (facts .exit))) (now (now (captured .exit))) (now (now (arguments .exit))) (now (now (work .exit)))) ⌝ }
     ensures { λ _. ⌜ tables (now (facts .exit)) (now (captured .exit)) (now (arguments .exit)) (now (work .exit)) ≡ tables (now (facts .entry)) (now (captured .entry)) (now (arguments .entry)) (now (work .entry)) ⌝ }
 {
-    let many = tree::record::count(*all, at);
+    let many = tree::record::count(rs, 0);
     let count = wide(many);
     let names = Names {
         first: at + 1,
@@ -359,7 +356,7 @@ pub fn visit_body(
     ensures { λ n. ⌜ Done (now (now (classes .entry))) (now (now (all .entry))) (now (rs .entry)) at f (held (now (r .entry)) (now (now (facts .entry))) (now (now (captured .entry))) (now (now (arguments .entry))) (now (now (work .entry)))) n (held (now (r .exit)) (now (now (facts .exit))) (now (now (captured .exit))) (now (now (arguments .exit))) (now (now (work .exit)))) ⌝ }
     ensures { λ _. ⌜ tables (now (facts .exit)) (now (captured .exit)) (now (arguments .exit)) (now (work .exit)) ≡ tables (now (facts .entry)) (now (captured .entry)) (now (arguments .entry)) (now (work .entry)) ⌝ }
 {
-    if tree::record::form(*all, at) == 6 {
+    if tree::record::form(rs, 0) == 6 {
         return visit_lambda_function(classes, all, rs, at, f, r, facts, captured, arguments, work);
     }
     visit_part(classes, all, rs, at, f, r, facts, captured, arguments, work)
@@ -381,7 +378,7 @@ fn visit_lambda_function(
     ensures { λ n. ⌜ Done (now (now (classes .entry))) (now (now (all .entry))) (now (rs .entry)) at f (held (now (r .entry)) (now (now (facts .entry))) (now (now (captured .entry))) (now (now (arguments .entry))) (now (now (work .entry)))) n (held (now (r .exit)) (now (now (facts .exit))) (now (now (captured .exit))) (now (now (arguments .exit))) (now (now (work .exit)))) ⌝ }
     ensures { λ _. ⌜ tables (now (facts .exit)) (now (captured .exit)) (now (arguments .exit)) (now (work .exit)) ≡ tables (now (facts .entry)) (now (captured .entry)) (now (arguments .entry)) (now (work .entry)) ⌝ }
 {
-    let many = tree::record::count(*all, at);
+    let many = tree::record::count(rs, 0);
     let count = wide(many);
     let names = Names {
         first: at + 1,
@@ -396,7 +393,7 @@ fn visit_lambda_function(
         all,
         &rs[start..],
         first,
-        part(f, Part::Body(at, tree::record::id(*all, at), many)),
+        part(f, Part::Body(at, tree::record::id(rs, 0), many)),
         r,
         facts,
         captured,
@@ -435,7 +432,7 @@ fn visit_begin(
     ensures { λ n. ⌜ Done (now (now (classes .entry))) (now (now (all .entry))) (now (rs .entry)) at f (held (now (r .entry)) (now (now (facts .entry))) (now (now (captured .entry))) (now (now (arguments .entry))) (now (now (work .entry)))) n (held (now (r .exit)) (now (now (facts .exit))) (now (now (captured .exit))) (now (now (arguments .exit))) (now (now (work .exit)))) ⌝ }
     ensures { λ _. ⌜ tables (now (facts .exit)) (now (captured .exit)) (now (arguments .exit)) (now (work .exit)) ≡ tables (now (facts .entry)) (now (captured .entry)) (now (arguments .entry)) (now (work .entry)) ⌝ }
 {
-    let count = wide(tree::record::count(*all, at));
+    let count = wide(tree::record::count(rs, 0));
     enter_defines(
         *classes,
         *all,
@@ -484,10 +481,10 @@ fn visit_list(
     ensures { λ n. ⌜ Done (now (now (classes .entry))) (now (now (all .entry))) (now (rs .entry)) at f (held (now (r .entry)) (now (now (facts .entry))) (now (now (captured .entry))) (now (now (arguments .entry))) (now (now (work .entry)))) n (held (now (r .exit)) (now (now (facts .exit))) (now (now (captured .exit))) (now (now (arguments .exit))) (now (now (work .exit)))) ⌝ }
     ensures { λ _. ⌜ tables (now (facts .exit)) (now (captured .exit)) (now (arguments .exit)) (now (work .exit)) ≡ tables (now (facts .entry)) (now (captured .entry)) (now (arguments .entry)) (now (work .entry)) ⌝ }
 {
-    let k = wide(tree::record::count(*all, at)) - 1;
+    let k = wide(tree::record::count(rs, 0)) - 1;
     let head = extent_at(*all, at + 1);
     let first = at + 1 + head;
-    let lambda = tree::record::form(*all, at + 1) == 6;
+    let lambda = tree::record::form(rs, 1) == 6;
     let start = 6 + 6 * head;
     let a = visit_arguments(
         classes,
@@ -495,7 +492,7 @@ fn visit_list(
         &rs[start..],
         k,
         first,
-        f.argument(),
+        part(f, Part::Argument),
         r,
         facts,
         captured,
@@ -507,7 +504,7 @@ fn visit_list(
         all,
         &rs[6..],
         at + 1,
-        f.head(lambda, narrow(k)),
+        part(f, Part::Head(lambda, narrow(k))),
         r,
         facts,
         captured,
@@ -549,8 +546,8 @@ fn visit_set(
         arguments,
         work,
     );
-    close_set(tree::record::name(*all, at + 1), r, *facts, *work);
+    close_set(tree::record::name(rs, 1), r, *facts, *work);
     let lent = &mut **captured;
-    visit_atom(*classes, *all, at + 1, r, *facts, lent, *work);
+    visit_atom(*classes, *all, 1, at + 1, r, *facts, lent, *work);
     2 + o
 }

@@ -1,22 +1,27 @@
 -- `visit_top`: a define, or any other form.
-use mathlib.Core.Path.{_≡_, _∙_}
+use mathlib.Core.Path.{_≡_, sym, _∙_}
 use borrow.Author.Needs.{needs}
 use Rattle.tree.specs.RecordLaws.{nth}
-use Rattle.visits.proofs.TopDefineCase.{inside, other-done}
+use Rattle.visits.proofs.TopDefineCase.{inside, own-form, other-done}
 use Rattle.visits.proofs.run.visit_top.Statement.{statement}
 use Rattle.visits.proofs.run.visit_top.Tie as tie
 
 form-requires : tie.Need-form-requires
-form-requires c κs = inside (c .before .before .pre)
+form-requires c κs = inside (c .before .pre)
+
+formed : (c : tie.After-form) → let o = c .before .before .args in c .form .result ≡ nth (o .all .now .now) (o .at) .form
+formed c = own-form (c .before .before .pre) (c .form .ensures)
 
 visit-top-define-requires : tie.Need-visit-top-define-requires
-visit-top-define-requires c κs = search needs
+visit-top-define-requires c κs =
+    let i = c .before .before .before .before .before in
+    (i .before .before .before .pre, sym (formed (i .before)) ∙ i .if1 .taken)
 
 returns : tie.Need-returns
 returns c = search needs
 
-no-define : (c : tie.Else1) → let o = c .before .before .before .before .args in nth (o .all .now .now) (o .at) .form ≡ 5 → ⊥
-no-define c e = c .if1 .left (c .before .form .ensures ∙ e)
+no-define : (c : tie.Else1) → let o = c .before .before .before .args in nth (o .all .now .now) (o .at) .form ≡ 5 → ⊥
+no-define c e = c .if1 .left (formed (c .before) ∙ e)
 
 top-requires : tie.Need-top-requires
 top-requires c κs = search needs

@@ -36,11 +36,6 @@ use Rattle.visits.proofs.visit.+visit+visit_arguments+visit_begin+visit
 use Rattle.visits.proofs.visit.visit_set.Reads as visit-set
 use Rattle.visits.proofs.visit.visit_set.Kinds as visit-set-kinds
 use Rattle.visits.proofs.visit.+visit+visit_arguments+visit_begin+visit_body+visit_define+visit_if+visit_lambda_function+visit_let+visit_list+visit_part+visit_set.Lts-visit_set as visit-set-lts
-use Rattle.flags.proofs.Flags.argument.Reads as argument-reads
-use Rattle.flags.proofs.Flags.head.Reads as head-reads
-use Rattle.flags.proofs.Flags.next.Reads as next-reads
-use Rattle.flags.proofs.Flags.not_tail.Reads as not-tail-reads
-use Rattle.flags.proofs.Flags.same_tail.Reads as same-tail-reads
 use Rattle.flags.proofs.by_value.part.Reads as part-reads
 use Rattle.flags.proofs.by_value.parts.Reads as parts-reads
 use Rattle.registers.proofs.steps.close_call.Reads as close-call-reads
@@ -203,10 +198,10 @@ visit-set-below t =
     and 14 visit-set-kinds.ps (falls 14 visit-set-kinds.ps _<_ μ-visit-set t) visit-set.Pre
 
 abbrev pub visit-calls : ℕ → visit-lts.Claims
-visit-calls t = (form-reads.Asked, form-reads.Learnt, visit-atom-reads.Asked, visit-atom-reads.Learnt, visit-if-below t, visit-if.Post, visit-let-below t, visit-let.Post, visit-define-below t, visit-define.Post, visit-lambda-function-below t, visit-lambda-function.Post, visit-begin-below t, visit-begin.Post, visit-list-below t, visit-list.Post, visit-set-below t, visit-set.Post)
+visit-calls t = (form-reads.Asked, form-reads.Learnt, visit-if-below t, visit-if.Post, visit-let-below t, visit-let.Post, visit-define-below t, visit-define.Post, visit-lambda-function-below t, visit-lambda-function.Post, visit-begin-below t, visit-begin.Post, visit-list-below t, visit-list.Post, visit-set-below t, visit-set.Post, visit-atom-reads.Asked, visit-atom-reads.Learnt)
 
 abbrev pub visit-arguments-calls : ℕ → visit-arguments-lts.Claims
-visit-arguments-calls t = (visit-part-below t, visit-part.Post, next-reads.Asked, next-reads.Learnt)
+visit-arguments-calls t = (visit-part-below t, visit-part.Post, part-reads.Asked, part-reads.Learnt)
 
 abbrev pub visit-begin-calls : ℕ → visit-begin-lts.Claims
 visit-begin-calls t = (count-reads.Asked, count-reads.Learnt, wide-reads.Asked, wide-reads.Learnt, enter-defines-reads.Asked, enter-defines-reads.Learnt, part-reads.Asked, part-reads.Learnt, visit-part-below t, visit-part.Post)
@@ -218,7 +213,7 @@ abbrev pub visit-define-calls : ℕ → visit-define-lts.Claims
 visit-define-calls t = (body-at-reads.Asked, body-at-reads.Learnt, context-reads.Asked, context-reads.Learnt, open-define-reads.Asked, open-define-reads.Learnt, part-reads.Asked, part-reads.Learnt, visit-body-below t, visit-body.Post, close-define-reads.Asked, close-define-reads.Learnt)
 
 abbrev pub visit-if-calls : ℕ → visit-if-lts.Claims
-visit-if-calls t = (same-tail-reads.Asked, same-tail-reads.Learnt, not-tail-reads.Asked, not-tail-reads.Learnt, visit-part-below t, visit-part.Post)
+visit-if-calls t = (part-reads.Asked, part-reads.Learnt, visit-part-below t, visit-part.Post)
 
 abbrev pub visit-lambda-function-calls : ℕ → visit-lambda-function-lts.Claims
 visit-lambda-function-calls t = (count-reads.Asked, count-reads.Learnt, wide-reads.Asked, wide-reads.Learnt, open-lambda-reads.Asked, open-lambda-reads.Learnt, id-reads.Asked, id-reads.Learnt, part-reads.Asked, part-reads.Learnt, visit-body-below t, visit-body.Post, close-lambda-reads.Asked, close-lambda-reads.Learnt)
@@ -227,7 +222,7 @@ abbrev pub visit-let-calls : ℕ → visit-let-lts.Claims
 visit-let-calls t = (count-reads.Asked, count-reads.Learnt, wide-reads.Asked, wide-reads.Learnt, depth-reads.Asked, depth-reads.Learnt, context-reads.Asked, context-reads.Learnt, parts-reads.Asked, parts-reads.Learnt, set-context-reads.Asked, set-context-reads.Learnt, visit-arguments-below t, visit-arguments.Post, open-let-reads.Asked, open-let-reads.Learnt, visit-part-below t, visit-part.Post, close-let-reads.Asked, close-let-reads.Learnt)
 
 abbrev pub visit-list-calls : ℕ → visit-list-lts.Claims
-visit-list-calls t = (count-reads.Asked, count-reads.Learnt, wide-reads.Asked, wide-reads.Learnt, extent-at-reads.Asked, extent-at-reads.Learnt, form-reads.Asked, form-reads.Learnt, argument-reads.Asked, argument-reads.Learnt, visit-arguments-below t, visit-arguments.Post, narrow-reads.Asked, narrow-reads.Learnt, head-reads.Asked, head-reads.Learnt, visit-part-below t, visit-part.Post, close-call-reads.Asked, close-call-reads.Learnt)
+visit-list-calls t = (count-reads.Asked, count-reads.Learnt, wide-reads.Asked, wide-reads.Learnt, extent-at-reads.Asked, extent-at-reads.Learnt, form-reads.Asked, form-reads.Learnt, part-reads.Asked, part-reads.Learnt, visit-arguments-below t, visit-arguments.Post, narrow-reads.Asked, narrow-reads.Learnt, visit-part-below t, visit-part.Post, close-call-reads.Asked, close-call-reads.Learnt)
 
 abbrev pub visit-part-calls : ℕ → visit-part-lts.Claims
 visit-part-calls t = (form-reads.Asked, form-reads.Learnt, visit-atom-reads.Asked, visit-atom-reads.Learnt, visit-below t, visit.Post)

@@ -1,8 +1,10 @@
 -- The needs of `visit`.
 use Prim.Native.Nat.{ℕ}
-use mathlib.Core.Path.{refl, sym, _∙_}
+use mathlib.Core.Path.{_≡_, refl, sym, _∙_}
+use Rattle.tree.specs.RecordLaws.{nth}
 use Rattle.visits.proofs.Bounds as bounds
-use Rattle.visits.proofs.LeafCase.{ident-reads, ident-done, is-const, const-done}
+use Rattle.visits.proofs.Views.{own-field}
+use Rattle.visits.proofs.LeafCase.{atom-fits, atom-done, none-below, none-above}
 use borrow.Author.Needs.{needs}
 use native.Mathlib.Omega.{arith}
 use Rattle.visits.proofs.visit.+visit+visit_arguments+visit_begin+visit_body+visit_define+visit_if+visit_lambda_function+visit_let+visit_list+visit_part+visit_set.Lts-visit as lts
@@ -11,10 +13,55 @@ use Rattle.visits.proofs.visit.+visit+visit_arguments+visit_begin+visit
 
 module _ (t : ℕ) where
   abbrev begun : lts.After-form (visit-calls t) (visit-at t) reads.Post → lts.Start (visit-calls t) (visit-at t) reads.Post
-  begun c = c .before .before .before
+  begun c = c .before .before
+
+  formed : (c : lts.After-form (visit-calls t) (visit-at t) reads.Post) → let o = begun c .args in c .form .result ≡ nth (o .all .now .now) (o .at) .form
+  formed c = own-field (begun c .pre .1) (λ r. r .form) (c .form .ensures)
 
   pub form-requires : lts.Need-form-requires (visit-calls t) (visit-at t) reads.Post
-  form-requires c κs = let x = c .before .before .pre .1 in omega (arith, bounds.whole x, bounds.some x)
+  form-requires c κs = let x = c .before .pre .1 in omega (arith, bounds.whole x, bounds.some x)
+
+  pub visit-if-requires : lts.Need-visit-if-requires (visit-calls t) (visit-at t) reads.Post
+  visit-if-requires c κs =
+      let f = c .before .before .before .before .before .before in
+      let o = begun f in
+      (omega (arith, o .pre .0), (o .pre .1, sym (formed f) ∙ c .before .before .before .before .before .match .keys1))
+
+  pub visit-let-requires : lts.Need-visit-let-requires (visit-calls t) (visit-at t) reads.Post
+  visit-let-requires c κs =
+      let f = c .before .before .before .before .before .before in
+      let o = begun f in
+      (omega (arith, o .pre .0), (o .pre .1, sym (formed f) ∙ c .before .before .before .before .before .match .keys2))
+
+  pub visit-define-requires : lts.Need-visit-define-requires (visit-calls t) (visit-at t) reads.Post
+  visit-define-requires c κs =
+      let f = c .before .before .before .before .before .before in
+      let o = begun f in
+      (omega (arith, o .pre .0), (o .pre .1, sym (formed f) ∙ c .before .before .before .before .before .match .keys3))
+
+  pub visit-lambda-function-requires : lts.Need-visit-lambda-function-requires (visit-calls t) (visit-at t) reads.Post
+  visit-lambda-function-requires c κs =
+      let f = c .before .before .before .before .before .before in
+      let o = begun f in
+      (omega (arith, o .pre .0), (o .pre .1, sym (formed f) ∙ c .before .before .before .before .before .match .keys4))
+
+  pub visit-begin-requires : lts.Need-visit-begin-requires (visit-calls t) (visit-at t) reads.Post
+  visit-begin-requires c κs =
+      let f = c .before .before .before .before .before .before in
+      let o = begun f in
+      (omega (arith, o .pre .0), (o .pre .1, sym (formed f) ∙ c .before .before .before .before .before .match .keys5))
+
+  pub visit-list-requires : lts.Need-visit-list-requires (visit-calls t) (visit-at t) reads.Post
+  visit-list-requires c κs =
+      let f = c .before .before .before .before .before .before in
+      let o = begun f in
+      (omega (arith, o .pre .0), (o .pre .1, sym (formed f) ∙ c .before .before .before .before .before .match .keys6))
+
+  pub visit-set-requires : lts.Need-visit-set-requires (visit-calls t) (visit-at t) reads.Post
+  visit-set-requires c κs =
+      let f = c .before .before .before .before .before .before in
+      let o = begun f in
+      (omega (arith, o .pre .0), (o .pre .1, sym (formed f) ∙ c .before .before .before .before .before .match .keys7))
 
   pub slice-aggregate-lent : lts.Need-slice-aggregate-lent (visit-calls t) (visit-at t) reads.Post
   slice-aggregate-lent c = search needs
@@ -25,56 +72,18 @@ module _ (t : ℕ) where
   pub slice-aggregate-visit-atom-2 : lts.Need-slice-aggregate-visit-atom-2 (visit-calls t) (visit-at t) reads.Post
   slice-aggregate-visit-atom-2 c = search needs
 
+  -- a form of the range, from its second test
+  abbrev ranged : lts.Then2 (visit-calls t) (visit-at t) reads.Post → lts.After-form (visit-calls t) (visit-at t) reads.Post
+  ranged c = c .before .before .before
+
   pub visit-atom-requires : lts.Need-visit-atom-requires (visit-calls t) (visit-at t) reads.Post
   visit-atom-requires c κs =
-      let f = c .before .before .before .before .before .before .before .before in
-      let o = begun f in
-      ident-reads {g = o .args .f} (sym (f .form .ensures) ∙ c .before .before .before .before .before .before .before .match .keys1) (o .pre .1)
-
-  pub visit-if-requires : lts.Need-visit-if-requires (visit-calls t) (visit-at t) reads.Post
-  visit-if-requires c κs =
-      let f = c .before .before .before .before .before .before in
-      let o = begun f in
-      (omega (arith, o .pre .0), (o .pre .1, sym (f .form .ensures) ∙ c .before .before .before .before .before .match .keys2))
-
-  pub visit-let-requires : lts.Need-visit-let-requires (visit-calls t) (visit-at t) reads.Post
-  visit-let-requires c κs =
-      let f = c .before .before .before .before .before .before in
-      let o = begun f in
-      (omega (arith, o .pre .0), (o .pre .1, sym (f .form .ensures) ∙ c .before .before .before .before .before .match .keys3))
-
-  pub visit-define-requires : lts.Need-visit-define-requires (visit-calls t) (visit-at t) reads.Post
-  visit-define-requires c κs =
-      let f = c .before .before .before .before .before .before in
-      let o = begun f in
-      (omega (arith, o .pre .0), (o .pre .1, sym (f .form .ensures) ∙ c .before .before .before .before .before .match .keys4))
-
-  pub visit-lambda-function-requires : lts.Need-visit-lambda-function-requires (visit-calls t) (visit-at t) reads.Post
-  visit-lambda-function-requires c κs =
-      let f = c .before .before .before .before .before .before in
-      let o = begun f in
-      (omega (arith, o .pre .0), (o .pre .1, sym (f .form .ensures) ∙ c .before .before .before .before .before .match .keys5))
-
-  pub visit-begin-requires : lts.Need-visit-begin-requires (visit-calls t) (visit-at t) reads.Post
-  visit-begin-requires c κs =
-      let f = c .before .before .before .before .before .before in
-      let o = begun f in
-      (omega (arith, o .pre .0), (o .pre .1, sym (f .form .ensures) ∙ c .before .before .before .before .before .match .keys6))
-
-  pub visit-list-requires : lts.Need-visit-list-requires (visit-calls t) (visit-at t) reads.Post
-  visit-list-requires c κs =
-      let f = c .before .before .before .before .before .before in
-      let o = begun f in
-      (omega (arith, o .pre .0), (o .pre .1, sym (f .form .ensures) ∙ c .before .before .before .before .before .match .keys7))
-
-  pub visit-set-requires : lts.Need-visit-set-requires (visit-calls t) (visit-at t) reads.Post
-  visit-set-requires c κs =
-      let f = c .before .before .before .before .before .before in
-      let o = begun f in
-      (omega (arith, o .pre .0), (o .pre .1, sym (f .form .ensures) ∙ c .before .before .before .before .before .match .keys8))
+      let i = c .before .before .before .before .before .before .before in
+      let o = begun (ranged i) in
+      atom-fits {g = o .args .f} (formed (ranged i)) (omega (arith, i .if2 .taken)) (o .pre .1)
 
   pub returns : lts.Need-returns (visit-calls t) (visit-at t) reads.Post
-  returns c = (ident-done (sym (c .before .before .before .before .before .before .before .before .before .form .ensures) ∙ c .before .before .before .before .before .before .before .before .match .keys1) (c .visit-atom .ensures), refl)
+  returns c = search needs
 
   pub returns-2 : lts.Need-returns-2 (visit-calls t) (visit-at t) reads.Post
   returns-2 c = search needs
@@ -95,10 +104,17 @@ module _ (t : ℕ) where
   returns-7 c = search needs
 
   pub returns-8 : lts.Need-returns-8 (visit-calls t) (visit-at t) reads.Post
-  returns-8 c = search needs
+  returns-8 c =
+      let i = c .before .before .before .before .before .before .before .before in
+      (atom-done (formed (ranged i)) (omega (arith, i .if2 .taken)) (c .visit-atom .ensures), refl)
 
   pub returns-9 : lts.Need-returns-9 (visit-calls t) (visit-at t) reads.Post
-  returns-9 c =
-      let r = c .match .rest in
+  returns-9 c = let f = c .before .before in absurd (none-below (formed f) (c .if1 .taken) (begun f .pre .1))
+
+  pub returns-10 : lts.Need-returns-10 (visit-calls t) (visit-at t) reads.Post
+  returns-10 c =
+      let m = c .before .before in
+      let f = m .before in
+      let r = m .match .rest in
       let s = r .0 .0 .0 .0 in
-      (const-done (is-const (c .before .form .ensures) (s .0 .0 .0 .1) (s .0 .0 .1) (s .0 .1) (s .1) (r .0 .0 .0 .1) (r .0 .0 .1) (r .0 .1) (r .1)), refl)
+      absurd (none-above (formed f) (c .if2 .left) (s .0 .0 .1) (s .0 .1) (s .1) (r .0 .0 .0 .1) (r .0 .0 .1) (r .0 .1) (r .1) (begun f .pre .1))

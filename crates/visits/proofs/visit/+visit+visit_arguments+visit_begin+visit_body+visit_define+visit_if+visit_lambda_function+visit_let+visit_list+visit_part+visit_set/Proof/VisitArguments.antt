@@ -2,12 +2,10 @@
 use Prim.Native.Nat.{ℕ, _+_, _-_, _*_, _≤_}
 use mathlib.Core.Path.{_≡_, refl, _∙_}
 use Rattle.table.specs.Part.{part, part-length}
-use Rattle.flags.specs.declared.Part.the-variants.{Next as After}
 use Rattle.registers.specs.Registers.{held}
 use Rattle.visits.specs.Contract.{FitAll, tables}
 use Rattle.visits.proofs.Bounds as bounds
 use Rattle.tree.specs.TreeLaws.{many-sizes}
-use Rattle.visits.proofs.Views.{handed}
 use Rattle.visits.proofs.ArgumentsCase.{Left, all-left, left-at, Next, next, next-long, next-height, next-fits, one-less, all-done}
 use borrow.Author.Needs.{needs}
 use native.Mathlib.Omega.{arith}
@@ -75,8 +73,8 @@ module _ (t : ℕ) where
       let b = n .before in
       omega (arith, bounds.used (next-fits (here n) (part (begun b .args .rs .now) (6 * b .loop .used))) (c .visit-part .ensures .0))
 
-  pub next-requires : lts.Need-next-requires (visit-arguments-calls t) (visit-arguments-at t) reads.Post Inv-loop μ-loop
-  next-requires c κs = next-height (here (c .before .before .before .before .before .before .before))
+  pub part-requires : lts.Need-part-requires (visit-arguments-calls t) (visit-arguments-at t) reads.Post Inv-loop μ-loop
+  part-requires c κs = next-height (here (c .before .before .before .before .before .before .before))
 
   pub add-i : lts.Need-add-i (visit-arguments-calls t) (visit-arguments-at t) reads.Post Inv-loop μ-loop
   add-i c =
@@ -98,7 +96,7 @@ module _ (t : ℕ) where
         omega (arith, n .loop-test .taken),
         v .visit-part .ensures .1 ∙ l .inv .1,
         λ x. left-at e (one-less (next (l .inv .2 x) (omega (arith, n .loop-test .taken))) (part (begun b .args .rs .now) (6 * l .used)) (v .visit-part .ensures .0)
-            (handed After (l .g) (c .next .ensures))),
+            (c .part .ensures)),
       )
 
   pub returns : lts.Need-returns (visit-arguments-calls t) (visit-arguments-at t) reads.Post Inv-loop μ-loop

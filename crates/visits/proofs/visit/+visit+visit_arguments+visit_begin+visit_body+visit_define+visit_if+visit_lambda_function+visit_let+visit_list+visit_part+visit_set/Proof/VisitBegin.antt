@@ -3,11 +3,13 @@ use Prim.Native.Nat.{ℕ, _+_, _-_, _*_, _≤_, _<_}
 use mathlib.Core.List.{List}
 use mathlib.Core.Path.{_≡_, refl, _∙_}
 use Rattle.table.specs.Part.{part, part-length}
+use Rattle.tree.specs.RecordLaws.{nth}
 use Rattle.registers.specs.Registers.{passIn, held}
 use Rattle.work.specs.Tied.{Raw, raw}
 use Rattle.work.specs.declared.Pass.{Pass}
 use Rattle.visits.specs.Contract.{Fit, tables}
 use Rattle.visits.proofs.Bounds as bounds
+use Rattle.visits.proofs.Views.{own-field}
 use Rattle.visits.proofs.BeginCase.{children-fit, Left, all-left, next, next-fits, one-less, begin-done}
 use Rattle.visits.proofs.BeginLoop.{last-of, left-at, reach, short, Room, under}
 use borrow.Author.Needs.{needs}
@@ -29,7 +31,7 @@ abbrev pub μ-loop : lts.MeasureT-loop
 
 module _ (t : ℕ) where
   abbrev begun : lts.At-loop (visit-begin-calls t) (visit-begin-at t) reads.Post Inv-loop μ-loop → lts.Start (visit-begin-calls t) (visit-begin-at t) reads.Post Inv-loop μ-loop
-  begun c = c .before .before .before .before .before .before .before .before .before .before .before
+  begun c = c .before .before .before .before .before .before .before .before .before .before
 
   abbrev entered : lts.At-loop (visit-begin-calls t) (visit-begin-at t) reads.Post Inv-loop μ-loop → lts.After-enter-defines (visit-begin-calls t) (visit-begin-at t) reads.Post Inv-loop μ-loop
   entered c = c .before
@@ -46,11 +48,15 @@ module _ (t : ℕ) where
   abbrev state : lts.At-loop (visit-begin-calls t) (visit-begin-at t) reads.Post Inv-loop μ-loop → Raw
   state c = held (c .loop .r) (c .loop .facts .now) (c .loop .captured .now) (c .loop .arguments .now) (c .loop .work .now)
 
+  counts : (c : lts.After-wide (visit-begin-calls t) (visit-begin-at t) reads.Post Inv-loop μ-loop) → let o = c .before .before .before .args in
+      c .wide .result ≡ nth (o .all .now .now) (o .at) .count
+  counts c = c .wide .ensures ∙ own-field (c .before .before .before .pre .1 .0) (λ r. r .count) (c .before .count .ensures)
+
   now : (c : lts.At-loop (visit-begin-calls t) (visit-begin-at t) reads.Post Inv-loop μ-loop) → let a = begun c .args in
       (x : Given (begun c) (passIn (a .r .now)) (a .facts .now .now) (a .captured .now .now) (a .arguments .now .now) (a .work .now .now))
       → Left x (c .loop .used) (counted c .wide .result - c .loop .i) (state c)
   now c x =
-      let n = counted c .wide .ensures ∙ counted c .before .count .ensures in
+      let n = counts (counted c) in
       c .loop .inv .3 _ _ _ _ _ x (all-left (begun c .pre .1 .1) n (entered c .enter-defines .ensures) x)
 
   more : (c : lts.In-loop (visit-begin-calls t) (visit-begin-at t) reads.Post Inv-loop μ-loop) → 0 < counted (c .before) .wide .result - c .before .loop .i
@@ -73,7 +79,7 @@ module _ (t : ℕ) where
   room c = let x = begun (c .before) .pre .1 .0 in under (bounds.whole x) (short (now (c .before) x) (more c))
 
   pub count-requires : lts.Need-count-requires (visit-begin-calls t) (visit-begin-at t) reads.Post Inv-loop μ-loop
-  count-requires c κs = let x = c .before .before .pre .1 .0 in omega (arith, bounds.whole x, bounds.some x)
+  count-requires c κs = let x = c .before .pre .1 .0 in omega (arith, bounds.whole x, bounds.some x)
 
   pub wide-requires : lts.Need-wide-requires (visit-begin-calls t) (visit-begin-at t) reads.Post Inv-loop μ-loop
   wide-requires c κs = search needs
@@ -89,9 +95,9 @@ module _ (t : ℕ) where
 
   pub enter-defines-requires : lts.Need-enter-defines-requires (visit-begin-calls t) (visit-begin-at t) reads.Post Inv-loop μ-loop
   enter-defines-requires c κs =
-      let o = c .before .before .before .before .before .before .before .before .before in
+      let o = c .before .before .before .before .before .before .before .before in
       let w = c .before .before .before .before .before in
-      children-fit {g = o .args .f} (o .pre .1 .1) (w .wide .ensures ∙ w .before .count .ensures) (o .pre .1 .0)
+      children-fit {g = o .args .f} (o .pre .1 .1) (counts w) (o .pre .1 .0)
 
   pub loop-holds : lts.Need-loop-holds (visit-begin-calls t) (visit-begin-at t) reads.Post Inv-loop μ-loop
   loop-holds c = (omega arith, omega arith, refl, λ p F C A w x l. l)

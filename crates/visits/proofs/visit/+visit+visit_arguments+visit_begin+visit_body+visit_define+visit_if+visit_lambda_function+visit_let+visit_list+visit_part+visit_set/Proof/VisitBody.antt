@@ -2,6 +2,7 @@
 use Prim.Native.Nat.{ℕ}
 use mathlib.Core.Path.{sym, _∙_}
 use Rattle.visits.proofs.Bounds as bounds
+use Rattle.visits.proofs.Views.{own-field}
 use borrow.Author.Needs.{needs}
 use native.Mathlib.Omega.{arith}
 use Rattle.visits.proofs.visit.+visit+visit_arguments+visit_begin+visit_body+visit_define+visit_if+visit_lambda_function+visit_let+visit_list+visit_part+visit_set.Lts-visit_body as lts
@@ -10,17 +11,17 @@ use Rattle.visits.proofs.visit.+visit+visit_arguments+visit_begin+visit
 
 module _ (t : ℕ) where
   abbrev begun : lts.After-form (visit-body-calls t) (visit-body-at t) reads.Post → lts.Start (visit-body-calls t) (visit-body-at t) reads.Post
-  begun c = c .before .before .before
+  begun c = c .before .before
 
   pub form-requires : lts.Need-form-requires (visit-body-calls t) (visit-body-at t) reads.Post
-  form-requires c κs = let x = c .before .before .pre .1 in omega (arith, bounds.whole x, bounds.some x)
+  form-requires c κs = let x = c .before .pre .1 in omega (arith, bounds.whole x, bounds.some x)
 
   pub visit-lambda-function-requires : lts.Need-visit-lambda-function-requires (visit-body-calls t) (visit-body-at t) reads.Post
   visit-lambda-function-requires c κs =
       let i = c .before .before .before .before .before in
       let f = i .before in
       let o = begun f in
-      (omega (arith, o .pre .0), (o .pre .1, sym (f .form .ensures) ∙ i .if1 .taken))
+      (omega (arith, o .pre .0), (o .pre .1, sym (own-field (o .pre .1) (λ r. r .form) (f .form .ensures)) ∙ i .if1 .taken))
 
   pub returns : lts.Need-returns (visit-body-calls t) (visit-body-at t) reads.Post
   returns c = search needs

@@ -3,13 +3,9 @@ use Prim.Native.Nat.{ℕ, _+_, _*_, _≤_}
 use mathlib.Core.Path.{_∙_}
 use Rattle.tree.specs.Tree.{size}
 use Rattle.table.specs.Part.{part, part-length}
-use Rattle.pass.specs.Visit.{notTail, sameTail}
-use Rattle.flags.specs.Flags.{Handed}
-use Rattle.flags.specs.declared.Part.the-variants.{NotTail, SameTail}
 use Rattle.registers.specs.Registers.{held}
 use Rattle.visits.specs.Contract.{Done}
 use Rattle.visits.proofs.Bounds as bounds
-use Rattle.visits.proofs.Views.{handed}
 use Rattle.visits.proofs.IfCase.{if-long, test-fits, then-long, then-fits, else-long, else-fits, if-done}
 use borrow.Author.Needs.{needs}
 use native.Mathlib.Omega.{arith}
@@ -20,10 +16,10 @@ use Rattle.visits.proofs.visit.+visit+visit_arguments+visit_begin+visit
 module _ (t : ℕ) where
   -- the places that are looked back to, each from the one after it
 
-  abbrev entry : lts.After-same-tail (visit-if-calls t) (visit-if-at t) reads.Post → lts.Start (visit-if-calls t) (visit-if-at t) reads.Post
+  abbrev entry : lts.After-part (visit-if-calls t) (visit-if-at t) reads.Post → lts.Start (visit-if-calls t) (visit-if-at t) reads.Post
   entry c = c .before .before
 
-  abbrev flagged : lts.After-visit-part (visit-if-calls t) (visit-if-at t) reads.Post → lts.After-not-tail (visit-if-calls t) (visit-if-at t) reads.Post
+  abbrev flagged : lts.After-visit-part (visit-if-calls t) (visit-if-at t) reads.Post → lts.After-part2 (visit-if-calls t) (visit-if-at t) reads.Post
   flagged c = c .before .before .before .before .before .before
 
   abbrev tested : lts.After-visit-part2 (visit-if-calls t) (visit-if-at t) reads.Post → lts.After-visit-part (visit-if-calls t) (visit-if-at t) reads.Post
@@ -35,25 +31,17 @@ module _ (t : ℕ) where
   abbrev start : lts.After-visit-part (visit-if-calls t) (visit-if-at t) reads.Post → lts.Start (visit-if-calls t) (visit-if-at t) reads.Post
   start c = entry (flagged c .before .before)
 
-  -- what the test and both branches are handed
-
-  test : (c : lts.After-not-tail (visit-if-calls t) (visit-if-at t) reads.Post) → Handed (entry (c .before .before) .args .f) notTail (c .not-tail .result)
-  test c = handed NotTail (entry (c .before .before) .args .f) (c .not-tail .ensures)
-
-  branch : (c : lts.After-same-tail (visit-if-calls t) (visit-if-at t) reads.Post) → Handed (entry c .args .f) sameTail (c .same-tail .result)
-  branch c = handed SameTail (entry c .args .f) (c .same-tail .ensures)
-
   first : (c : lts.Start (visit-if-calls t) (visit-if-at t) reads.Post) → 4 ≤ size (c .pre .1 .0 .t)
   first c = if-long (c .pre .1 .1) (c .pre .1 .0)
 
   second : (c : lts.After-visit-part (visit-if-calls t) (visit-if-at t) reads.Post) → c .visit-part .result + 3 ≤ size (start c .pre .1 .0 .t)
-  second c = let o = start c in then-long (o .pre .1 .1) (test (flagged c)) (part (o .args .rs .now) 6) (c .visit-part .ensures .0) (o .pre .1 .0)
+  second c = let o = start c in then-long (o .pre .1 .1) (flagged c .part2 .ensures) (part (o .args .rs .now) 6) (c .visit-part .ensures .0) (o .pre .1 .0)
 
   third : (c : lts.After-visit-part2 (visit-if-calls t) (visit-if-at t) reads.Post) → tested c .visit-part .result + c .visit-part2 .result + 2 ≤ size (start (tested c) .pre .1 .0 .t)
   third c = let a = tested c in
       let o = start a in
       let rs = o .args .rs .now in
-      else-long (o .pre .1 .1) (test (flagged a)) (branch (flagged a .before .before)) (part rs 6) (a .visit-part .ensures .0) (part rs (6 * (1 + a .visit-part .result)))
+      else-long (o .pre .1 .1) (flagged a .part2 .ensures) (flagged a .before .before .part .ensures) (part rs 6) (a .visit-part .ensures .0) (part rs (6 * (1 + a .visit-part .result)))
       (c .visit-part2 .ensures .0) (o .pre .1 .0)
 
   done : (c : lts.After-visit-part3 (visit-if-calls t) (visit-if-at t) reads.Post)
@@ -65,13 +53,13 @@ module _ (t : ℕ) where
       let a = tested d in
       let o = start a in
       let rs = o .args .rs .now in
-      let k = branch (flagged a .before .before) in
+      let k = flagged a .before .before .part .ensures in
       let i = 1 + a .visit-part .result in
       let j = i + d .visit-part2 .result in
-      if-done (o .pre .1 .1) (test (flagged a)) k (part rs 6) (a .visit-part .ensures .0) (part rs (6 * i)) (d .visit-part2 .ensures .0) k (part rs (6 * j)) (c .visit-part3 .ensures .0)
+      if-done (o .pre .1 .1) (flagged a .part2 .ensures) k (part rs 6) (a .visit-part .ensures .0) (part rs (6 * i)) (d .visit-part2 .ensures .0) k (part rs (6 * j)) (c .visit-part3 .ensures .0)
 
-  pub same-tail-requires : lts.Need-same-tail-requires (visit-if-calls t) (visit-if-at t) reads.Post
-  same-tail-requires c κs = search needs
+  pub part-requires : lts.Need-part-requires (visit-if-calls t) (visit-if-at t) reads.Post
+  part-requires c κs = search needs
 
   pub sub-visit-part : lts.Need-sub-visit-part (visit-if-calls t) (visit-if-at t) reads.Post
   sub-visit-part c = let o = entry c in omega (arith, first o, bounds.whole (o .pre .1 .0))
@@ -85,8 +73,8 @@ module _ (t : ℕ) where
   pub add-visit-part : lts.Need-add-visit-part (visit-if-calls t) (visit-if-at t) reads.Post
   add-visit-part c = search needs
 
-  pub not-tail-requires : lts.Need-not-tail-requires (visit-if-calls t) (visit-if-at t) reads.Post
-  not-tail-requires c κs = search needs
+  pub part-requires-2 : lts.Need-part-requires-2 (visit-if-calls t) (visit-if-at t) reads.Post
+  part-requires-2 c κs = search needs
 
   pub visit-part-requires : lts.Need-visit-part-requires (visit-if-calls t) (visit-if-at t) reads.Post
   visit-part-requires c κs = let h = c .before .before .before .before .before in
@@ -94,7 +82,7 @@ module _ (t : ℕ) where
       let rs = o .args .rs .now in
       let x = o .pre .1 .0 in (
         omega (arith, o .pre .0, first o, bounds.whole x, part-length rs 6),
-        test-fits (o .pre .1 .1) (test h) (part rs 6) x,
+        test-fits (o .pre .1 .1) (h .part2 .ensures) (part rs 6) x,
       )
 
   pub add-i : lts.Need-add-i (visit-if-calls t) (visit-if-at t) reads.Post
@@ -125,7 +113,7 @@ module _ (t : ℕ) where
       let x = o .pre .1 .0 in
       let i = 1 + a .visit-part .result in (
         omega (arith, o .pre .0, second a, bounds.whole x, part-length rs (6 * i)),
-        then-fits (o .pre .1 .1) (test (flagged a)) (branch (flagged a .before .before)) (part rs 6) (a .visit-part .ensures .0) (part rs (6 * i)) x,
+        then-fits (o .pre .1 .1) (flagged a .part2 .ensures) (flagged a .before .before .part .ensures) (part rs 6) (a .visit-part .ensures .0) (part rs (6 * i)) x,
       )
 
   pub add-j : lts.Need-add-j (visit-if-calls t) (visit-if-at t) reads.Post
@@ -155,11 +143,11 @@ module _ (t : ℕ) where
       let o = start a in
       let rs = o .args .rs .now in
       let x = o .pre .1 .0 in
-      let k = branch (flagged a .before .before) in
+      let k = flagged a .before .before .part .ensures in
       let i = 1 + a .visit-part .result in
       let j = i + d .visit-part2 .result in (
         omega (arith, o .pre .0, third d, bounds.whole x, part-length rs (6 * j)),
-        else-fits (o .pre .1 .1) (test (flagged a)) k (part rs 6) (a .visit-part .ensures .0) (part rs (6 * i)) (d .visit-part2 .ensures .0) k (part rs (6 * j)) x,
+        else-fits (o .pre .1 .1) (flagged a .part2 .ensures) k (part rs 6) (a .visit-part .ensures .0) (part rs (6 * i)) (d .visit-part2 .ensures .0) k (part rs (6 * j)) x,
       )
 
   pub add-result : lts.Need-add-result (visit-if-calls t) (visit-if-at t) reads.Post

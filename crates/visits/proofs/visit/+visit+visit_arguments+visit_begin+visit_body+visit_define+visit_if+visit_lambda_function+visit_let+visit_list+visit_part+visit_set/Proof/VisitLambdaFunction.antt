@@ -9,7 +9,7 @@ use Rattle.flags.specs.Flags.{HandsBody}
 use Rattle.flags.specs.declared.Flags.{Flags as Coded}
 use Rattle.registers.specs.Registers.{held}
 use Rattle.visits.specs.Contract.{Done}
-use Rattle.visits.proofs.Views.{part-after}
+use Rattle.visits.proofs.Views.{own-field, part-after}
 use Rattle.visits.proofs.Bounds as bounds
 use Rattle.visits.proofs.LambdaCase.{lambda-long, lambda-fits, body-fits, body-stands, end-fit, lambda-done}
 use borrow.Author.Needs.{needs}
@@ -22,13 +22,13 @@ module _ (t : ℕ) where
   -- the places that are looked back to, each from the one after it
 
   abbrev to-start : lts.After-wide (visit-lambda-function-calls t) (visit-lambda-function-at t) reads.Post → lts.Start (visit-lambda-function-calls t) (visit-lambda-function-at t) reads.Post
-  to-start c = c .before .before .before .before
+  to-start c = c .before .before .before
 
   abbrev to-wide : lts.After-open-lambda (visit-lambda-function-calls t) (visit-lambda-function-at t) reads.Post → lts.After-wide (visit-lambda-function-calls t) (visit-lambda-function-at t) reads.Post
   to-wide c = c .before .before .before .before .before .before .before .before
 
   abbrev to-open-lambda : lts.After-id (visit-lambda-function-calls t) (visit-lambda-function-at t) reads.Post → lts.After-open-lambda (visit-lambda-function-calls t) (visit-lambda-function-at t) reads.Post
-  to-open-lambda c = c .before .before .before
+  to-open-lambda c = c .before .before
 
   abbrev to-id : lts.After-part (visit-lambda-function-calls t) (visit-lambda-function-at t) reads.Post → lts.After-id (visit-lambda-function-calls t) (visit-lambda-function-at t) reads.Post
   to-id c = c .before
@@ -49,7 +49,7 @@ module _ (t : ℕ) where
   hands {g} {h} {at} {i} {j} {k} {m} e d b = subst (λ (l : ℕ). HandsBody g at l m h) e (subst (λ (l : ℕ). HandsBody g at i l h) (sym d) b)
 
   tells : (c : lts.After-wide (visit-lambda-function-calls t) (visit-lambda-function-at t) reads.Post) → c .wide .result ≡ nth (to-start c .args .all .now .now) (to-start c .args .at) .count
-  tells c = c .wide .ensures ∙ c .before .count .ensures
+  tells c = c .wide .ensures ∙ own-field (to-start c .pre .1 .0) (λ r. r .count) (c .before .count .ensures)
 
   long : (c : lts.After-wide (visit-lambda-function-calls t) (visit-lambda-function-at t) reads.Post) → c .wide .result + 2 ≤ size (to-start c .pre .1 .0 .t)
   long c = let o = to-start c in lambda-long (o .pre .1 .1) (tells c) (o .pre .1 .0)
@@ -57,7 +57,7 @@ module _ (t : ℕ) where
   handed : (c : lts.After-part (visit-lambda-function-calls t) (visit-lambda-function-at t) reads.Post) →
       let o = start (opened c) .args in
       HandsBody (o .f) (o .at) (nth (o .all .now .now) (o .at) .id) (to-wide (opened c) .wide .result) (c .part .result)
-  handed c = hands (to-id c .id .ensures) (to-wide (opened c) .wide .ensures) (c .part .ensures)
+  handed c = hands (own-field (start (opened c) .pre .1 .0) (λ r. r .id) (to-id c .id .ensures)) (to-wide (opened c) .wide .ensures) (c .part .ensures)
 
   done : (c : lts.After-close-lambda (visit-lambda-function-calls t) (visit-lambda-function-at t) reads.Post) →
       let visit = to-visit c in
@@ -76,7 +76,7 @@ module _ (t : ℕ) where
       (visit .visit-body .ensures .0) (c .close-lambda .ensures)
 
   pub count-requires : lts.Need-count-requires (visit-lambda-function-calls t) (visit-lambda-function-at t) reads.Post
-  count-requires c κs = let x = c .before .before .pre .1 .0 in omega (arith, bounds.whole x, bounds.some x)
+  count-requires c κs = let x = c .before .pre .1 .0 in omega (arith, bounds.whole x, bounds.some x)
 
   pub wide-requires : lts.Need-wide-requires (visit-lambda-function-calls t) (visit-lambda-function-at t) reads.Post
   wide-requires c κs = search needs
@@ -127,10 +127,10 @@ module _ (t : ℕ) where
   part-visit-body-end c = search needs
 
   pub id-requires : lts.Need-id-requires (visit-lambda-function-calls t) (visit-lambda-function-at t) reads.Post
-  id-requires c κs = let x = start (c .before .before) .pre .1 .0 in omega (arith, bounds.whole x, bounds.some x)
+  id-requires c κs = let x = start (c .before) .pre .1 .0 in omega (arith, bounds.whole x, bounds.some x)
 
   pub part-requires : lts.Need-part-requires (visit-lambda-function-calls t) (visit-lambda-function-at t) reads.Post
-  part-requires c κs = let x = start (c .before .before .before) .pre .1 .0 in (omega (arith, x .flags .counter, x .fits .ample .counter), omega (arith, bounds.whole x, bounds.some x))
+  part-requires c κs = let x = start (c .before .before) .pre .1 .0 in (omega (arith, x .flags .counter, x .fits .ample .counter), omega (arith, bounds.whole x, bounds.some x))
 
   pub visit-body-requires : lts.Need-visit-body-requires (visit-lambda-function-calls t) (visit-lambda-function-at t) reads.Post
   visit-body-requires c κs =

@@ -2,12 +2,12 @@
 use Prim.Native.Nat.{ℕ, _+_, _*_, _-_}
 use mathlib.Core.Path.{_≡_, _∙_}
 use lib.ListN.{length, take, drop}
-use Rattle.tree.specs.StandsLaws.{root}
+use Rattle.tree.specs.RecordLaws.{nth}
 use Rattle.table.specs.Part.{part, part-length}
 use Rattle.work.specs.Passes.{inContext}
 use Rattle.registers.specs.Registers.{passIn}
-use Rattle.visits.proofs.Views.{part-after}
-use Rattle.visits.proofs.Bounds.{Span, used}
+use Rattle.visits.proofs.Views.{own-field, part-after}
+use Rattle.visits.proofs.Bounds.{Span, whole, some, used}
 use Rattle.visits.proofs.LetCalls as calls
 use Rattle.visits.proofs.LetCase.{let-long}
 use borrow.Author.Needs.{needs}
@@ -20,7 +20,7 @@ module _ (t : ℕ) where
   -- the places that are looked back to, each from the one after it
 
   abbrev entry : lts.After-wide (visit-let-calls t) (visit-let-at t) reads.Post → lts.Start (visit-let-calls t) (visit-let-at t) reads.Post
-  entry c = c .before .before .before .before
+  entry c = c .before .before .before
 
   abbrev counted : lts.After-depth (visit-let-calls t) (visit-let-at t) reads.Post → lts.After-wide (visit-let-calls t) (visit-let-at t) reads.Post
   counted c = c .before .before
@@ -55,6 +55,9 @@ module _ (t : ℕ) where
   abbrev start : lts.After-set-context (visit-let-calls t) (visit-let-at t) reads.Post → lts.Start (visit-let-calls t) (visit-let-at t) reads.Post
   start c = entry (named c)
 
+  counts : (c : lts.After-wide (visit-let-calls t) (visit-let-at t) reads.Post) → let o = entry c .args in c .before .count .result ≡ nth (o .all .now .now) (o .at) .count
+  counts c = own-field (entry c .pre .1 .0) (λ r. r .count) (c .before .count .ensures)
+
   begins : (c : lts.After-set-context (visit-let-calls t) (visit-let-at t) reads.Post)
       → let o = start c .args in
       let k = named c .wide .result in
@@ -62,7 +65,7 @@ module _ (t : ℕ) where
       (named c .before .count .result) k (o .f) (handed c .parts .result .first) (passIn (o .r .now)) (passIn (c .set-context .last .0))
   begins c = record {
     form = start c .pre .1 .1;
-    count = named c .before .count .ensures;
+    count = counts (named c);
     wide = named c .wide .ensures;
     flags = handed c .parts .ensures .0;
     cut = part-after (start c .args .rs .now) (named c .wide .result);
@@ -79,17 +82,15 @@ module _ (t : ℕ) where
       calls.put-back (passIn (start b .args .r .now)) (passIn (a .visit-arguments .last .1 .1 .1 .1 .1 .1 .0)) (noted (handed b) .context .ensures) (c .set-context2 .ensures)
 
   names-span : (c : lts.After-wide (visit-let-calls t) (visit-let-at t) reads.Post) → let o = entry c .args in Span (o .all .now .now) (o .rs .now) (o .at) (c .wide .result + 2)
-  names-span c = calls.names-span (entry c .pre .1 .1) (c .wide .ensures ∙ c .before .count .ensures) (entry c .pre .1 .0)
+  names-span c = calls.names-span (entry c .pre .1 .1) (c .wide .ensures ∙ counts c) (entry c .pre .1 .0)
 
   body-span : (c : lts.After-visit-arguments (visit-let-calls t) (visit-let-at t) reads.Post)
       → let o = start (cleared c) .args in
       Span (o .all .now .now) (o .rs .now) (o .at) (named (cleared c) .wide .result + c .visit-arguments .result + 2)
   body-span c = calls.body-span (begins (cleared c)) (c .visit-arguments .ensures .0) (start (cleared c) .pre .1 .0)
 
-  -- the table of the pass's numbers keeps its length
-
   pub count-requires : lts.Need-count-requires (visit-let-calls t) (visit-let-at t) reads.Post
-  count-requires c κs = root (c .before .before .pre .1 .0 .stands) .inside
+  count-requires c κs = let x = c .before .pre .1 .0 in omega (arith, whole x, some x)
 
   pub wide-requires : lts.Need-wide-requires (visit-let-calls t) (visit-let-at t) reads.Post
   wide-requires c κs = search needs
@@ -107,7 +108,7 @@ module _ (t : ℕ) where
   parts-requires c κs = let w = c .before .before .before .before .before in
       let o = entry w in
       let x = o .pre .1 .0 in
-      let long = let-long (o .pre .1 .1) (w .wide .ensures ∙ w .before .count .ensures) x in
+      let long = let-long (o .pre .1 .1) (w .wide .ensures ∙ counts w) x in
       (tt, omega (arith, w .wide .ensures, long, x .flags .height, x .fits .ample .height))
 
   pub mul-start : lts.Need-mul-start (visit-let-calls t) (visit-let-at t) reads.Post

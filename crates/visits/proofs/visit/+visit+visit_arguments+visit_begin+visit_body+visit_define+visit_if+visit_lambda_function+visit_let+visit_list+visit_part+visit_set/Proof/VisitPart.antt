@@ -1,8 +1,10 @@
 -- The needs of `visit_part`.
 use Prim.Native.Nat.{ℕ}
-use mathlib.Core.Path.{refl, sym, _∙_}
+use mathlib.Core.Path.{_≡_, refl}
+use Rattle.tree.specs.RecordLaws.{nth}
 use Rattle.visits.proofs.Bounds as bounds
-use Rattle.visits.proofs.LeafCase.{ident-reads, ident-done, const-done}
+use Rattle.visits.proofs.Views.{own-field}
+use Rattle.visits.proofs.LeafCase.{atom-fits, atom-done}
 use borrow.Author.Needs.{needs}
 use native.Mathlib.Omega.{arith}
 use Rattle.visits.proofs.visit.+visit+visit_arguments+visit_begin+visit_body+visit_define+visit_if+visit_lambda_function+visit_let+visit_list+visit_part+visit_set.Lts-visit_part as lts
@@ -11,10 +13,13 @@ use Rattle.visits.proofs.visit.+visit+visit_arguments+visit_begin+visit
 
 module _ (t : ℕ) where
   abbrev begun : lts.After-form (visit-part-calls t) (visit-part-at t) reads.Post → lts.Start (visit-part-calls t) (visit-part-at t) reads.Post
-  begun c = c .before .before .before
+  begun c = c .before .before
+
+  formed : (c : lts.After-form (visit-part-calls t) (visit-part-at t) reads.Post) → let o = begun c .args in c .form .result ≡ nth (o .all .now .now) (o .at) .form
+  formed c = own-field (begun c .pre .1) (λ r. r .form) (c .form .ensures)
 
   pub form-requires : lts.Need-form-requires (visit-part-calls t) (visit-part-at t) reads.Post
-  form-requires c κs = let x = c .before .before .pre .1 in omega (arith, bounds.whole x, bounds.some x)
+  form-requires c κs = let x = c .before .pre .1 in omega (arith, bounds.whole x, bounds.some x)
 
   pub slice-aggregate-lent : lts.Need-slice-aggregate-lent (visit-part-calls t) (visit-part-at t) reads.Post
   slice-aggregate-lent c = search needs
@@ -30,18 +35,15 @@ module _ (t : ℕ) where
       let i = c .before .before .before .before .before .before .before in
       let f = i .before in
       let o = begun f in
-      ident-reads {g = o .args .f} (sym (f .form .ensures) ∙ i .if1 .taken) (o .pre .1)
+      atom-fits {g = o .args .f} (formed f) (i .if1 .taken) (o .pre .1)
 
   pub returns : lts.Need-returns (visit-part-calls t) (visit-part-at t) reads.Post
   returns c =
       let i = c .before .before .before .before .before .before .before .before in
-      (ident-done (sym (i .before .form .ensures) ∙ i .if1 .taken) (c .visit-atom .ensures), refl)
-
-  pub returns-2 : lts.Need-returns-2 (visit-part-calls t) (visit-part-at t) reads.Post
-  returns-2 c = (const-done (λ x. sym (c .before .before .form .ensures) ∙ c .if2 .taken), refl)
+      (atom-done (formed (i .before)) (i .if1 .taken) (c .visit-atom .ensures), refl)
 
   pub visit-requires : lts.Need-visit-requires (visit-part-calls t) (visit-part-at t) reads.Post
-  visit-requires c κs = let o = begun (c .before .before .before .before .before .before .before) in (omega (arith, o .pre .0), o .pre .1)
+  visit-requires c κs = let o = begun (c .before .before .before .before .before .before) in (omega (arith, o .pre .0), o .pre .1)
 
-  pub returns-3 : lts.Need-returns-3 (visit-part-calls t) (visit-part-at t) reads.Post
-  returns-3 c = search needs
+  pub returns-2 : lts.Need-returns-2 (visit-part-calls t) (visit-part-at t) reads.Post
+  returns-2 c = search needs

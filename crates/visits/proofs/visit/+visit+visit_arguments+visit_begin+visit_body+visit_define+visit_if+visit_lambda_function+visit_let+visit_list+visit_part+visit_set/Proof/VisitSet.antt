@@ -1,10 +1,13 @@
 -- The needs of `visit_set`.
-use Prim.Native.Nat.{ℕ, _≤_}
+use Prim.Native.Nat.{ℕ, _+_, _≤_}
+use mathlib.Core.Path.{_≡_}
 use Rattle.table.specs.Part.{part, part-length}
+use Rattle.tree.specs.RecordLaws.{nth}
 use Rattle.tree.specs.Tree.{size}
 use Rattle.forms.specs.FitsLaws.{facts-length}
 use Rattle.visits.proofs.Bounds as bounds
-use Rattle.visits.proofs.SetCase.{set-long, expression-fits, target-sets, target-reads, set-done}
+use Rattle.visits.proofs.Views.{next-field}
+use Rattle.visits.proofs.SetCase.{set-long, expression-fits, target-sets, target-fits, set-done}
 use borrow.Author.Needs.{needs}
 use native.Mathlib.Omega.{arith}
 use Rattle.visits.proofs.visit.+visit+visit_arguments+visit_begin+visit_body+visit_define+visit_if+visit_lambda_function+visit_let+visit_list+visit_part+visit_set.Lts-visit_set as lts
@@ -24,7 +27,7 @@ module _ (t : ℕ) where
   to-part c = c .before .before .before .before .before .before
 
   abbrev to-visit : lts.After-name (visit-set-calls t) (visit-set-at t) reads.Post → lts.After-visit-part (visit-set-calls t) (visit-set-at t) reads.Post
-  to-visit c = c .before .before
+  to-visit c = c .before
 
   abbrev to-name : lts.After-close-set (visit-set-calls t) (visit-set-at t) reads.Post → lts.After-name (visit-set-calls t) (visit-set-at t) reads.Post
   to-name c = c .before .before .before .before
@@ -34,6 +37,12 @@ module _ (t : ℕ) where
 
   abbrev from-visit : lts.After-visit-part (visit-set-calls t) (visit-set-at t) reads.Post → lts.Start (visit-set-calls t) (visit-set-at t) reads.Post
   from-visit c = to-start (to-open-set (to-part c))
+
+  -- the name of the target
+  tells : (c : lts.After-name (visit-set-calls t) (visit-set-at t) reads.Post) →
+      let o = from-visit (to-visit c) .args in
+      c .name .result ≡ nth (o .all .now .now) (o .at + 1) .name
+  tells c = next-field (from-visit (to-visit c) .pre .1 .0) (λ r. r .name) (c .name .ensures)
 
   long : (c : lts.Start (visit-set-calls t) (visit-set-at t) reads.Post) → 3 ≤ size (c .pre .1 .0 .t)
   long c = set-long (c .pre .1 .1) (c .pre .1 .0)
@@ -74,11 +83,8 @@ module _ (t : ℕ) where
         expression-fits (o .pre .1 .1) (p .part .ensures) (s .open-set .ensures) (part rs 12) x,
       )
 
-  pub add-name : lts.Need-add-name (visit-set-calls t) (visit-set-at t) reads.Post
-  add-name c = let o = from-visit (c .before) in omega (arith, long o, bounds.whole (o .pre .1 .0))
-
   pub name-requires : lts.Need-name-requires (visit-set-calls t) (visit-set-at t) reads.Post
-  name-requires c κs = let o = from-visit (c .before) in omega (arith, long o, bounds.whole (o .pre .1 .0))
+  name-requires c κs = let o = from-visit c in omega (arith, long o, bounds.whole (o .pre .1 .0))
 
   pub slice-aggregate-close-set : lts.Need-slice-aggregate-close-set (visit-set-calls t) (visit-set-at t) reads.Post
   slice-aggregate-close-set c = search needs
@@ -87,7 +93,7 @@ module _ (t : ℕ) where
   slice-aggregate-close-set-2 c = search needs
 
   pub close-set-requires : lts.Need-close-set-requires (visit-set-calls t) (visit-set-at t) reads.Post
-  close-set-requires c κs = let v = c .before .before .before .before .before in
+  close-set-requires c κs = let v = c .before .before .before .before in
       let p = to-part v in
       let o = from-visit v in
       target-sets (o .pre .1 .1) (p .part .ensures) (to-open-set p .open-set .ensures) (part (o .args .rs .now) 12) (v .visit-part .ensures .0) (o .pre .1 .0)
@@ -96,7 +102,7 @@ module _ (t : ℕ) where
   slice-aggregate-lent c = search needs
 
   pub add-visit-atom : lts.Need-add-visit-atom (visit-set-calls t) (visit-set-at t) reads.Post
-  add-visit-atom c = let o = from-visit (c .before .before .before .before .before .before .before .before .before) in omega (arith, long o, bounds.whole (o .pre .1 .0))
+  add-visit-atom c = let o = from-visit (c .before .before .before .before .before .before .before .before) in omega (arith, long o, bounds.whole (o .pre .1 .0))
 
   pub slice-aggregate-visit-atom : lts.Need-slice-aggregate-visit-atom (visit-set-calls t) (visit-set-at t) reads.Post
   slice-aggregate-visit-atom c = search needs
@@ -110,11 +116,11 @@ module _ (t : ℕ) where
       let v = to-visit n in
       let p = to-part v in
       let o = from-visit v in
-      target-reads (o .pre .1 .1) (p .part .ensures) (to-open-set p .open-set .ensures) (part (o .args .rs .now) 12) (v .visit-part .ensures .0) (n .name .ensures)
+      target-fits (o .pre .1 .1) (p .part .ensures) (to-open-set p .open-set .ensures) (part (o .args .rs .now) 12) (v .visit-part .ensures .0) (tells n)
       (m .close-set .ensures) (o .pre .1 .0)
 
   pub add-result : lts.Need-add-result (visit-set-calls t) (visit-set-at t) reads.Post
-  add-result c = let v = c .before .before .before .before .before .before .before .before .before .before .before .before .before .before in
+  add-result c = let v = c .before .before .before .before .before .before .before .before .before .before .before .before .before in
       let p = to-part v in
       let o = from-visit v in
       let x = expression-fits (o .pre .1 .1) (p .part .ensures) (to-open-set p .open-set .ensures) (part (o .args .rs .now) 12) (o .pre .1 .0) in
@@ -127,6 +133,6 @@ module _ (t : ℕ) where
       let p = to-part v in
       let o = from-visit v in
       let done =
-      set-done (o .pre .1 .1) (p .part .ensures) (to-open-set p .open-set .ensures) (part (o .args .rs .now) 12) (v .visit-part .ensures .0) (n .name .ensures)
+      set-done (o .pre .1 .1) (p .part .ensures) (to-open-set p .open-set .ensures) (part (o .args .rs .now) 12) (v .visit-part .ensures .0) (tells n)
       (m .close-set .ensures) (c .visit-atom .ensures) in
       (done, v .visit-part .ensures .1)
