@@ -133,6 +133,7 @@ module _ (ts : Trees) where
 
 -- The rows
 
+-- one that refers is an identifier's
 used : (r : Row) {n : ℕ} {k : Reference} → referenceIn r ≡ some k → Told n r → usesIn r ≡ some n
 used Blank {k = k} e t = absurd (Option·none-ne-some k e)
 used (Variable v) e t = ap some t
@@ -140,6 +141,7 @@ used (Function v) {k = k} e t = absurd (Option·none-ne-some k e)
 used (CallSite v) {k = k} e t = absurd (Option·none-ne-some k e)
 used (Let v) {k = k} e t = absurd (Option·none-ne-some k e)
 
+-- each mention has some before it and some after
 each : (Q : Mention → Type 0) (before l : List Mention) → ((pre post : List Mention) (m : Mention) → before ++ l ≡ pre ++ (m ∷ post) → Q m) → All Q l
 each Q before [] f = tt
 each Q before (m ∷ l) f = (f before l m refl, each Q (before ++ (m ∷ [])) l (λ pre post o e. f pre post o (sym (append-assoc before (m ∷ []) l) ∙ e)))

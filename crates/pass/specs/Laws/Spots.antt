@@ -193,7 +193,7 @@ spots ts n y =
 
 -- What is in scope has entered
 
-pub binders-in : (l r : List Event) → bindersIn (l ++ r) ≡ bindersIn l ++ bindersIn r
+binders-in : (l r : List Event) → bindersIn (l ++ r) ≡ bindersIn l ++ bindersIn r
 binders-in [] r = refl
 binders-in (enters b sc ∷ l) r = ap (λ (k : List Binder). b ∷ k) (binders-in l r)
 binders-in (mentions m ∷ l) r = binders-in l r
