@@ -62,8 +62,8 @@ pub record Used (d e : Entry) : Type 0 where
   pub kept : lastingEntry e ≡ lastingEntry d
 
 infixl 40 _⨾_
--- Facts and entries are written at the records in `own`, a call's fact at those in `sites`; the fact of any other is at most marked, its entry at most
--- used. Names, entries and captures change if `free` holds.
+-- Facts and entries are written at the records in `own`, a call's fact is made at those in `sites` alone; the fact of any other is at most marked, its entry
+-- at most used. Names, entries and captures change if `free` holds.
 pub data CallSteps (free : Type 0) (own sites : ℕ → Type 0) : State → State → Type 0 where
   same : {s : State} → CallSteps free own sites s s
   _⨾_ : {s t u : State} → CallSteps free own sites s t → CallSteps free own sites t u → CallSteps free own sites s u
@@ -82,7 +82,7 @@ pub data CallSteps (free : Type 0) (own sites : ℕ → Type 0) : State → Stat
 abbrev pub CallChanges : (ℕ → Type 0) → (ℕ → Type 0) → State → State → Type 0
 CallChanges = CallSteps (Unit {0})
 
--- every fact is written there
+-- a call's fact is written where any other is
 abbrev pub Steps : Type 0 → (ℕ → Type 0) → State → State → Type 0
 Steps free own = CallSteps free own own
 
