@@ -53,14 +53,20 @@ abbrev unshared : Trees
 unshared = one (call (nd 0) (lambda (nd 1) (x 2 0 ∷ []) (letin (nd 3) (x 4 1 ∷ []) (one (lambda (nd 5) [] (ident (x 6 0))))
     (call (nd 7) (ident (x 8 1)) nil))) (one (const (nd 9) false)))
 
+-- ((lambda (x) (begin (let ((y 2)) y) (let ((z 3)) z))) 1), within the premises: both names have slot 1
+abbrev lets : Trees
+lets = one (call (nd 0) (lambda (nd 1) (x 2 0 ∷ []) (begin (bare 3) (cons (letin (nd 4) (x 5 1 ∷ []) (one (const (nd 6) false)) (ident (x 7 1)))
+    (one (letin (nd 8) (x 9 2 ∷ []) (one (const (nd 10) false)) (ident (x 11 2))))))) (one (const (nd 12) false)))
+
 -- ((lambda (x) ((lambda () (begin (define x 1) x)))) 2): an inner define
 abbrev inner : Trees
 inner = one (call (nd 0) (lambda (nd 1) (x 2 0 ∷ []) (call (nd 3) (lambda (nd 4) []
     (begin (bare 5) (cons (define (bare 6) (x 7 0) (const (nd 8) false)) (one (ident (x 9 0)))))) nil)) (one (const (nd 10) false)))
 
 -- `shared`: a set! of a parameter that an inner lambda mentions
-examples : (seen 2 unshared 40 ∷ seen 2 shared 40 ∷ seen 1 inner 40 ∷ []) ≡ (
+examples : (seen 2 unshared 40 ∷ seen 3 lets 40 ∷ seen 2 shared 40 ∷ seen 1 inner 40 ∷ []) ≡ (
     record { refused = none; moments = 12; bySlots = constant 10; plainly = constant 10 }
+    ∷ record { refused = none; moments = 15; bySlots = constant 11; plainly = constant 11 }
     ∷ record { refused = none; moments = 15; bySlots = constant 14; plainly = constant 11 }
     ∷ record { refused = none; moments = 11; bySlots = constant 9; plainly = constant 11 }
     ∷ [])
