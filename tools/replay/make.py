@@ -3,14 +3,20 @@
 
 Each case is a tree with the facts that the Rust gives after one run and after
 two, every field; a panic of its second run stands for refusal 11 or 12. The
-trees are the scripts of tools/trial/scripts.txt and random ones. Refusal 9 is
-not the Rust's: it is expected from a reading of document 01 in Python,
-tools/trial/reading.py, as are refusals 1 to 8 of damaged trees.
+trees are the scripts of tools/trial/scripts.txt, small random ones and the
+large ones of large.py. Refusal 9 is not the Rust's: it is expected from a
+reading of document 01 in Python, tools/trial/reading.py, as are refusals 1 to 8
+of damaged trees. Neither is refusal 10: it is counted on the Rust's lists.
 
-Everything is numbers. A case: how many names, their classes; how many records,
-their numbers; then for each run the number of the refusal and its record, or 0
-and 0 and the tables. A table: how many rows, then each row as how many numbers
-it has up to its last that is not 0, and those. 4294967295 is written as -.
+The input is in parts: the small trees, each large one, the damaged large ones.
+A line of 8 bytes says how many bytes a part has. The rest is numbers. A case:
+how many names, their classes; how many records, their numbers; then for each
+run the number of the refusal and its record, or 0 and 0 and the tables. A
+table: how many rows, then each row as how many numbers it has up to its last
+that is not 0, and those. 4294967295 is written as -, without a blank beside it.
+
+What each part holds is printed; captured entries are those of the first run,
+and how many of them are mutated.
 """
 import argparse
 import os
@@ -21,22 +27,28 @@ TRIAL = os.path.join(HERE, "..", "trial")
 sys.path.insert(0, TRIAL)
 
 import damage
+import large
 import random_trees
 import reading
 import rust
 import trees
+
+PART_MOST = 1048576
+MUTATED = 8
 
 
 def options():
     p = argparse.ArgumentParser(description=__doc__, formatter_class=argparse.RawDescriptionHelpFormatter)
     p.add_argument("--oracle", required=True, metavar="FOLDER", help="the folder of the oracle's program `oracle` (its bin/)")
     p.add_argument("--into", default=os.path.join(HERE, "..", "..", "crates", "replay"), metavar="FOLDER", help="where the files stdin and stdout go (crates/replay)")
-    p.add_argument("--random", type=int, default=360, metavar="N", help="how many random trees (360)")
+    p.add_argument("--random", type=int, default=360, metavar="N", help="how many small random trees (360)")
     p.add_argument("--seed", type=int, default=0, metavar="N", help="the seed of the first of them (0)")
     p.add_argument("--records", type=int, default=18, metavar="N", help="their most records (18)")
-    p.add_argument("--damaged", type=int, default=60, metavar="N", help="how many damaged trees (60)")
+    p.add_argument("--damaged", type=int, default=60, metavar="N", help="how many small damaged trees (60)")
     return p.parse_args()
 
+
+# ---- the lines of cases and answers, each a list of numbers
 
 def row(numbers):
     numbers = list(numbers)
@@ -56,38 +68,95 @@ def facts(f):
     return [[0, 0]] + table(f.rows) + table(f.captured) + table(f.arguments)
 
 
+def tree(classes, records):
+    return [[len(classes)] + list(classes), [len(records)]] + [list(r) for r in records]
+
+
+def refused(names, records):
+    """A damaged tree with its refusal."""
+    numbers = damage.flat(records)
+    return tree([0] * names, records) + [list(reading.refusal(names, numbers))] * 2
+
+
+# ---- what is expected
+
 def expected_of(case, one, two):
     nine, ends = reading.walk(case.records)
     if nine is not None:
         return (rust.Facts((9, nine)),) * 2
     fresh = rust.parse(one, case, ends)
+    ten = rust.over_limit(fresh, ends)
+    if ten is not None:
+        return (rust.Facts((10, ten)),) * 2
     return fresh, rust.parse(two, case, ends, fresh)
 
 
-def cases(o):
-    out = trees.scripts(os.path.join(TRIAL, "scripts.txt"))
-    return out + [random_trees.at_random(seed, o.records) for seed in range(o.seed, o.seed + o.random)]
+def answers(oracle, cases):
+    return map(expected_of, cases, rust.ask(oracle, cases, 1), rust.ask(oracle, cases, 2))
+
+
+# ---- the parts, each how many trees it has and its lines
+
+def small(o, oracle):
+    some = trees.scripts(os.path.join(TRIAL, "scripts.txt"))
+    some += [random_trees.at_random(seed, o.records) for seed in range(o.seed, o.seed + o.random)]
+    lines, count = [], len(some)
+    for case, both in zip(some, answers(oracle, some)):
+        lines += tree(case.classes, case.records) + facts(both[0]) + facts(both[1])
+    for names, numbers in damage.copies(some, o.damaged):
+        if len(numbers) % 6 == 0 and reading.refusal(names, numbers):
+            lines += refused(names, [numbers[i:i + 6] for i in range(0, len(numbers), 6)])
+            count += 1
+    return count, lines
+
+
+def title(case, both):
+    """A line on a large tree."""
+    fresh, settled = both
+    nesting = max(n for n, _ in reading.places(case.records)[0])
+    mutated = sum(1 for entry in fresh.captured if entry[2] & MUTATED)
+    told = [f.refused or (0, 0) for f in both]
+    return "%s: %d records, %d names, nesting %d, count %d, %d captured (%d), %d arguments, fresh %d at %d, settled %d at %d" % (
+        (case.label, len(case.records), len(case.classes), nesting, max(r[3] for r in case.records), len(fresh.captured), mutated,
+         len(fresh.arguments)) + told[0] + told[1])
+
+
+def large_parts(oracle):
+    some = large.cases()
+    cases = [l.case for l in some]
+    for l, both in zip(some, answers(oracle, cases)):
+        told = tuple(f.refused[0] if f.refused else 0 for f in both)
+        if told != (l.fresh, l.settled) or not 1000 <= len(l.case.records) <= 4096:
+            raise rust.Unknown("%s: refused %s" % (l.case.label, told))
+        print(title(l.case, both))
+        yield 1, tree(l.case.classes, l.case.records) + facts(both[0]) + facts(both[1])
+
+
+def damaged_part():
+    some = large.damaged()
+    return len(some), [line for names, records in some for line in refused(names, records)]
+
+
+# ---- the files
+
+def text(lines):
+    """The part, after its length."""
+    out = "".join(" ".join("-" if n == rust.NONE else str(n) for n in line) + "\n" for line in lines)
+    out = out.replace(" -", "-").replace("- ", "-")
+    if len(out) > PART_MOST:
+        raise rust.Unknown("a part of %d bytes" % len(out))
+    return "%7d\n%s" % (len(out), out)
 
 
 def main():
     o = options()
     oracle = os.path.join(o.oracle, "oracle")
-    some = cases(o)
-    lines, count = [], 0
-    for case, one, two in zip(some, rust.ask(oracle, some, 1), rust.ask(oracle, some, 2)):
-        lines += [[len(case.classes)] + list(case.classes), [len(case.records)] + [n for r in case.records for n in r]]
-        count += 1
-        for f in expected_of(case, one, two):
-            lines += facts(f)
-    for names, numbers in damage.copies(some, o.damaged):
-        refused = reading.refusal(names, numbers)
-        if refused and len(numbers) % 6 == 0 and len(numbers) <= 360 and names <= 64:
-            lines += [[names] + [0] * names, [len(numbers) // 6] + list(numbers), list(refused), list(refused)]
-            count += 1
+    parts = [small(o, oracle)] + list(large_parts(oracle)) + [damaged_part()]
     with open(os.path.join(o.into, "stdin"), "w") as out:
-        out.writelines(" ".join("-" if n == rust.NONE else str(n) for n in line) + "\n" for line in lines)
+        out.writelines(text(lines) for _, lines in parts)
     with open(os.path.join(o.into, "stdout"), "w") as out:
-        out.write("trees=%d answers=%d agree=%d\n" % (count, 2 * count, 2 * count))
+        for number, (count, _) in enumerate(parts, 1):
+            out.write("part=%d trees=%d answers=%d agree=%d\n" % (number, count, 2 * count, 2 * count))
 
 
 if __name__ == "__main__":

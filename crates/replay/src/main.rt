@@ -9,6 +9,7 @@ use table::wide;
 ghost use mathlib.Core.Path.{_≡_};
 ghost use Prim.Native.Nat.{_≤_};
 ghost use lib.ListN.{length};
+ghost use Rattle.io.specs.Counts.{Counts};
 ghost use Rattle.replay.specs.Reads.{Reads};
 
 // How many trees there were, how many answers, and how many of those agreed.
@@ -37,8 +38,10 @@ fn tallied(t: Tally, first: bool, second: bool) -> Tally {
     }
 }
 
-fn report(t: Tally) {
-    io::write_all(1, b"trees=");
+fn report(part: u64, t: Tally) {
+    io::write_all(1, b"part=");
+    io::print_decimal(1, part);
+    io::write_all(1, b" trees=");
     io::print_decimal(1, t.trees);
     io::write_all(1, b" answers=");
     io::print_decimal(1, t.answers);
@@ -173,18 +176,38 @@ fn replay(
     }
 }
 
-// Room for the input. As with the kit's buffers, the length alone is told.
+// Room for a part of the input. As with the kit's buffers, the length alone is told.
 fn space() -> [u8; 1048576]
     ensures { λ r. ⌜ 1048576 ≡ length r ⌝ }
 {
     [0; 1048576]
 }
 
-fn main() {
+// How many bytes the next part has: the number in the 8 bytes before it; 0 at the end.
+fn next_size() -> usize {
+    let mut line = [0u8; 8];
+    let end = io::read_full(0, &mut line);
+    let size = next_number(&line[..end], 0);
+    wide(size.value)
+}
+
+// The next part; answers how many bytes there were. What does not fit is cut.
+fn read_part(input: &mut [u8]) -> usize
+    ensures { λ r. ⌜ Counts r (now (input .exit)) ⌝ }
+{
+    let size = least(next_size(), input.len());
+    io::read_full(0, &mut input[..size])
+}
+
+// Answers whether there was such a part.
+fn replay_part(part: u64) -> bool {
     let mut input = space();
-    let end = io::read_full(0, &mut input);
-    let mut classes = [0u8; 64];
-    let mut records = [0u32; 360];
+    let end = read_part(&mut input);
+    if end == 0 {
+        return false;
+    }
+    let mut classes = [0u8; 1025];
+    let mut records = [0u32; 24582];
     let mut facts = [0u32; 81920];
     let mut captured = [0u32; 53248];
     let mut arguments = [0u32; 53248];
@@ -198,5 +221,16 @@ fn main() {
         &mut work,
         &input[..end],
     );
-    report(t);
+    report(part, t);
+    true
+}
+
+fn main() {
+    let mut part = 1;
+    while part <= 64 {
+        if !replay_part(part) {
+            return;
+        }
+        part += 1;
+    }
 }
