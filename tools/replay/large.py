@@ -1,4 +1,10 @@
-"""The large trees: 1,000 to 4,096 records each, every one found from its own seed."""
+"""The large trees: 1,000 to 4,096 records each, and good but for what is said. Each is found from its own seed.
+
+They are large enough for what the port does otherwise in large trees: tables
+for more than 512 records; lists by an index of names where more than 128 names
+are live, or where a list of fewer has many live names above the bottom layer;
+lists that are sorted; the count of entries where live names could pass 4,096.
+"""
 from collections import namedtuple
 import random
 
@@ -74,39 +80,42 @@ def large(label, seed, classes, expressions, ids, fresh=0, settled=0, places=100
 
 def tower():
     """Nesting 64 three times: lambdas in one another, the inmost reads all their names; lambdas that each read all names
-    around; calls, lets, ifs and begins in one another."""
-    straight = reads(range(62))
+    around; calls, lets, ifs and begins in one another. Nearly 4,096 captured entries, and as many after the second run."""
+    straight = reads(range(124))
     for n in reversed(range(62)):
-        straight = function([n], straight)
+        straight = function([2 * n, 2 * n + 1], straight)
     around = begin(begin())
     for n in reversed(range(25)):
         more = map(ident, range(n))
         around = function([n], begin(*more, call(ident(n), around)) if n % 2 else begin(around, ident(n), *more))
     deep = ident(0)
     for n in reversed(range(62)):
-        some = reads([n, n // 2, 62])
-        deep = [call(ident(n), some, deep), let([n], [some], deep), (IF, 0, (), (some, deep, FALSE)), begin(assign(n), some, deep)][n % 4]
+        some = reads([n, n // 2, 124])
+        forms = [call(ident(n), some, deep), let([n], [some], deep), (IF, 0, (), (some, deep, FALSE)), begin(assign(n), some, deep)]
+        deep = forms[n % 4]
     return [straight, around, deep]
 
 
 def counts():
-    """Lambda, let, call and begin of 255 in one another, and a lambda that reads all names of both; the same of a let at top level."""
+    """Lambda, let, call and begin of 255 in one another, and a lambda that reads all names of both; a let of 255 at top
+    level, half of its names captured."""
     parameters, names = range(255), range(255, 510)
     inner = function([], begin(reads(parameters), reads(names)))
     body = call(*map(ident, names[:253]), inner, begin(*map(ident, parameters)))
     inside = function(parameters, let(names, map(ident, parameters), body))
-    return [inside, let(parameters, [ZERO] * 255, function([], reads(parameters)))]
+    return [inside, let(parameters, [ZERO] * 255, function([], reads(parameters[::2])))]
 
 
 def names():
-    """1,024 names: four lambdas of 255 in one another, 65 names in two of them; a let of 69 in the inmost, which reads all; a lambda there
-    has some of the names itself."""
+    """1,024 names: four lambdas of 255 in one another, 65 names in two of them; a let of 69 in the inmost, which reads all and sets
+    some of its own; a lambda there has some of the names itself; a lambda in each reads some before the next."""
     groups = [range(255), range(255, 510), range(510, 765), range(700, 955)]
     own = range(955, 1024)
     inner = function(range(690, 710), reads(range(0, 1024, 9)))
-    tree = let(own, map(ident, range(0, 690, 10)), begin(*map(reads, groups), reads(own), inner))
+    before, after = map(assign, range(702, 955, 9)), map(assign, range(700, 955, 6))
+    tree = let(own, map(ident, range(0, 690, 10)), begin(*before, *map(reads, groups), reads(own), inner, *after))
     for group in reversed(groups):
-        tree = function(group, tree)
+        tree = function(group, begin(function([], reads(group[-25::3])), tree))
     return [tree]
 
 
@@ -117,7 +126,8 @@ def sets():
         own, more = range(at, at + 8 * i + 8), range(at + 8 * i + 8, at + 8 * i + 12)
         users = [function([], begin(reads(own), call(ident(n), ident(n)))) for n in own[:4]]
         inside = begin(function([], reads(more)), *map(assign, more[i % 4:]), reads(own))
-        out.append(function(own, begin(*[assign(n, ident(n)) for n in own if n % 3], *users, let(more, map(ident, own[:4]), inside))))
+        assigned = [assign(n, ident(n)) for n in own if n % 3]
+        out.append(function(own, begin(*assigned, *users, let(more, map(ident, own[:4]), inside))))
         at += 8 * i + 12
     return out
 
@@ -138,7 +148,8 @@ def captured(lists, late=()):
 
 def over():
     """200 parameters in 20 lists; the one that passes 4,096 is that of the inmost of three lambdas more, which ends first."""
-    using = [function([], reads(n * k for n in range(1, 21))) for k in range(1, 10)] + [function([], ident(n)) for n in range(10)]
+    using = [function([], reads(n * k for n in range(1, 21))) for k in range(1, 10)]
+    using += [function([], ident(n)) for n in range(10)]
     inmost = function([], reads(range(5)))
     around = function([200], function([201], begin(ident(200), inmost, function([], ident(201)))))
     body = begin(function([], reads(range(200))), *using, begin(ident(0), around), function([], reads(range(200))))
@@ -155,6 +166,7 @@ def tall():
 
 # ---- at random
 
+# Weights of the forms: even; captures; captures that are set; inner defines; calls; a plain program.
 EVEN = (1, 1, 1, 1, 1, 1, 1)
 CAPTURES = (1, 1, 0, 8, 5, 1, 2)
 SETS = (0, 4, 0, 6, 7, 0, 5)
@@ -168,7 +180,7 @@ def classes_of(rng, n, choice):
 
 
 def at_random(label, seed, size, count, style, ids, classes=(0,), late=(), **more):
-    """The expressions `late` stand before the last tenth of the tree."""
+    """`size` records over `count` names, and the expressions `late` before the last tenth."""
     rng = random.Random(seed)
     maker = Maker(rng, count, style)
     expressions = maker.tree(size * 9 // 10) + list(late)
@@ -177,18 +189,18 @@ def at_random(label, seed, size, count, style, ids, classes=(0,), late=(), **mor
 
 
 def cases():
-    """The trees, with how often each style sets local names and has defines, and how many expressions about."""
     twice = function([0], let([0], [ZERO], ident(0)))
+    one_more = function([0], function([], ident(0)))
     every = range(256)
     return [
-        large("tower", 1, [0] * 63, tower(), falling),
+        large("tower", 1, [0] * 125, tower(), falling),
         large("counts", 2, [0] * 510, counts(), rising),
         large("names", 3, classes_of(random.Random(3), 1024, every), names(), mixed),
         large("sets", 4, [0] * 192, sets(), falling),
         large("lists", 10, [0] * 576, lists(), mixed),
         large("captured", 5, [0] * 70, captured(64), mixed),
-        large("captured and one", 6, [0] * 70, captured(64, [function([0], function([], ident(0)))]), mixed, 10, 10),
-        large("captured in a third", 7, [0] * 202, over(), falling, 10, 10),
+        large("captured and one", 6, [0] * 70, captured(64, [one_more]), mixed, fresh=10, settled=10),
+        large("captured in three", 7, [0] * 202, over(), falling, fresh=10, settled=10),
         large("tall", 8, [0, 1, 0, 0], tall(), rising),
         at_random("records", 4, 4096, 200, Style(PLAIN, 0, 30, 64), mixed),
         at_random("inner defines", 7, 1500, 60, Style(INNER, 1, 30, 24), mixed),
@@ -199,7 +211,7 @@ def cases():
         at_random("refused 11", 6, 1500, 50, Style(SETS, 20, 0, 8), mixed, settled=11),
         at_random("refused 12", 8, 1500, 50, Style(SETS, 20, 0, 8), mixed, settled=12),
         at_random("refused 9", 1, 1200, 40, Style(EVEN, 1, 50, 8), mixed, late=[twice], fresh=9, settled=9),
-        at_random("all alike", 2, 1100, 60, Style(EVEN, 1, 50, 8), far_apart, (0, 0, 0, 1, 2, 4, 8, 15), places=2**32),
+        at_random("far apart", 2, 1100, 60, Style(EVEN, 1, 50, 8), far_apart, (0, 0, 0, 1, 2, 4, 8, 15), places=2**32),
     ]
 
 
@@ -212,15 +224,14 @@ def changed(records, at, place, value):
 
 
 def damaged():
-    """Names and records that refusals 2 to 8 meet late, or at the limits."""
-    rng = random.Random(9)
-    tree = Maker(rng, 40, Style(EVEN, 1, 50, 8)).tree(1000) + [function([0], ident(0)), call(ident(0))]
-    good = large("", 9, (), tree, mixed).case.records
-    last = len(good) - 1
+    """How many names, the records, and the refusal, 2 to 8, which is met late or at a limit."""
+    maker = Maker(random.Random(9), 40, Style(EVEN, 1, 50, 8))
+    good = large("", 9, (), maker.tree(1000) + [function([0], ident(0)), call(ident(0))], mixed).case.records
+    deeper = large("", 9, (), [begin(), begin(*tower())], mixed).case.records
     empty = (BEGIN, 0, 0, 0, 5, 6)
-    deeper = large("", 9, (), [begin(), begin(tower()[2])], mixed).case.records
+    last = len(good) - 1
+    first_id = next(r[1] for r in good if r[1])
     return [
-        (0, [empty] * 4097), (1025, [empty] * 1000),
-        (40, changed(good, last, 2, 40)), (40, good[:-1]), (63, deeper), (40, changed(good, last - 3, 0, CONST)),
-        (40, changed(good, last - 1, 3, 0)), (40, changed(good, last, 1, good[last - 1][1])),
+        (0, [empty] * 4097, 2), (1025, [empty] * 1000, 2), (40, changed(good, last, 2, 40), 3), (40, good[:-1], 4), (125, deeper, 5),
+        (40, changed(good, last - 3, 0, CONST), 6), (40, changed(good, last - 1, 3, 0), 7), (40, changed(good, last, 1, first_id), 8),
     ]

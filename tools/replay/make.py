@@ -15,8 +15,9 @@ run the number of the refusal and its record, or 0 and 0 and the tables. A
 table: how many rows, then each row as how many numbers it has up to its last
 that is not 0, and those. 4294967295 is written as -, without a blank beside it.
 
-What each part holds is printed; captured entries are those of the first run,
-and how many of them are mutated.
+What each large tree has is printed, with how many captured entries there are
+after each run and how many of them are mutated. The files are the same each
+time: trees go by their seeds.
 """
 import argparse
 import os
@@ -72,10 +73,9 @@ def tree(classes, records):
     return [[len(classes)] + list(classes), [len(records)]] + [list(r) for r in records]
 
 
-def refused(names, records):
-    """A damaged tree with its refusal."""
-    numbers = damage.flat(records)
-    return tree([0] * names, records) + [list(reading.refusal(names, numbers))] * 2
+def refused(names, records, refusal):
+    """A damaged tree with its refusal, the same of both runs."""
+    return tree([0] * names, records) + [list(refusal)] * 2
 
 
 # ---- what is expected
@@ -104,21 +104,26 @@ def small(o, oracle):
     for case, both in zip(some, answers(oracle, some)):
         lines += tree(case.classes, case.records) + facts(both[0]) + facts(both[1])
     for names, numbers in damage.copies(some, o.damaged):
-        if len(numbers) % 6 == 0 and reading.refusal(names, numbers):
-            lines += refused(names, [numbers[i:i + 6] for i in range(0, len(numbers), 6)])
+        refusal = reading.refusal(names, numbers)
+        if refusal and len(numbers) % 6 == 0:
+            lines += refused(names, [numbers[i:i + 6] for i in range(0, len(numbers), 6)], refusal)
             count += 1
     return count, lines
 
 
 def title(case, both):
     """A line on a large tree."""
-    fresh, settled = both
     nesting = max(n for n, _ in reading.places(case.records)[0])
-    mutated = sum(1 for entry in fresh.captured if entry[2] & MUTATED)
-    told = [f.refused or (0, 0) for f in both]
-    return "%s: %d records, %d names, nesting %d, count %d, %d captured (%d), %d arguments, fresh %d at %d, settled %d at %d" % (
-        (case.label, len(case.records), len(case.classes), nesting, max(r[3] for r in case.records), len(fresh.captured), mutated,
-         len(fresh.arguments)) + told[0] + told[1])
+    count = max(r[3] for r in case.records)
+    line = "%s: %d records, %d names, nesting %d, count %d" % (case.label, len(case.records), len(case.classes), nesting, count)
+    for run, f in zip(("fresh", "settled"), both):
+        if f.refused:
+            line += "; %s: %d at %d" % ((run,) + f.refused)
+        else:
+            listed = [e for e in f.captured if any(e)]
+            mutated = sum(1 for e in listed if e[2] & MUTATED)
+            line += "; %s: %d captured, %d mutated, %d arguments" % (run, len(listed), mutated, len(f.arguments))
+    return line
 
 
 def large_parts(oracle):
@@ -126,15 +131,21 @@ def large_parts(oracle):
     cases = [l.case for l in some]
     for l, both in zip(some, answers(oracle, cases)):
         told = tuple(f.refused[0] if f.refused else 0 for f in both)
-        if told != (l.fresh, l.settled) or not 1000 <= len(l.case.records) <= 4096:
+        if told != (l.fresh, l.settled):
             raise rust.Unknown("%s: refused %s" % (l.case.label, told))
         print(title(l.case, both))
         yield 1, tree(l.case.classes, l.case.records) + facts(both[0]) + facts(both[1])
 
 
 def damaged_part():
-    some = large.damaged()
-    return len(some), [line for names, records in some for line in refused(names, records)]
+    lines, some = [], large.damaged()
+    for names, records, number in some:
+        refusal = reading.refusal(names, damage.flat(records))
+        if refusal is None or refusal[0] != number:
+            raise rust.Unknown("damaged: refused %s, not %d" % (refusal, number))
+        print("damaged: %d records, %d names; both: %d at %d" % ((len(records), names) + refusal))
+        lines += refused(names, records, refusal)
+    return len(some), lines
 
 
 # ---- the files
