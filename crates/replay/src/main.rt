@@ -199,7 +199,7 @@ fn read_part(input: &mut [u8]) -> usize
     io::read_full(0, &mut input[..size])
 }
 
-// Answers whether there was such a part.
+// Answers whether there was such a part. There is room for one name and one record more than are taken: for refusal 2.
 fn replay_part(part: u64) -> bool {
     let mut input = space();
     let end = read_part(&mut input);
