@@ -12,7 +12,8 @@ use table::wide;
 
 const LAST_ID: usize = 4294967294;
 
-const MOST_COUNT: usize = 255;
+// The largest count.
+const LARGEST: usize = 255;
 
 // A column for each limit, in it an entry for each form, form 0 included: an index by form then needs no multiplication.
 pub type Columns = [[usize; 10]; 10];
@@ -100,20 +101,9 @@ pub fn all(names: usize) -> Columns
         id_column(1, 1),
         id_column(0, LAST_ID),
         [0, 0, 0, 0, 0, 0, 0, 0, 1, 0],
-        [
-            0,
-            0,
-            0,
-            0,
-            MOST_COUNT,
-            0,
-            MOST_COUNT,
-            MOST_COUNT,
-            MOST_COUNT,
-            0,
-        ],
+        [0, 0, 0, 0, LARGEST, 0, LARGEST, LARGEST, LARGEST, 0],
         [1, names, 2, 1, 1, 1, 1, 1, 1, 1],
-        [0, MOST_COUNT, 0, 0, 0, 0, 0, 0, 0, 0],
+        [0, LARGEST, 0, 0, 0, 0, 0, 0, 0, 0],
         column(NAMES),
         column(NAMES + 1),
         column(CHILDREN),
