@@ -13,7 +13,8 @@ use Rattle.reading.specs.ReadLaws.{byte-end, byte-more}
 use Rattle.reading.specs.Lost.{reached, reached-byte, differs-lost, long-lost}
 use Rattle.reading.specs.declared.reader.Reading.{Reading}
 use Rattle.reading.specs.Held.{shown, spoiled, Tied, tied-nothing, tied-says, Going, Holds, going, lost, Starts, Fed, Turned, turned, spoilt, Turns}
-use Rattle.reading.proofs.Turn.{counted}
+use Rattle.reading.specs.Leaves.{between-none, Spares, Same, Leaves}
+use Rattle.reading.proofs.Spared.{counted, spares-none, spares-then, spares-spoiled}
 
 -- What is known while the lines are good
 
@@ -52,16 +53,19 @@ tied-as (tied-says v) =
 lost-more : {r : Reading} {L T R : List ℕ} (b c : List ℕ) (n : ℕ) → 0 < n → r .bad ≡ shown n → ((t : List ℕ) → read (b ++ t) ≡ bad n) → Holds r (b ++ c) L T R
 lost-more b c n p e k = lost n p e (λ t. ap read (append-assoc b c t) ∙ k (c ++ t))
 
+leaves-none : {r : Reading} {L T R : List ℕ} → Leaves r L T R r L T R
+leaves-none = record { long = refl; tables = spares-none; after-bad = λ h. record { state = refl; line = refl; classes = refl; records = refl } }
+
 pub fed-lost : (r : Reading) (c L T R : List ℕ) → (r .bad ≡ 0 → ⊥) → Fed c r L T R r L T R
-fed-lost r c L T R h = record { is = λ b x. go b x }
+fed-lost r c L T R h = record { is = λ b x. go b x; leaves = leaves-none }
   where
     go : (b : List ℕ) → Holds r b L T R → Holds r (b ++ c) L T R
     go b (going g) = absurd (h (tied-fine (g .tied)))
     go b (lost n p e k) = lost-more b c n p e k
 
-pub fed : (r : Reading) (c L T R : List ℕ) {q : Reading} {L′ T′ R′ : List ℕ} → r .bad ≡ 0
+pub fed : (r : Reading) (c L T R : List ℕ) {q : Reading} {L′ T′ R′ : List ℕ} → r .bad ≡ 0 → length L′ ≡ length L → Spares r T R q T′ R′
     → ((b : List ℕ) → Going r (reached b) L T R → Holds q (b ++ c) L′ T′ R′) → Fed c r L T R q L′ T′ R′
-fed r c L T R {q} {L′} {T′} {R′} h f = record { is = λ b x. go b x }
+fed r c L T R {q} {L′} {T′} {R′} h l k f = record { is = λ b x. go b x; leaves = record { long = l; tables = k; after-bad = λ n. absurd (n h) } }
   where
     go : (b : List ℕ) → Holds r b L T R → Holds q (b ++ c) L′ T′ R′
     go b (going g) = f b g
@@ -72,7 +76,7 @@ fed r c L T R {q} {L′} {T′} {R′} h f = record { is = λ b x. go b x }
 module _ (r : Reading) (L T R : List ℕ) where
   -- an LF
   pub byte-line : (x : ℕ) {q : Reading} {T′ R′ : List ℕ} → x ≡ LF → r .bad ≡ 0 → Turns (take (r .length) L) r T R q T′ R′ → Fed (x ∷ []) r L T R q L T′ R′
-  byte-line x {q} {T′} {R′} ex z w = fed r (x ∷ []) L T R z (λ b g. go b g (w .is (reached b .said) (g .tied)))
+  byte-line x {q} {T′} {R′} ex z w = fed r (x ∷ []) L T R z refl (w .spares) (λ b g. go b g (w .is (reached b .said) (g .tied)))
     where
       go : (b : List ℕ) → Going r (reached b) L T R → Turned (reached b .said) (take (r .length) L) q T′ R′ → Holds q (b ++ (x ∷ [])) L T′ R′
       go b g t =
@@ -92,7 +96,7 @@ module _ (r : Reading) (L T R : List ℕ) where
   -- no room for it
   pub byte-long : (x : ℕ) {q : Reading} → (x ≡ LF → ⊥) → r .bad ≡ 0 → r .length ≡ length L → q ≡ spoiled r → Fed (x ∷ []) r L T R q L T R
   byte-long x {q} nx z n eq =
-      fed r (x ∷ []) L T R z
+      fed r (x ∷ []) L T R z refl (spares-spoiled eq)
       (λ b g.
       let e : reached (b ++ (x ∷ [])) ≡ state (reached b .said) (reached b .rest ++ (x ∷ [])) =
       reached-byte b x ∙ byte-more (reached b) x (ne-eqb x LF nx) in
@@ -104,7 +108,7 @@ module _ (r : Reading) (L T R : List ℕ) where
   pub byte-kept : (x : ℕ) → (x ≡ LF → ⊥) → r .bad ≡ 0 → r .length < length L
       → Fed (x ∷ []) r L T R (counted (r .lines) (r .names) (r .classes) (r .records) (r .length + 1)) (set L (r .length) x) T R
   byte-kept x nx z n =
-      fed r (x ∷ []) L T R z
+      fed r (x ∷ []) L T R z (length-set L (r .length) x) (record { classes = between-none; records = between-none })
       (λ b g.
       let e : reached (b ++ (x ∷ [])) ≡ state (reached b .said) (reached b .rest ++ (x ∷ [])) =
       reached-byte b x ∙ byte-more (reached b) x (ne-eqb x LF nx) in
@@ -124,18 +128,35 @@ module _ (r : Reading) (L T R : List ℕ) where
       })))
 
   -- it cannot be
-  pub byte-never : (x : ℕ) {q : Reading} → r .bad ≡ 0 → length L < r .length → Fed (x ∷ []) r L T R q L T R
-  byte-never x z h = fed r (x ∷ []) L T R z (λ b g. absurd (omega (arith, g .many, g .inside)))
+  pub byte-never : (x : ℕ) {q : Reading} → r .bad ≡ 0 → length L < r .length → q ≡ spoiled r → Fed (x ∷ []) r L T R q L T R
+  byte-never x z h eq = fed r (x ∷ []) L T R z refl (spares-spoiled eq) (λ b g. absurd (omega (arith, g .many, g .inside)))
 
 -- One part after another
 
 pub fed-none : (r : Reading) (L T R : List ℕ) → Fed [] r L T R r L T R
-fed-none r L T R = record { is = λ b h. subst (λ (c : List ℕ). Holds r c L T R) (sym (append-nil b)) h }
+fed-none r L T R = record { is = λ b h. subst (λ (c : List ℕ). Holds r c L T R) (sym (append-nil b)) h; leaves = leaves-none }
+
+same-then : {r q p : Reading} {L T R L′ T′ R′ L″ T″ R″ : List ℕ} → Same r L T R q L′ T′ R′ → Same q L′ T′ R′ p L″ T″ R″ → Same r L T R p L″ T″ R″
+same-then v w = record {
+  state = w .state ∙ v .state;
+  line = w .line ∙ v .line;
+  classes = w .classes ∙ v .classes;
+  records = w .records ∙ v .records;
+}
+
+leaves-then : {r q p : Reading} {L T R L′ T′ R′ L″ T″ R″ : List ℕ} → Leaves r L T R q L′ T′ R′ → Leaves q L′ T′ R′ p L″ T″ R″ → Leaves r L T R p L″ T″ R″
+leaves-then v w = record {
+  long = w .long ∙ v .long;
+  tables = spares-then (v .tables) (w .tables);
+  after-bad = λ h.
+      let s = v .after-bad h in same-then s (w .after-bad (λ z. h (sym (ap (λ (x : Reading). x .bad) (s .state)) ∙ z)));
+}
 
 pub fed-then : {c d : List ℕ} {r q p : Reading} {L T R L′ T′ R′ L″ T″ R″ : List ℕ} → Fed c r L T R q L′ T′ R′ → Fed d q L′ T′ R′ p L″ T″ R″
     → Fed (c ++ d) r L T R p L″ T″ R″
 fed-then {c} {d} {r} {q} {p} {L″ = L″} {T″ = T″} {R″ = R″} v w = record {
   is = λ b h. subst (λ (l : List ℕ). Holds p l L″ T″ R″) (append-assoc b c d) (w .is (b ++ c) (v .is b h));
+  leaves = leaves-then (v .leaves) (w .leaves);
 }
 
 pub fed-turn : (chunk : List ℕ) (i : ℕ) {r q p : Reading} {L T R L′ T′ R′ L″ T″ R″ : List ℕ} → i < length chunk → Fed (take i chunk) r L T R q L′ T′ R′

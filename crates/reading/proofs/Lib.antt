@@ -1,4 +1,5 @@
 pub mod Places
+pub mod Spared
 pub mod Turn
 pub mod Bytes
 pub mod Ends

@@ -14,6 +14,8 @@ use Rattle.reading.specs.LineLaws.{Below, none-left, one-more, numbers-s
 use Rattle.reading.specs.ReadLaws.{line-class, line-record, class-fits, class-over}
 use Rattle.reading.specs.declared.reader.Reading.{Reading}
 use Rattle.reading.specs.Held.{shown, spoiled, Says, Tied, tied-nothing, tied-says, Turned, turned, spoilt, Turns, First, Class, Entry, RowStored}
+use Rattle.reading.specs.Leaves.{Spares}
+use Rattle.reading.proofs.Spared.{counted}
 
 -- A bad line
 
@@ -42,9 +44,6 @@ unfolding next withLine first
 first-none r e h o =
     let k : shown (r .lines + 1) ≡ shown 1 = omega arith in
     spoilt (ap (λ (x : Reading). x .bad) e ∙ k) (ap first o)
-
-abbrev pub counted : ℕ → ℕ → ℕ → ℕ → ℕ → Reading
-counted a n b k z = record { lines = a; bad = 0; names = n; classes = b; records = k; length = z }
 
 pub first-some : {T R l : List ℕ} {n : ℕ} → n < 2 ^ 32 → numbersOf namesMarks l ≡ some (n ∷ []) → Turned nothing l (counted 1 n 0 0 0) T R
 unfolding withLine first layout
@@ -117,6 +116,9 @@ keeps-record rs R R′ x i e k w h =
 row-is : {ns : List ℕ} → Below recordMarks ns → ns ≡ put (recordOf ns)
 row-is (one-more a (one-more b (one-more c (one-more d (one-more e (one-more f none-left)))))) = refl
 
+pub six-numbers : (l : List ℕ) {ns : List ℕ} → numbersOf recordMarks l ≡ some ns → length ns ≡ 6
+six-numbers l {ns} o = ap length (row-is (numbers-sound recordMarks l ns o .below))
+
 pub record-some : {r : Reading} {n : ℕ} {cs : List ℕ} {rs : List Record} {T R R′ l ns : List ℕ} {a b : ℕ} → Says r n cs rs T R → n ≤ length cs
     → numbersOf recordMarks l ≡ some ns → a ≡ shown (r .lines + 1) → b ≡ shown (r .records + 1) → RowStored R (r .records) ns R′
     → Turned (says n cs rs) l (counted a (r .names) (r .classes) b 0) T R′
@@ -142,22 +144,22 @@ record-some {r} {n} {cs} {rs} {T} {R} {R′} {l} {ns} v h o ea eb w =
 
 -- Which line is due
 
-turns : {r q : Reading} {l T R T′ R′ : List ℕ} → (Tied r T R nothing → Turned nothing l q T′ R′)
+turns : {r q : Reading} {l T R T′ R′ : List ℕ} → Spares r T R q T′ R′ → (Tied r T R nothing → Turned nothing l q T′ R′)
     → ((n : ℕ) (cs : List ℕ) (rs : List Record) → Says r n cs rs T R → Turned (says n cs rs) l q T′ R′) → Turns l r T R q T′ R′
-turns {r} {q} {l} {T} {R} {T′} {R′} f g = record { is = go }
+turns {r} {q} {l} {T} {R} {T′} {R′} k f g = record { is = go; spares = k }
   where
     go : (s : Said) → Tied r T R s → Turned s l q T′ R′
     go nothing (tied-nothing h e) = f (tied-nothing h e)
     go (says n cs rs) (tied-says v) = g n cs rs v
 
 pub turns-first : {r q : Reading} {l T R : List ℕ} → r .lines ≡ 0 → First l r q → Turns l r T R q T R
-turns-first {r} {q} {l} {T} {R} h w = turns (λ t. w .is T R h) (λ n cs rs v. absurd (omega (arith, v .lines)))
+turns-first {r} {q} {l} {T} {R} h w = turns (w .spares T R h) (λ t. w .is T R h) (λ n cs rs v. absurd (omega (arith, v .lines)))
 
 begun : {r : Reading} {T R : List ℕ} → (r .lines ≡ 0 → ⊥) → Tied r T R nothing → ⊥
 begun h (tied-nothing g e) = h g
 
 pub turns-class : {r q : Reading} {l T R T′ : List ℕ} → (r .lines ≡ 0 → ⊥) → r .classes < r .names → Class l r T q T′ → Turns l r T R q T′ R
-turns-class {R = R} h g w = turns (λ t. absurd (begun h t)) (λ n cs rs v. w .is R n cs rs v (omega (arith, v .classes, v .names)))
+turns-class {R = R} h g w = turns (w .spares R h) (λ t. absurd (begun h t)) (λ n cs rs v. w .is R n cs rs v (omega (arith, v .classes, v .names)))
 
 pub turns-record : {r q : Reading} {l T R R′ : List ℕ} → (r .lines ≡ 0 → ⊥) → r .names ≤ r .classes → Entry l r R q R′ → Turns l r T R q T R′
-turns-record {T = T} h g w = turns (λ t. absurd (begun h t)) (λ n cs rs v. w .is T n cs rs v (omega (arith, v .classes, v .names)))
+turns-record {T = T} h g w = turns (w .spares T h) (λ t. absurd (begun h t)) (λ n cs rs v. w .is T n cs rs v (omega (arith, v .classes, v .names)))

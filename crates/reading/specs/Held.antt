@@ -1,11 +1,14 @@
 -- What the reader's state says of the bytes so far, and what each of its functions promises.
 use Prim.Native.Nat.{ℕ, _+_, _*_, _^_, _≤_, _<_, min}
+use mathlib.Core.Bool.{true, false}
 use mathlib.Core.List.{List, [], _++_}
 use mathlib.Core.Path.{_≡_}
+use lib.Dec.{eqb, ltb}
 use lib.ListN.{length, take}
 use lib.Seq.{sets}
 use Rattle.tree.specs.Record.{Record, numbers}
 use Rattle.reading.specs.Reading.{Said, nothing, says, differs, next, withLine, State, state, withBytes, bad, good, read}
+use Rattle.reading.specs.Leaves.{Spares, Leaves}
 use Rattle.reading.specs.declared.reader.Reading.{Reading}
 use Rattle.reading.specs.declared.reader.Input.{Input}
 use Rattle.reading.specs.declared.reader.Input.the-variants as input
@@ -53,9 +56,10 @@ pub data Holds (r : Reading) (b L T R : List ℕ) : Type 0 where
 pub record Starts (r : Reading) : Type 0 where
   pub is : (L T R : List ℕ) → 92 ≤ length L → Holds r [] L T R
 
--- bytes more
+-- bytes more: the state that is held after them, and what is left as it was even where none was held before
 pub record Fed (c : List ℕ) (r : Reading) (L T R : List ℕ) (r′ : Reading) (L′ T′ R′ : List ℕ) : Type 0 where
   pub is : (b : List ℕ) → Holds r b L T R → Holds r′ (b ++ c) L′ T′ R′
+  pub leaves : Leaves r L T R r′ L′ T′ R′
 
 -- the end
 pub data Answers (b T R : List ℕ) : Input → Type 0 where
@@ -63,8 +67,23 @@ pub data Answers (b T R : List ℕ) : Input → Type 0 where
   is-good : {i j : ℕ} (cs : List ℕ) (rs : List Record) → read b ≡ good cs rs → i ≡ length cs → j ≡ shown (length rs) → Kept cs rs T R
       → Answers b T R (input.Good i j)
 
+-- the answer of any state, whether it holds any input or not
+unfoldable pub ended : Reading → Input
+ended r =
+    elim (eqb (r .bad) 0) [
+      | true ↦ elim (eqb (r .length) 0) [
+        | true ↦ elim (eqb (r .lines) 0) [
+          | true ↦ input.Bad 1
+          | false ↦ elim (ltb (r .classes) (r .names)) [ true ↦ input.Bad (shown (r .lines + 1)) | false ↦ input.Good (r .classes) (r .records) ]
+        ]
+        | false ↦ input.Bad (shown (r .lines + 1))
+      ]
+      | false ↦ input.Bad (r .bad)
+    ]
+
 pub record Finished (r : Reading) (a : Input) : Type 0 where
   pub is : (b L T R : List ℕ) → Holds r b L T R → Answers b T R a
+  pub any : a ≡ ended r
 
 -- A line more
 
@@ -74,19 +93,24 @@ pub data Turned (s : Said) (l : List ℕ) (r : Reading) (T R : List ℕ) : Type 
 
 pub record Turns (l : List ℕ) (r : Reading) (T R : List ℕ) (r′ : Reading) (T′ R′ : List ℕ) : Type 0 where
   pub is : (s : Said) → Tied r T R s → Turned s l r′ T′ R′
+  pub spares : Spares r T R r′ T′ R′
 
 -- the first, a class line, a record line
 pub record First (l : List ℕ) (r r′ : Reading) : Type 0 where
   pub is : (T R : List ℕ) → r .lines ≡ 0 → Turned nothing l r′ T R
+  pub spares : (T R : List ℕ) → r .lines ≡ 0 → Spares r T R r′ T R
 
 pub record Class (l : List ℕ) (r : Reading) (T : List ℕ) (r′ : Reading) (T′ : List ℕ) : Type 0 where
   pub is : (R : List ℕ) (n : ℕ) (cs : List ℕ) (rs : List Record) → Says r n cs rs T R → length cs < n → Turned (says n cs rs) l r′ T′ R
+  pub spares : (R : List ℕ) → ¬ (r .lines ≡ 0) → Spares r T R r′ T′ R
 
 pub record Entry (l : List ℕ) (r : Reading) (R : List ℕ) (r′ : Reading) (R′ : List ℕ) : Type 0 where
   pub is : (T : List ℕ) (n : ℕ) (cs : List ℕ) (rs : List Record) → Says r n cs rs T R → n ≤ length cs → Turned (says n cs rs) l r′ T R′
+  pub spares : (T : List ℕ) → ¬ (r .lines ≡ 0) → Spares r T R r′ T R′
 
 -- row i is written where it fits
 pub record RowStored (R : List ℕ) (i : ℕ) (row : List ℕ) (R′ : List ℕ) : Type 0 where
   pub is : 6 * i + 6 ≤ length R → R′ ≡ sets R (6 * i) row
+  pub out : length R < 6 * i + 6 → R′ ≡ R
   pub long : length R′ ≡ length R
   pub small : length R < 2 ^ 64

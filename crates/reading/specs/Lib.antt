@@ -2,6 +2,7 @@ pub mod Reading
 pub mod NumberLaws
 pub mod LineLaws
 pub mod Found
+pub mod Leaves
 pub mod Held
 pub mod Lost
 pub mod Input

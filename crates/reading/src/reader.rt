@@ -8,7 +8,8 @@ ghost use Prim.Native.Nat.{_+_};
 ghost use lib.ListN.{set};
 ghost use Rattle.reading.specs.Held.{shown, spoiled, Starts, First, Class, Entry, Turns, Fed, Finished, RowStored};
 
-// What was read so far. Numbers of lines and records stop at the largest that there is.
+// What was read so far. Numbers of lines and records stop at the largest that there is. Before the first line has ended the numbers of names, classes and
+// records are free, and after a bad line all but `bad` are: they stay as they were then.
 pub struct Reading {
     // lines that have ended
     pub lines: u64,
@@ -155,7 +156,7 @@ fn one_byte(x: u8, line: &mut [u8], classes: &mut [u8], records: &mut [u32], r: 
         q (now (line .exit)) (now (classes .exit)) (now (records .exit)) ⌝ }
 {
     let n = r.length;
-    if r.bad != 0 {
+    if r.bad > 0 {
         return r;
     }
     if line.len() < n {
@@ -178,7 +179,9 @@ fn one_byte(x: u8, line: &mut [u8], classes: &mut [u8], records: &mut [u32], r: 
     }
 }
 
-// What was read, with the bytes of the chunk after it.
+// What was read, with the bytes of the chunk after it. Left free: the line buffer past the line that has not ended, the tables past what was read, a table
+// that has no room for all of it, and everything where the state held no input before, as one made by hand or with a line buffer of less than 92 bytes.
+// What holds of these all the same (`Leaves`): every length stays, entries are written only for what was now read, and after a bad line nothing is changed.
 pub fn feed(
     chunk: &[u8],
     line: &mut [u8],
@@ -198,7 +201,7 @@ pub fn feed(
     q
 }
 
-// The input has ended.
+// The input has ended. Of a state that holds no input the answer is `ended` too.
 pub fn finish(r: Reading) -> Input
     ensures { λ a. ⌜ Finished r a ⌝ }
 {

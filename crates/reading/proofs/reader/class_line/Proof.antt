@@ -2,6 +2,7 @@
 use mathlib.Core.Path.{ap, _∙_}
 use native.Mathlib.Omega.{arith}
 use Rattle.reading.specs.Found.{ones}
+use Rattle.reading.proofs.Spared.{spares-spoiled, spares-class}
 use Rattle.reading.proofs.Turn.{class-none, class-large, class-some}
 use borrow.Author.Needs.{needs}
 use Rattle.reading.proofs.reader.class_line.Statement.{statement}
@@ -26,7 +27,10 @@ returns : tie.Need-returns
 returns c =
     let c₁ = c .before in
     let c₂ = c₁ .before .before in
-    record { is = λ R n cs rs v h. class-none v (c .spoil .ensures) h (c₂ .single .ensures ∙ ap ones (c₁ .enum-told .given .1)) }
+    record {
+      is = λ R n cs rs v h. class-none v (c .spoil .ensures) h (c₂ .single .ensures ∙ ap ones (c₁ .enum-told .given .1));
+      spares = λ R h. spares-spoiled (c .spoil .ensures);
+    }
 
 spoil-requires-2 : tie.Need-spoil-requires-2
 spoil-requires-2 c κs = search needs
@@ -36,7 +40,10 @@ returns-2 c =
     let c₁ = c .before in
     let c₂ = c₁ .before .before in
     let c₃ = c₂ .before .before in
-    record { is = λ R n cs rs v h. class-large v (c .spoil2 .ensures) h (c₃ .single .ensures ∙ ap ones (c₂ .c .given .1)) (c₁ .if1 .taken) }
+    record {
+      is = λ R n cs rs v h. class-large v (c .spoil2 .ensures) h (c₃ .single .ensures ∙ ap ones (c₂ .c .given .1)) (c₁ .if1 .taken);
+      spares = λ R h. spares-spoiled (c .spoil2 .ensures);
+    }
 
 cast-store-class : tie.Need-cast-store-class
 cast-store-class c = search needs
@@ -59,9 +66,11 @@ returns-3 c =
     let c₂ = c₁ .before .before .before in
     let c₃ = c₂ .before .before .before .before in
     let c₄ = c₃ .before .before in
+    let c₅ = c₄ .before .before .before .before in
     record {
       is = λ R n cs rs v h.
           class-some v h (omega arith) (c₄ .single .ensures ∙ ap ones (c₃ .c .given .1)) (c₁ .next .ensures) (c .next2 .ensures) (c₂ .store-class .ensures);
+      spares = λ R h. spares-class _ h (c₁ .next .ensures) _ (omega (arith, c₅ .good)) (omega (arith, c₅ .good)) (c .next2 .ensures) (c₂ .store-class .ensures);
     }
 
 pub class-line-spec : {M : Type 1} → statement M

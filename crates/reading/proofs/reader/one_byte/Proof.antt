@@ -10,7 +10,7 @@ use Rattle.reading.proofs.reader.one_byte.Tie as tie
 returns : tie.Need-returns
 returns c =
     let c₁ = c .before .before .before .before .before in
-    let o = c₁ .args in fed-lost (o .r) _ (o .line .now) (o .classes .now) (o .records .now) (c .if1 .taken)
+    let o = c₁ .args in fed-lost (o .r) _ (o .line .now) (o .classes .now) (o .records .now) (λ z. absurd (omega (arith, c .if1 .taken)))
 
 spoil-requires : tie.Need-spoil-requires
 spoil-requires c κs = search needs
@@ -20,7 +20,7 @@ returns-2 c =
     let c₁ = c .before in
     let c₂ = c₁ .before in
     let c₃ = c₂ .before .before .before .before .before in
-    let o = c₃ .args in byte-never (o .r) (o .line .now) (o .classes .now) (o .records .now) (o .x) (c₂ .if1 .left) (c₁ .if2 .taken)
+    let o = c₃ .args in byte-never (o .r) (o .line .now) (o .classes .now) (o .records .now) (o .x) (omega (arith, c₂ .if1 .left)) (c₁ .if2 .taken) (c .spoil .ensures)
 
 slice-reshare-prefix-end-line : tie.Need-slice-reshare-prefix-end-line
 slice-reshare-prefix-end-line c = search needs
@@ -49,7 +49,7 @@ returns-3 c =
     let c₂ = c₁ .before .before .before .before in
     let c₃ = c₂ .before .before in
     let c₄ = c₃ .before .before .before .before .before in
-    let o = c₄ .args in byte-line (o .r) (o .line .now) (o .classes .now) (o .records .now) (o .x) (c₂ .if3 .taken) (c₃ .if1 .left) (c₁ .end-line .ensures)
+    let o = c₄ .args in byte-line (o .r) (o .line .now) (o .classes .now) (o .records .now) (o .x) (c₂ .if3 .taken) (omega (arith, c₃ .if1 .left)) (c₁ .end-line .ensures)
 
 spoil-requires-2 : tie.Need-spoil-requires-2
 spoil-requires-2 c κs = search needs
@@ -61,7 +61,7 @@ returns-4 c =
     let c₃ = c₂ .before .before in
     let c₄ = c₃ .before .before .before .before .before in
     let o = c₄ .args in
-    byte-long (o .r) (o .line .now) (o .classes .now) (o .records .now) (o .x) (c₂ .if3 .left) (c₃ .if1 .left) (c₁ .if4 .taken) (c .spoil2 .ensures)
+    byte-long (o .r) (o .line .now) (o .classes .now) (o .records .now) (o .x) (c₂ .if3 .left) (omega (arith, c₃ .if1 .left)) (c₁ .if4 .taken) (c .spoil2 .ensures)
 
 slice-write-line : tie.Need-slice-write-line
 slice-write-line c = search needs
@@ -77,7 +77,7 @@ returns-5 c =
     let c₁ = c .before in
     let c₂ = c₁ .before .before in
     let c₃ = c₂ .before .before .before .before .before in
-    let o = c₃ .args in byte-kept (o .r) (o .line .now) (o .classes .now) (o .records .now) (o .x) (c₁ .if3 .left) (c₂ .if1 .left) (omega arith)
+    let o = c₃ .args in byte-kept (o .r) (o .line .now) (o .classes .now) (o .records .now) (o .x) (c₁ .if3 .left) (omega (arith, c₂ .if1 .left)) (omega arith)
 
 pub one-byte-spec : {M : Type 1} → statement M
 one-byte-spec =

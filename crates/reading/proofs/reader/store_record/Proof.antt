@@ -18,10 +18,10 @@ same-length : tie.Need-same-length
 same-length c = search needs
 
 returns : tie.Need-returns
-returns c = search needs
+returns c = record { is = λ h. search needs; out = λ h. absurd (omega arith); long = search needs; small = search needs }
 
 returns-2 : tie.Need-returns-2
-returns-2 c = let o = (c .before .before) in record { is = λ h. absurd (omega arith); long = refl; small = omega arith }
+returns-2 c = let o = (c .before .before) in record { is = λ h. absurd (omega arith); out = λ h. refl; long = refl; small = omega arith }
 
 pub store-record-spec : {M : Type 1} → statement M
 store-record-spec =
