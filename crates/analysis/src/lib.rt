@@ -99,7 +99,8 @@ fn refused_second(p: Pass) -> Answer
     Answer::Accepted
 }
 
-fn clear_all(facts: &mut [u32], captured: &mut [u32], arguments: &mut [u32], work: &mut [u32])
+// What a refusal leaves, but 1.
+pub fn clear_all(facts: &mut [u32], captured: &mut [u32], arguments: &mut [u32], work: &mut [u32])
     requires { ⌜ lengthsFit (tables (now facts) (now captured) (now arguments) (now work)) ≡ true ⌝ }
     ensures { λ _. ⌜ tables (now (facts .exit)) (now (captured .exit)) (now (arguments .exit)) (now (work .exit)) ≡ zeros ⌝ }
 {

@@ -29,7 +29,7 @@ pub record Printed (d : List ℕ) (n : ℕ) : Type 0 where
 pub read-on : {r r′ : Reading} {L T R L′ T′ R′ : List ℕ} → Read r L T R → More r L T R r′ L′ T′ R′ → Read r′ L′ T′ R′
 read-on v w = record { bytes = v .bytes ++ w .bytes; holds = w .fed .is (v .bytes) (v .holds) }
 
-pub printed-of : {r : Reading} {L T R d d′ : List ℕ} {t : Tables} {n : ℕ} → Read r L T R → Answered r T R t d d′ n → textLength ≤ length d → allFit T R t ≡ true
+pub printed-of : {r : Reading} {L T R d d′ : List ℕ} {t t′ : Tables} {n : ℕ} → Read r L T R → Answered r T R t d t′ d′ n → textLength ≤ length d → allFit T R t ≡ true
     → Printed d′ n
 printed-of {L = L} {d′ = d′} {n = n} v w h e = record {
   bytes = v .bytes;

@@ -60,19 +60,26 @@ outcome-facts none f e = refl
 outcome-facts (some r) f e = absurd (Option·some-ne-none r e)
 
 pub fresh-in : {classes rs d : List ℕ} {t u : Tables} {a : Answer} {rows n : ℕ} → fitting rs t ≡ true → length rs ≡ width * rows → Fresh classes rs t (record { refused = refusalIn a; tables = u })
-    → OutcomeIn a (u .facts) rows d n → FreshIn classes rs d n
+    → OutcomeIn a (u .facts) rows d n → FreshIn classes rs u d n
 unfolding freshText freshOutcome
 fresh-in {classes} {rs} {d} {t} {u} {a} {rows} {n} h m x v = record {
   refused = λ r e.
       let o = x .answers .unsound h r e in
-      v .is (some r) [] (ap (λ (p : Outcome). p .refused) o) (λ z. absurd (Option·some-ne-none r z)) (λ i g. refl);
+      record {
+        text = v .is (some r) [] (ap (λ (p : Outcome). p .refused) o) (λ z. absurd (Option·some-ne-none r z)) (λ i g. refl);
+        tables = ap (λ (p : Outcome). p .tables) o;
+      };
   accepted = λ ts k.
       let o = x .answers .sound h ts k in
       let s = fresh classes ts in
       let q = refusedFirst (s .noted) in
-      v .is q (s .facts .rows)
-      (ap (λ (p : Outcome). p .refused) o ∙ outcome-refused q (s .facts))
-      (λ z. ap (λ (p : Outcome). p .tables .facts) o ∙ outcome-facts q (s .facts) z)
-      (rows-blank classes k rows m);
+      record {
+        text =
+            v .is q (s .facts .rows)
+            (ap (λ (p : Outcome). p .refused) o ∙ outcome-refused q (s .facts))
+            (λ z. ap (λ (p : Outcome). p .tables .facts) o ∙ outcome-facts q (s .facts) z)
+            (rows-blank classes k rows m);
+        tables = ap (λ (p : Outcome). p .tables) o;
+      };
   inside = v .inside;
 }

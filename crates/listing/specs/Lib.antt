@@ -1,5 +1,6 @@
 pub mod Listing
 pub mod Printed
 pub mod Fits
+pub mod Left
 pub mod Answered
 pub mod Scripts

@@ -1,5 +1,6 @@
 // What `facts` prints for an input, as one text. A text is made at the start of a buffer; the answer is how many bytes it takes.
 use analysis::Answer;
+use analysis::clear_all;
 use analysis::fit;
 use analysis::fresh;
 use printing::refusals::bad_line;
@@ -17,7 +18,7 @@ ghost use Rattle.semantic.specs.Rows.{rowWidth};
 ghost use Rattle.pass.specs.Run.{factsLength};
 ghost use Rattle.analysis.specs.Answer.{tables};
 ghost use Rattle.listing.specs.Listing.{recordsMost, textLength, allFit};
-ghost use Rattle.listing.specs.Answered.{RowAfter, RowsIn, FactsIn, OutcomeIn, FreshIn, Before, Few, InputIn, Answered};
+ghost use Rattle.listing.specs.Answered.{RowAfter, RowsIn, FactsIn, OutcomeIn, FreshIn, Counted, Few, InputIn, Answered};
 
 // The most records of an input.
 pub const RECORDS: usize = 512;
@@ -86,17 +87,13 @@ fn fresh_text(
 ) -> usize
     requires { ⌜ Few (now classes) (now records) (tables (now facts) (now captured) (now arguments) (now work)) names many ⌝ }
     requires { ⌜ textLength ≤ length (now out) ⌝ }
-    ensures { λ r. ⌜ FreshIn (take names (now (classes .entry))) (take (width * many) (now (records .entry))) (now (out .exit)) r ⌝ }
+    ensures { λ r. ⌜ FreshIn (take names (now (classes .entry))) (take (width * many) (now (records .entry)))
+        (tables (now (facts .exit)) (now (captured .exit)) (now (arguments .exit)) (now (work .exit))) (now (out .exit)) r ⌝ }
 {
     let numbers = 6 * many;
-    let a = fresh(
-        &records[..numbers],
-        &classes[..names],
-        facts,
-        captured,
-        arguments,
-        work,
-    );
+    let part = &records[..numbers];
+    let first = &classes[..names];
+    let a = fresh(part, first, facts, captured, arguments, work);
     outcome_text(a, facts, many, out)
 }
 
@@ -120,23 +117,17 @@ fn all_fit(
     fit(records, facts, captured, arguments, work)
 }
 
-// The refusal that needs no run, or 0.
-fn refused_before(fits: bool, names: u64, many: u64) -> u64
-    ensures { λ r. ⌜ Before fits names many r ⌝ }
+// Check 2: more records than the program takes, or more names than an operation does.
+fn too_many(names: u64, many: u64) -> bool
+    ensures { λ r. ⌜ Counted names many r ⌝ }
 {
-    if !fits {
-        return 1;
-    }
     if many > RECORDS as u64 {
-        return 2;
+        return true;
     }
-    if names > CLASS_TABLE as u64 {
-        return 2;
-    }
-    0
+    names > CLASS_TABLE as u64
 }
 
-// A good input of so many names and records.
+// A good input of so many names and records. A refusal that needs no run leaves the tables as one of the operation does.
 fn input_text(
     names: u64,
     many: u64,
@@ -149,12 +140,16 @@ fn input_text(
     out: &mut [u8],
 ) -> usize
     requires { ⌜ textLength ≤ length (now out) ⌝ }
-    ensures { λ r. ⌜ InputIn names many (now (classes .entry)) (now (records .entry)) (tables (now (facts .entry)) (now (captured .entry)) (now (arguments .entry)) (now (work .entry))) (now (out .exit)) r ⌝ }
+    ensures { λ r. ⌜ InputIn names many (now (classes .entry)) (now (records .entry))
+        (tables (now (facts .entry)) (now (captured .entry)) (now (arguments .entry)) (now (work .entry)))
+        (tables (now (facts .exit)) (now (captured .exit)) (now (arguments .exit)) (now (work .exit))) (now (out .exit)) r ⌝ }
 {
-    let fits = all_fit(classes, records, facts, captured, arguments, work);
-    let number = refused_before(fits, names, many);
-    if number != 0 {
-        return refused_line(number, 0, out);
+    if !all_fit(classes, records, facts, captured, arguments, work) {
+        return refused_line(1, 0, out);
+    }
+    if too_many(names, many) {
+        clear_all(facts, captured, arguments, work);
+        return refused_line(2, 0, out);
     }
     fresh_text(
         names as usize,
@@ -169,7 +164,8 @@ fn input_text(
     )
 }
 
-// The text for the bytes that were read.
+// The text for the bytes that were read; and the tables as the fresh run leaves them, where one is made. A bad line, refusal 1 and an `out` that is too short
+// leave them unchanged. Free is what stands in `out` behind the text: its length stays. A short `out` is unchanged.
 pub fn answer(
     r: Reading,
     classes: &[u8],
@@ -180,7 +176,9 @@ pub fn answer(
     work: &mut [u32],
     out: &mut [u8],
 ) -> usize
-    ensures { λ n. ⌜ Answered r (now (classes .entry)) (now (records .entry)) (tables (now (facts .entry)) (now (captured .entry)) (now (arguments .entry)) (now (work .entry))) (now (out .entry)) (now (out .exit)) n ⌝ }
+    ensures { λ n. ⌜ Answered r (now (classes .entry)) (now (records .entry))
+        (tables (now (facts .entry)) (now (captured .entry)) (now (arguments .entry)) (now (work .entry))) (now (out .entry))
+        (tables (now (facts .exit)) (now (captured .exit)) (now (arguments .exit)) (now (work .exit))) (now (out .exit)) n ⌝ }
 {
     if out.len() < TEXT {
         return 0;

@@ -1,14 +1,20 @@
 -- `answer`: nothing without room; else by what the bytes say.
-use mathlib.Core.Path.{refl, subst}
+use mathlib.Core.Path.{refl}
 use native.Mathlib.Omega.{arith}
-use Rattle.reading.specs.Held.{Answers}
-use Rattle.listing.proofs.Inputs.{bad-told, good-told}
+use Rattle.listing.proofs.Inputs.{bad-answered, good-answered}
 use borrow.Author.Needs.{needs}
 use Rattle.listing.proofs.answer.Statement.{statement}
 use Rattle.listing.proofs.answer.Tie as tie
 
 returns : tie.Need-returns
-returns c = record { is = λ h. absurd (omega arith); cramped = λ h. refl; inside = omega arith }
+returns c = record {
+  is = λ h. absurd (omega arith);
+  leaves = λ h. absurd (omega arith);
+  any = λ h. absurd (omega arith);
+  cramped = λ h. (refl, refl, refl);
+  inside = omega arith;
+  long = refl;
+}
 
 finish-requires : tie.Need-finish-requires
 finish-requires c κs = search needs
@@ -34,11 +40,7 @@ returns-2 c =
     let i = l .before .before .before in
     let f = i .before .before in
     let v = l .bad-line in
-    record {
-      is = λ h b L k. bad-told (subst (Answers b _ _) (i .input .given .1) (f .finish .ensures .is b L _ _ k)) (v .ensures);
-      cramped = λ h. absurd (omega (arith, f .before .if1 .left));
-      inside = omega (arith, v .ensures .short, v .kept .1 .0, f .before .if1 .left);
-    }
+    bad-answered (f .finish .ensures) (omega (arith, f .before .if1 .left)) (v .kept .1 .0) (i .input .given .1) (v .ensures) refl
 
 same-length-2 : tie.Need-same-length-2
 same-length-2 c = search needs
@@ -61,11 +63,7 @@ returns-3 c =
     let i = l .before .before .before .before .before .before .before in
     let f = i .before .before in
     let v = l .input-text in
-    record {
-      is = λ h b L k. good-told (subst (Answers b _ _) (i .input2 .given .1) (f .finish .ensures .is b L _ _ k)) (v .ensures);
-      cramped = λ h. absurd (omega (arith, f .before .if1 .left));
-      inside = v .ensures .inside;
-    }
+    good-answered (f .finish .ensures) (omega (arith, f .before .if1 .left)) (v .kept .1 .1 .1 .1 .1 .1 .1 .1 .0) (i .input2 .given .1) (v .ensures)
 
 pub answer-spec : {M : Type 1} → statement M
 answer-spec =

@@ -10,11 +10,11 @@ use Rattle.listing.proofs.fresh_text.Tie as tie
 mul-numbers : tie.Need-mul-numbers
 mul-numbers c = search needs
 
-slice-aggregate-fresh : tie.Need-slice-aggregate-fresh
-slice-aggregate-fresh c = let o = c .before .before .before .before .before .before .before .before in sym (part-long (o .pre .0))
+slice-aggregate-part : tie.Need-slice-aggregate-part
+slice-aggregate-part c = let o = c .before .before .before .before .before .before .before .before in sym (part-long (o .pre .0))
 
-slice-aggregate-fresh-2 : tie.Need-slice-aggregate-fresh-2
-slice-aggregate-fresh-2 c =
+slice-aggregate-first : tie.Need-slice-aggregate-first
+slice-aggregate-first c =
     let o = c .before .before .before .before .before .before .before .before .before in
     sym (length-take-le (o .args .names) (o .args .classes .now) (class-room (o .pre .0)))
 
@@ -54,8 +54,8 @@ fresh-text-spec =
     tie.close
     (tie.spec
     mul-numbers
-    slice-aggregate-fresh
-    slice-aggregate-fresh-2
+    slice-aggregate-part
+    slice-aggregate-first
     fresh-requires
     outcome-text-requires
     same-length
