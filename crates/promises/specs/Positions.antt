@@ -21,7 +21,7 @@ use Rattle.execution.specs.Positions.{Same}
 use Rattle.execution.specs.Carried.{positions-carried}
 use Rattle.promises.specs.Records.{bareRecords, same-refusal, same-trees}
 
--- two tables of facts: the same rows but for positions
+-- two tables of facts: the same rows but for positions. No other rows have those numbers (Back.antt `rows-same`).
 pub record SameRows (F G : List ℕ) : Type 0 where
   pub T : List Row
   pub U : List Row
