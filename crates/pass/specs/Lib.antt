@@ -10,7 +10,6 @@ pub mod Visitable
 pub mod Static
 pub mod TailPosition
 pub mod Laws
-pub mod Numbered
 pub mod Scripts
 pub mod Bare
 pub mod Recorded

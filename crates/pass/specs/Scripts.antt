@@ -28,7 +28,7 @@ use Rattle.pass.specs.Lists.{capturedIn, capturedVars, insertById, sortB
 use Rattle.pass.specs.Lambda.{enterName, enterNames, openCaptures, openScope, enterParameters, enterLambda, namesUsed, holdsLambda, markLasts, closeScope, closeCaptures, endParameters, makeFunction, amendFunction, leaveLambda, openLet, closeLet, enterLet, leaveNames, entered, leaveLet}
 use Rattle.pass.specs.Visit.{markArguments, endCall, clearContext, enterChildren, visit, enterTops, visitTop, visitTops}
 use Rattle.pass.specs.Run.{start, noFacts, run, fresh, settled, freshOutcome, settledOutcome, zeros, tablesOf}
-use Rattle.pass.specs.Numbered.{numbered, namesNumbered, accepted-as}
+use Rattle.tree.specs.Numbered.{numbered, namesNumbered, accepted-as}
 
 -- What the document says of the facts after the fresh run. A number before another is a record.
 

@@ -3,4 +3,3 @@ pub mod Text
 pub mod Puts
 pub mod Numbers
 pub mod Counts
-pub mod Sample

@@ -14,6 +14,7 @@ pub mod Check
 pub mod Accepted
 pub mod Starts
 pub mod Acceptance
+pub mod Numbered
 pub mod Answer
 pub mod FirstLaws
 pub mod Found
