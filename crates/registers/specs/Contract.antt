@@ -22,7 +22,7 @@ pub record AtomFits (N : ℕ) (rs : List ℕ) (form at : ℕ) (p : Pass) (F C w 
   pub good : Good rs s
   pub tied : Tied (raw p F C arguments w) s
 
--- a state becomes `visit` of the tree: with what an identifier reads, and as it was for a constant
+-- a state becomes `visit` of the tree: an identifier is read in it, a constant leaves it as it was
 pub record VisitsAtom (classes rs : List ℕ) (at : ℕ) (p : Pass) (F C w : List ℕ) (p′ : Pass) (F′ w′ : List ℕ) : Type 0 where
   pub is : (A : List ℕ) (t : Tree) (f : Flags) (s : State) → Stands (length classes) rs at t → Good rs s → Tied (raw p F C A w) s
       → Tied (raw p′ F′ C A w′) (visit classes t f s)
