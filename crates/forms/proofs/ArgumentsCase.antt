@@ -33,7 +33,8 @@ use Rattle.lists.specs.Contract.{Told, Infos}
 use Rattle.lists.specs.Given.{SomeEntry}
 use Rattle.forms.specs.Contract.{Fits}
 use Rattle.forms.specs.Bound.{BinderFits, LayerFits, NamesStore, StoresArgument, StoresLayer, StoresNames}
-use Rattle.forms.proofs.Idents.{known-ident, name-is, known-inside, known-few}
+use Rattle.work.specs.KnownLaws.{known-ident}
+use Rattle.forms.proofs.Idents.{name-is, known-inside, known-few}
 use Rattle.forms.proofs.EndsCase.{since-end, row-known}
 
 -- One binder

@@ -31,7 +31,8 @@ use Rattle.names.specs.Facts.{spanOf}
 use Rattle.forms.specs.Contract.{Fits, ClearsContext}
 use Rattle.forms.specs.FitsLaws.{fact-inside, facts-length, tied-insert, tied-context, told}
 use Rattle.forms.specs.Calls.{TellsSelf, Called, MakesCall}
-use Rattle.forms.proofs.Idents.{known-ident, span-is}
+use Rattle.work.specs.KnownLaws.{known-ident}
+use Rattle.forms.proofs.Idents.{span-is}
 
 -- Whether a fact refers to the define that the walk is in
 

@@ -40,7 +40,8 @@ use Rattle.forms.specs.Contract.{Fits, CallFits, EndsCall}
 use Rattle.forms.specs.FitsLaws.{fact-inside, tied-amend}
 use Rattle.forms.specs.GoodLaws.{sized-last}
 use Rattle.forms.specs.Calls.{Mentioned, IsLast, ArgumentFits, MarksArgument, ArgumentsFit, MarksArguments, MarksIfTail, Called, MakesCall}
-use Rattle.forms.proofs.Idents.{known-ident, name-is, id-is}
+use Rattle.work.specs.KnownLaws.{known-ident}
+use Rattle.forms.proofs.Idents.{name-is, id-is}
 use Rattle.forms.proofs.Trees.{Walks, Left, Head, left-all, left-done, left-head, step-few}
 use Rattle.work.specs.declared.scope.Binder.the-variants as binder
 

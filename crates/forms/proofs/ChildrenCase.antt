@@ -28,7 +28,7 @@ use Rattle.names.specs.Contract.{Room, Defined, DefinesBy}
 use Rattle.forms.specs.Contract.{Fits, NamesRoom, ChildFits, EntersChild, ChildrenFit, EntersChildren}
 use Rattle.forms.specs.Defines.{enterIf, enterOne, enterEach}
 use Rattle.forms.specs.GoodLaws.{good-define}
-use Rattle.forms.proofs.Idents.{known-ident}
+use Rattle.work.specs.KnownLaws.{known-ident}
 use Rattle.forms.proofs.Trees.{Walks, Left, Head, left-all, left-done, left-head, step-few}
 use Rattle.forms.proofs.DefinesCase.{define-here}
 

@@ -24,7 +24,8 @@ use Rattle.names.specs.Contract.{Room, Defined, DefinesBy}
 use Rattle.forms.specs.Contract.{Fits, DefineFits, BeforeDefine, EntersValue, AfterDefine}
 use Rattle.forms.specs.Defines.{enterValue}
 use Rattle.forms.specs.FitsLaws.{tied-context}
-use Rattle.forms.proofs.Idents.{known-ident, id-is}
+use Rattle.work.specs.KnownLaws.{known-ident}
+use Rattle.forms.proofs.Idents.{id-is}
 
 -- the name of a define that stands in its place
 pub define-here : {N : ℕ} {rs : List ℕ} {at : ℕ} {n : Node} {x : Ident} {t : Tree} {p : Pass} {F C A w : List ℕ} {s : State}

@@ -7,15 +7,11 @@ use lib.ListN.{length}
 use Rattle.tree.specs.Record.{Record, records}
 use Rattle.tree.specs.RecordLaws.{nth}
 use Rattle.tree.specs.Tree.{Ident, named}
-use Rattle.tree.specs.StandsLaws.{IdentAt}
 use Rattle.semantic.specs.declared.Span.{Span}
 use Rattle.pass.specs.Read.{span}
 use Rattle.pass.specs.Run.{rowsMost}
 use Rattle.work.specs.Known.{Known}
 use Rattle.names.specs.Facts.{spanOf}
-
-pub known-ident : {N : ℕ} {rs : List ℕ} {x : Ident} → IdentAt N rs x → Known rs x
-known-ident a = record { inside = a .inside; few = a .few; is = a .is }
 
 module _ {rs : List ℕ} {x : Ident} {at : ℕ} (k : Known rs x) (e : x .at ≡ at) where
   record-is : nth rs at ≡ named x

@@ -12,7 +12,7 @@ use Rattle.work.specs.Tied.{Raw, Tied, Here}
 use Rattle.walk.specs.declared.uses.Names.{Names}
 use Rattle.lists.specs.Contract.{Told}
 use Rattle.forms.specs.Contract.{Fits}
-use Rattle.forms.proofs.Idents.{known-ident}
+use Rattle.work.specs.KnownLaws.{known-ident}
 
 name-place : {N : ℕ} {rs : List ℕ} {i : ℕ} {x : Ident} {xs : List Ident} → NamesStand N rs i (x ∷ xs) → x .at ≡ i
 unfolding NumNames

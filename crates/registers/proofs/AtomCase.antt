@@ -10,6 +10,7 @@ use Rattle.tree.specs.StandsForms.{IdentOf, ident-of, const-of, form-range}
 use Rattle.pass.specs.State.{State}
 use Rattle.pass.specs.Read.{read}
 use Rattle.pass.specs.Visit.{visit}
+use Rattle.work.specs.KnownLaws.{known-ident}
 use Rattle.work.specs.Tied.{Raw, raw, Tied, Good, Here}
 use Rattle.work.specs.declared.Pass.{Pass}
 use Rattle.names.specs.Contract.{Readable, Does}
@@ -17,7 +18,7 @@ use Rattle.registers.specs.Contract.{AtomFits, VisitsAtom}
 
 ident-here : {N at : ℕ} {rs : List ℕ} {t : Tree} {s : State} {z : Raw} → (v : IdentOf N rs at t) → Good rs s → Tied z s → Here rs at z s (v .x)
 ident-here v g y = record {
-  known = record { inside = v .name .inside; few = v .name .few; is = v .name .is };
+  known = known-ident (v .name);
   place = v .here;
   good = g;
   tied = y;

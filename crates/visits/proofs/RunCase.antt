@@ -20,7 +20,8 @@ use Rattle.work.specs.declared.Pass.{Pass}
 use Rattle.walk.specs.Identifiers.{trees-hold}
 use Rattle.visits.specs.Runs.{Starts, anew, again, Ready, Runs}
 use Rattle.visits.specs.Tops.{TopsEnter, EntersTops, TopsFit, VisitsTops}
-use Rattle.visits.proofs.Views.{small, known}
+use Rattle.work.specs.KnownLaws.{known-ident}
+use Rattle.visits.proofs.Views.{small}
 
 -- what is not refused has no refusal 10
 no-ten : (n : Noted) → refusedFirst n ≡ none → n .ten ≡ none
@@ -32,7 +33,7 @@ no-ten n e = go (n .nine) (n .ten) e
     go (some j) (some i) e = cc
 
 all-known : {N : ℕ} {rs : List ℕ} {ts : Trees} → Accepted N rs ts → HoldsAll (Known rs) ts
-all-known {rs = rs} {ts} a = trees-hold (Known rs) (λ x i. known i) ts (accepted-stand a)
+all-known {rs = rs} {ts} a = trees-hold (Known rs) (λ x i. known-ident i) ts (accepted-stand a)
 
 module _ {classes rs : List ℕ} {ts : Trees} (a : Accepted (length classes) rs ts) where
   reliable : {f : Facts} → Starts classes ts f → Reliable (Known rs) (start f)

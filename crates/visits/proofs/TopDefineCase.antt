@@ -30,7 +30,8 @@ use Rattle.forms.specs.Contract.{Fits, DefineFits}
 use Rattle.flags.specs.declared.Flags.{Flags as Coded}
 use Rattle.visits.specs.Contract.{Fit, Done}
 use Rattle.visits.specs.Tops.{beforeTop, afterTop, BeforeTop, leavesTop, TopFits, VisitsTop}
-use Rattle.visits.proofs.Views.{part-on, own-record, small, known, names-room}
+use Rattle.work.specs.KnownLaws.{known-ident}
+use Rattle.visits.proofs.Views.{part-on, own-record, small, names-room}
 use Rattle.forms.specs.FitsLaws.{tied-context}
 
 -- Before the body
@@ -41,7 +42,7 @@ module _ {rs : List ℕ} {at : ℕ} {p : Pass} {F w : List ℕ} where
 
   here : {N : ℕ} {C A : List ℕ} {s : State} {n : Node} {x : Ident} {t : Tree} → NamedParts N rs at 5 n x t → Fits rs (raw p F C A w) s
       → Here rs (at + 1) (raw p F C A w) s x
-  here v f = record { known = known (v .name); place = v .place; good = f .good; tied = f .tied }
+  here v f = record { known = known-ident (v .name); place = v .place; good = f .good; tied = f .tied }
 
   pub value-fits : DefineFits rs at p F w → Room p × Defined rs (at + 1) p F w
   value-fits x = (

@@ -12,7 +12,6 @@ use Rattle.tree.specs.RecordLaws.{blank, nth, records-drop}
 use Rattle.tree.specs.Tree.{Ident, Node, Tree, Trees, lambda, begin, call}
 use Rattle.tree.specs.WithinLaws.{drop-records}
 use Rattle.tree.specs.Stands.{Stands, StandAll}
-use Rattle.tree.specs.StandsLaws.{IdentAt}
 use Rattle.scope_map.specs.MapLaws.{map-length}
 use Rattle.semantic.specs.declared.IdentifierStatus.the-variants.{LocallyDefinedFunction}
 use Rattle.semantic.specs.Rows.{Blank}
@@ -65,9 +64,6 @@ part-after l k =
 
 pub small : {rs : List ℕ} (x : Ident) → Known rs x → x .at < rowsMost
 small x k = k .few
-
-pub known : {N : ℕ} {rs : List ℕ} {x : Ident} → IdentAt N rs x → Known rs x
-known i = record { inside = i .inside; few = i .few; is = i .is }
 
 -- at the same record, told in another way
 

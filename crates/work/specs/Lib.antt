@@ -1,4 +1,5 @@
 pub mod Known
+pub mod KnownLaws
 pub mod Coded
 pub mod Works
 pub mod Passes
