@@ -7,7 +7,7 @@ use native.Mathlib.Omega.{arith}
 use lib.ListN.{length}
 use Rattle.tree.specs.Record.{records}
 use Rattle.tree.specs.RecordLaws.{nth}
-use Rattle.tree.specs.Tree.{Ident, Tree, Trees, ident, const, if, letin, define, lambda, begin, call, set!, many}
+use Rattle.tree.specs.Tree.{Tree, Trees, ident, const, if, letin, define, lambda, begin, call, set!, many}
 use Rattle.tree.specs.Parts.{own}
 use Rattle.tree.specs.Stands.{Stands, StandAll}
 use Rattle.tree.specs.StandsLaws.{root, root-form}

@@ -18,7 +18,7 @@ use Rattle.printing.specs.Numeral.{below-or}
 use Rattle.printing.specs.Puts.{Line}
 use Rattle.printing.specs.Text.{refusedText, badText}
 use Rattle.reading.specs.Held.{shown, Kept, Answers, is-bad, is-good, Finished}
-use Rattle.reading.specs.Reading.{bad, good, read}
+use Rattle.reading.specs.Reading.{bad, good}
 use Rattle.reading.specs.declared.reader.Reading.{Reading}
 use Rattle.reading.specs.declared.reader.Input.{Input}
 use Rattle.reading.specs.declared.reader.Input.the-variants as input

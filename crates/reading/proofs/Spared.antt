@@ -5,7 +5,7 @@ use mathlib.Core.Logic.{⊎-elim}
 use mathlib.Core.Path.{_≡_, ap, sym, subst, _∙_}
 use native.Mathlib.Omega.{arith}
 use lib.ListN.{length, take, drop, set, length-append, length-set}
-use lib.Seq.{sets, sets-eq, set-out, take-set-le, drop-set-lt, take-append-le, take-at, drop-at, length-take-le}
+use lib.Seq.{sets-eq, set-out, take-set-le, drop-set-lt, take-append-le, take-at, drop-at, length-take-le}
 use Rattle.printing.specs.Numeral.{below-or}
 use Rattle.reading.specs.Leaves.{Between, between-none, between-then, begun, begun-none, begun-some, Spares}
 use Rattle.reading.specs.declared.reader.Reading.{Reading}

@@ -9,7 +9,7 @@ use lib.Seq.{getD-drop}
 use Rattle.table.specs.Part.{part-is}
 use Rattle.tree.specs.Record.{Record, width, records}
 use Rattle.tree.specs.RecordLaws.{blank, nth, records-drop}
-use Rattle.tree.specs.Tree.{Ident, Node, Tree, Trees, lambda, begin, call}
+use Rattle.tree.specs.Tree.{Ident, Node, Tree, Trees}
 use Rattle.tree.specs.WithinLaws.{drop-records}
 use Rattle.tree.specs.Stands.{Stands, StandAll}
 use Rattle.scope_map.specs.MapLaws.{map-length}

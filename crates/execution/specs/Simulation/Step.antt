@@ -3,7 +3,7 @@ use Prim.Native.Nat.{ℕ, zero, suc, _+_, _≤_}
 use mathlib.Core.List.{List, [], _∷_, _++_, tail}
 use mathlib.Core.Bool.{Bool}
 use mathlib.Core.Option.{Option}
-use mathlib.Core.Path.{_≡_, refl, ap, sym, _∙_}
+use mathlib.Core.Path.{_≡_, refl, ap, _∙_}
 use native.Mathlib.Omega.{arith}
 use lib.ListN.{length, drop}
 use Rattle.tree.specs.Tree.{Ident, Tree, Trees, many}
@@ -11,7 +11,7 @@ use Rattle.r7rs.specs.Machine.{After, Moment, Cells, state, lastN, butN}
 use Rattle.r7rs.specs.Plain.{Env, PVal, Store, PMem, PBody, PKont, POut, mem, body, bindEnv, locations, plainly}
 use Rattle.r7rs.specs.Steps
 use Rattle.r7rs.specs.Run.{Ran, tried, more, run, plain}
-use Rattle.semantic.specs.Rows.{Row, Blank, Variable, Function, CallSite, Let}
+use Rattle.semantic.specs.Rows.{Row}
 use Rattle.pass.specs.Static.{Ctx, Args, a-nil, a-cons, r-ident, r-const, r-if, r-let, r-define, r-lambda, r-begin, r-call, r-set, s-nil, s-one, s-more, Top, top-nil, top-cons}
 use Rattle.execution.specs.Slot.{SVal, SBody, SMem, SKont, SOut, frames, slots, bySlots}
 use Rattle.execution.specs.Simulation.Lists.{drop-tail, last-none, but-none}
