@@ -1,4 +1,5 @@
-// The C interface: both runs under plain names. To C a slice is a pointer and a length.
+// The C interface: both runs. To C a slice is a pointer and a length. The version of the interface stands in the functions' names, so that a header and an archive
+// of different versions do not link; the header gives the functions their plain names.
 use analysis::Answer;
 ghost use mathlib.Core.Path.{_≡_};
 ghost use Rattle.pass.specs.Run.{Fresh, Settled};
@@ -24,7 +25,7 @@ fn record_told(a: Answer) -> usize
 }
 
 #[no_mangle]
-pub extern "C" fn scheme_analysis_fresh(
+pub extern "C" fn scheme_analysis_fresh_v1(
     records: &[u32],
     classes: &[u8],
     facts: &mut [u32],
@@ -41,7 +42,7 @@ pub extern "C" fn scheme_analysis_fresh(
 }
 
 #[no_mangle]
-pub extern "C" fn scheme_analysis_settled(
+pub extern "C" fn scheme_analysis_settled_v1(
     records: &[u32],
     classes: &[u8],
     facts: &mut [u32],
