@@ -8,12 +8,14 @@
  *
  * LINK    cc -I bindings/c device.c target/staticlib/libscheme_analysis.a
  *         `rt staticlib scheme_analysis` proves the library and writes the archive, for x86-64 and the System V calling
- *         convention. It asks for one symbol from outside, memset.
+ *         convention. It asks for one symbol from outside, memset. `bindings/run install PREFIX` installs header, archive and
+ *         a file for pkg-config.
  * MEMORY  No heap, and no variables of its own: calls on different tables may run at once. The tables are lent by the caller;
  *         scheme_analysis_tables has all four. SCHEME_ANALYSIS_STACK bytes of stack are enough for any call.
  * TRUST   Rattle's compiler; and of the caller, that each pointer is aligned for its type and good for its length, for writing
  *         too where it is not const, and that the tables and *at overlap neither each other nor the inputs. Nothing else: any
- *         length and any content is answered, and the tables need not be initialised. A pointer of length 0 may be NULL.
+ *         length and any content is answered, and the tables need not be initialised. A pointer of length 0 may be NULL; at
+ *         must not.
  *
  * docs/ROWS.md has every table, docs/RULES.md every rule by which a field is set.
  */
@@ -28,6 +30,14 @@ extern "C" {
 #endif
 
 /*
+ * The version of this interface. It stands in the names of the library's symbols, so that a header and an archive of
+ * different versions fail at link time: the symbol that is undefined then has the header's version.
+ */
+#define SCHEME_ANALYSIS_VERSION 1
+#define scheme_analysis_fresh scheme_analysis_fresh_v1
+#define scheme_analysis_settled scheme_analysis_settled_v1
+
+/*
  * Sizes
  */
 enum {
@@ -38,7 +48,8 @@ enum {
     SCHEME_ANALYSIS_MOST_RECORDS = 4096,
     SCHEME_ANALYSIS_MOST_NAMES = 1024,
     SCHEME_ANALYSIS_MOST_COUNT = 255,
-    SCHEME_ANALYSIS_DEEPEST = 64, /* nesting; a top-level expression counts 1 */
+    SCHEME_ANALYSIS_DEEPEST = 64,         /* nesting; a top-level expression counts 1 */
+    SCHEME_ANALYSIS_MOST_CAPTURED = 4096, /* captured entries, of all lambdas together */
 
     /* how many numbers each table has */
     SCHEME_ANALYSIS_FACTS_LENGTH = 81920,
@@ -101,10 +112,16 @@ enum scheme_analysis_class {
 
 /*
  * The answer: 0, or the number of a refusal. *at is then the first record that it applies to, and 0 where it names none, as
- * after 0. Each check from 1 to 10 covers the whole script before the next.
+ * after 0. Each check from 1 to 10 covers the whole script before the next. _X stands for SCHEME_ANALYSIS_X below.
  *
- * Of 9: a lambda opens a scope, and so does a let outside all scopes. Any other let, and an inner define, binds its names in the
- * scope around it. At the top level a name may be defined again.
+ * Refusal 9 meets legal Scheme: (lambda () (let ((a 1)) (let ((a 2)) a))). A lambda opens a scope, and so does a let outside
+ * all scopes. Any other let, and an inner define, binds its names in the scope around it, the let until its body ends, the
+ * define until the scope does: here the second a meets the first. At the top level a name may be defined again.
+ *
+ * Such a script is to be renamed before the call. It suffices that these have different name numbers, what stands in inner
+ * lambdas aside: the parameters of a lambda and the names of all lets and inner defines in its body; and the names of a let
+ * outside all lambdas and of all lets and inner defines in its body. To rename is to give the binder and each of its
+ * references a number that nothing else in the script has, with class 0.
  */
 enum scheme_analysis_answer {
     SCHEME_ANALYSIS_ACCEPTED = 0,
@@ -113,25 +130,58 @@ enum scheme_analysis_answer {
     SCHEME_ANALYSIS_REFUSED_LENGTH = 1, /* the records are not a multiple of six numbers, or a table is not of its length */
 
     /* Every number of every table is 0: */
-    SCHEME_ANALYSIS_REFUSED_TOO_MANY = 2,           /* above SCHEME_ANALYSIS_MOST_RECORDS or _MOST_NAMES */
-    SCHEME_ANALYSIS_REFUSED_FIELD = 3,              /* a field not as above, but for a call's count of 0 */
-    SCHEME_ANALYSIS_REFUSED_MISSING = 4,            /* children missing at the end: *at is the number of records */
-    SCHEME_ANALYSIS_REFUSED_DEEP = 5,               /* a nesting of 65 */
-    SCHEME_ANALYSIS_REFUSED_NOT_A_NAME = 6,         /* another form where a name stands */
-    SCHEME_ANALYSIS_REFUSED_EMPTY_CALL = 7,         /* a call of count 0 */
-    SCHEME_ANALYSIS_REFUSED_REPEATED_ID = 8,        /* an id that an earlier record has */
-    SCHEME_ANALYSIS_REFUSED_LIVE_NAME = 9,          /* a name bound where it is live in the same scope: *at is that name */
-    SCHEME_ANALYSIS_REFUSED_TOO_MANY_CAPTURED = 10, /* above 4,096 captured entries: *at is the lambda whose list passes it */
+    SCHEME_ANALYSIS_REFUSED_TOO_MANY = 2,           /* too many records or names: above _MOST_RECORDS or _MOST_NAMES */
+    SCHEME_ANALYSIS_REFUSED_FIELD = 3,              /* a field of a record is not as above; a call's count of 0 is 7 */
+    SCHEME_ANALYSIS_REFUSED_MISSING = 4,            /* children are missing at the end: *at is the number of records */
+    SCHEME_ANALYSIS_REFUSED_DEEP = 5,               /* an expression is nested too deep: above _DEEPEST */
+    SCHEME_ANALYSIS_REFUSED_NOT_A_NAME = 6,         /* another form stands where a name should */
+    SCHEME_ANALYSIS_REFUSED_EMPTY_CALL = 7,         /* a call has count 0 */
+    SCHEME_ANALYSIS_REFUSED_REPEATED_ID = 8,        /* an earlier record has the same id */
+    SCHEME_ANALYSIS_REFUSED_LIVE_NAME = 9,          /* a name is bound where it is live in the same scope: *at is that name */
+    SCHEME_ANALYSIS_REFUSED_TOO_MANY_CAPTURED = 10, /* too many captured entries: *at is the lambda that passes _MOST_CAPTURED */
 
     /* The same, of scheme_analysis_settled alone; the first that its second run meets: */
-    SCHEME_ANALYSIS_REFUSED_HEAP_LET = 11,         /* a let outside all lambdas, a name of it captured and mutated: the name */
+    SCHEME_ANALYSIS_REFUSED_HEAP_LET = 11,         /* a let name outside all lambdas is captured and mutated: *at is that name */
     SCHEME_ANALYSIS_REFUSED_NO_CAPTURE_OFFSET = 12 /* a captured name is read, and its capture has only a read offset */
 };
+
+/* An answer in words */
+static inline const char *scheme_analysis_reason(uint32_t answer)
+{
+    switch (answer) {
+    case SCHEME_ANALYSIS_ACCEPTED: return "accepted";
+    case SCHEME_ANALYSIS_REFUSED_LENGTH: return "the records are not a multiple of six numbers, or a table is not of its length";
+    case SCHEME_ANALYSIS_REFUSED_TOO_MANY: return "too many records or names";
+    case SCHEME_ANALYSIS_REFUSED_FIELD: return "a field of a record is not as it should be";
+    case SCHEME_ANALYSIS_REFUSED_MISSING: return "children are missing at the end";
+    case SCHEME_ANALYSIS_REFUSED_DEEP: return "an expression is nested too deep";
+    case SCHEME_ANALYSIS_REFUSED_NOT_A_NAME: return "another form stands where a name should";
+    case SCHEME_ANALYSIS_REFUSED_EMPTY_CALL: return "a call has count 0";
+    case SCHEME_ANALYSIS_REFUSED_REPEATED_ID: return "an earlier record has the same id";
+    case SCHEME_ANALYSIS_REFUSED_LIVE_NAME: return "a name is bound where it is live in the same scope";
+    case SCHEME_ANALYSIS_REFUSED_TOO_MANY_CAPTURED: return "too many captured entries";
+    case SCHEME_ANALYSIS_REFUSED_HEAP_LET: return "a let name outside all lambdas is captured and mutated";
+    case SCHEME_ANALYSIS_REFUSED_NO_CAPTURE_OFFSET: return "a captured name is read, and its capture has only a read offset";
+    default: return "no answer of this library";
+    }
+}
 
 /*
  * The fresh run tells what each name refers to, its depth and slot, and the kind of each call. The settled run goes over the
  * script again with these facts: captured names are numbered, those also mutated as cells of the heap, and a reference
  * through a capture has these offsets in place of a slot.
+ *
+ * Fresh slots are for a machine that runs by frames. A call starts a frame with its arguments. Arguments and initial values are
+ * pushed on the frame as they are worked out; the call takes its arguments off, and the let its names when its body ends. A
+ * top-level expression has one frame, for depth 1 and the depth 2 of its lets. A lambda takes along a copy of the frames from
+ * depth 2 to its own. The value of a reference lies in the frame of its binder's depth, at the reference's stack_offset. Proved:
+ * a machine that finds parameters and let names by refers_to, depth and stack_offset alone, and gives up a frame before its
+ * return only at tail calls, stays in step with a plain Scheme machine. That is not said of a script with an inner define, nor
+ * of one where a set! sets a parameter or let name that an inner lambda mentions.
+ *
+ * Settled offsets are for closures that hold captured values, and cells for those that are set. A reference through a capture
+ * has no slot then, and a let name that became a cell has its place in the let for a slot: no machine can go by settled slots
+ * alone. The offsets are the definition's; that a machine can run by them is not proved.
  *
  *     facts       row i is the fact of record i; zeros where it has none, and past the last record
  *     captured    the captured lists of the lambdas, in the order in which they end; zeros where no list lies
@@ -220,19 +270,26 @@ typedef struct scheme_analysis_list {
     uint32_t length;
 } scheme_analysis_list;
 
-/* An identifier: a binder, where a define, lambda or let names it, else a reference */
+/*
+ * An identifier: a binder, where a define, lambda or let names it, else a reference. The target of a set! is a reference.
+ *
+ * usage_count, fresh: of a binder its references, and for a parameter or let name each set! once more; of a reference 1, or 0
+ * without a binder. Settled, where no define is inner: of a parameter without the references from inner lambdas, so that the x
+ * of (lambda (x) (lambda () x)) has 0; of a let name that inner lambdas mention no count, but what its last reference left; of
+ * other binders as fresh; of a reference 1. The entries of argument lists keep the fresh counts.
+ */
 typedef struct scheme_analysis_variable {
     uint32_t kind;                    /* enum scheme_analysis_kind */
     uint32_t set_bang;                /* binder: whether a set! sets it */
     uint32_t depth;                   /* 1, and 1 for each scope around; 1 of a reference to a define */
     uint32_t shadows;                 /* binder: id of the binder that it hides, or none */
-    uint32_t usage_count;             /* binder: how often it is used; reference: 1, or 0 without a binder (settled: 1) */
+    uint32_t usage_count;             /* see above; of use after a fresh run */
     scheme_analysis_span span;
     uint32_t refers_to;               /* reference: id of its binder, or none */
     uint32_t aliases_to;              /* binder of a top-level define: id of the identifier that is its body, or none */
     uint32_t builtin;                 /* whether it is of class prelude, or a module getter defines it */
     uint32_t last_usage;              /* reference: whether it is the last, or the last before a tail call */
-    uint32_t stack_offset;            /* reference: the slot in its binder's frame, or none */
+    uint32_t stack_offset;            /* reference: the slot in its binder's frame, or none, as settled through a capture */
     uint32_t escapes;                 /* 0 */
     uint32_t capture_index;           /* settled reference through a capture: its capture_offset, or none; see the entry */
     uint32_t read_capture_offset;     /* the same: its read_capture_offset, or none */
@@ -263,11 +320,17 @@ typedef struct scheme_analysis_let {
     uint32_t unused[15];
 } scheme_analysis_let;
 
-/* A call */
+/*
+ * A call
+ *
+ * self is the number of lambdas around the call, from the nearest define directly in an inner begin on. The call of f in
+ * (define f (lambda (x) (lambda (y) (f x)))) is a self tail call with self 2: the frame that it gives up is not one of f's. And
+ * f may have been set by then. What is proved of tail calls is of a machine that takes a self tail call for a tail call.
+ */
 typedef struct scheme_analysis_call_site {
     uint32_t row;              /* SCHEME_ANALYSIS_ROW_CALL_SITE */
     uint32_t kind;             /* enum scheme_analysis_call_kind */
-    uint32_t self;             /* the number of a self tail call, or none */
+    uint32_t self;             /* of a self tail call, else none */
     scheme_analysis_span span; /* of its head where that is an identifier, else its own */
     uint32_t unused[15];
 } scheme_analysis_call_site;
@@ -275,11 +338,11 @@ typedef struct scheme_analysis_call_site {
 enum scheme_analysis_call_kind {
     SCHEME_ANALYSIS_CALL_NORMAL = 1,
     SCHEME_ANALYSIS_CALL_TAIL_CALL = 2,     /* may give up its frame */
-    SCHEME_ANALYSIS_CALL_SELF_TAIL_CALL = 3 /* a tail call of the define that it stands in */
+    SCHEME_ANALYSIS_CALL_SELF_TAIL_CALL = 3 /* a tail call by the name of the define that it stands in */
 };
 
 /*
- * An entry of a captured or an argument list: a binder, and what the scope knew of it when the list was made.
+ * An entry of a captured or an argument list: a binder, and what the scope knew of it when the fresh run made the list.
  *
  * The settled run numbers each captured list: the entries that are not mutated from 0 (read_capture_offset), then the mutated
  * ones from 0 (read_heap_offset, local_heap_offset). capture_offset, heap_offset and parent_heap_offset say where the lambda
@@ -352,6 +415,22 @@ static inline const scheme_analysis_call_site *scheme_analysis_call_site_of(cons
     const uint32_t *row = scheme_analysis_row_of(facts, record);
 
     return row[0] == SCHEME_ANALYSIS_ROW_CALL_SITE ? (const scheme_analysis_call_site *)row : NULL;
+}
+
+/*
+ * The number of the record with an id, such as refers_to, shadows or function_context, in the records that the facts are of.
+ * SCHEME_ANALYSIS_NONE where there is none, as for the ids 0 and SCHEME_ANALYSIS_NONE. It looks at one record after another.
+ */
+static inline uint32_t scheme_analysis_record_of(const uint32_t *records, size_t records_length, uint32_t id)
+{
+    size_t i, count = records_length / SCHEME_ANALYSIS_RECORD_WIDTH;
+
+    if (id == 0 || id == SCHEME_ANALYSIS_NONE)
+        return SCHEME_ANALYSIS_NONE;
+    for (i = 0; i < count; i++)
+        if (records[SCHEME_ANALYSIS_RECORD_WIDTH * i + 1] == id)
+            return (uint32_t)i;
+    return SCHEME_ANALYSIS_NONE;
 }
 
 /* The first entry of a list, in its place in the table that the list is of. */
