@@ -1,8 +1,9 @@
 /*
  * Analyses (define f (lambda (x) (f x))), says the facts of each record in words and compares them with those of document 01.
- * Then a script that is refused. Exit status 1 where anything differs. Built and run by bindings/run.
+ * Then a script that is refused, with the reason. Exit status 1 where anything differs. Built and run by bindings/run.
  */
 #include <stdio.h>
+#include <string.h>
 
 #include "scheme_analysis.h"
 
@@ -81,7 +82,7 @@ static void say_variable(const scheme_analysis_variable *v, const char *name)
 {
     printf("%s, %s, depth %u, uses %u", name, kind_in_words(v->kind), (unsigned)v->depth, (unsigned)v->usage_count);
     if (v->refers_to != NONE)
-        printf(", refers to id %u", (unsigned)v->refers_to);
+        printf(", refers to record %u", (unsigned)scheme_analysis_record_of(sample[0], NUMBERS(sample), v->refers_to));
     if (v->stack_offset != NONE)
         printf(", slot %u", (unsigned)v->stack_offset);
     if (v->last_usage)
@@ -143,6 +144,11 @@ static void say(size_t record)
         printf("no fact\n");
 }
 
+static void say_refusal(uint32_t answer, size_t at)
+{
+    printf("refused %u at record %u: %s\n", (unsigned)answer, (unsigned)at, scheme_analysis_reason(answer));
+}
+
 static int variables_are_right(void)
 {
     size_t i;
@@ -186,7 +192,7 @@ static int sample_is_right(void)
 
     printf("(define f (lambda (x) (f x)))\n");
     if (answer != SCHEME_ANALYSIS_ACCEPTED) {
-        printf("refused %u at %u\n", (unsigned)answer, (unsigned)at);
+        say_refusal(answer, at);
         return 0;
     }
     for (record = 0; record < SAMPLE_RECORDS; record++)
@@ -201,18 +207,53 @@ static int refusal_is_right(void)
     uint32_t answer = scheme_analysis_fresh_in(&tables, twice[0], NUMBERS(twice), twice_classes, sizeof twice_classes, &at);
 
     printf("(lambda (x) (let ((x 1)) x))\n");
-    printf("refused %u at record %u\n", (unsigned)answer, (unsigned)at);
+    say_refusal(answer, at);
     return answer == SCHEME_ANALYSIS_REFUSED_LIVE_NAME && at == 3;
+}
+
+/* Whether ids lead to their records, and ids that no record has to none: those of twice are 1 to 6, at the records 0 to 5 */
+static int records_are_found(void)
+{
+    static const uint32_t absent[] = {0, 7, NONE};
+    uint32_t id;
+    size_t i;
+
+    for (id = 1; id <= 6; id++)
+        if (scheme_analysis_record_of(twice[0], NUMBERS(twice), id) != id - 1)
+            return 0;
+    for (i = 0; i < sizeof absent / sizeof absent[0]; i++)
+        if (scheme_analysis_record_of(twice[0], NUMBERS(twice), absent[i]) != NONE)
+            return 0;
+    /* a define has no id, and no records at all have none */
+    return scheme_analysis_record_of(sample[0], NUMBERS(sample), 0) == NONE && scheme_analysis_record_of(NULL, 0, 1) == NONE;
+}
+
+/* Whether the answers 0 to 12 have each a reason of their own, and all other numbers one more */
+static int reasons_differ(void)
+{
+    const uint32_t other = SCHEME_ANALYSIS_REFUSED_NO_CAPTURE_OFFSET + 1;
+    uint32_t a, b;
+
+    for (a = 0; a <= other; a++)
+        for (b = 0; b < a; b++)
+            if (strcmp(scheme_analysis_reason(a), scheme_analysis_reason(b)) == 0)
+                return 0;
+    return strcmp(scheme_analysis_reason(other), scheme_analysis_reason(NONE)) == 0;
+}
+
+static int stated(int right, const char *what)
+{
+    if (!right)
+        fprintf(stderr, "example.c: wrong: %s\n", what);
+    return right;
 }
 
 int main(void)
 {
-    int facts = sample_is_right();
-    int refusal = refusal_is_right();
+    int facts = stated(sample_is_right(), "the facts are not document 01's");
+    int refusal = stated(refusal_is_right(), "the refusal is not document 01's");
+    int records = stated(records_are_found(), "an id leads to another record");
+    int reasons = stated(reasons_differ(), "two answers have the same reason");
 
-    if (!facts || !refusal) {
-        fprintf(stderr, "example.c: %s not document 01's\n", !facts ? "the facts are" : "the refusal is");
-        return 1;
-    }
-    return 0;
+    return facts && refusal && records && reasons ? 0 : 1;
 }
