@@ -273,17 +273,18 @@ typedef struct scheme_analysis_list {
 /*
  * An identifier: a binder, where a define, lambda or let names it, else a reference. The target of a set! is a reference.
  *
- * usage_count, fresh: of a binder its references, and for a parameter or let name each set! once more; of a reference 1, or 0
- * without a binder. Settled, where no define is inner: of a parameter without the references from inner lambdas, so that the x
- * of (lambda (x) (lambda () x)) has 0; of a let name that inner lambdas mention no count, but what its last reference left; of
- * other binders as fresh; of a reference 1. The entries of argument lists keep the fresh counts.
+ * usage_count after a fresh run: a binder has its references, and a parameter or let name each set! once more; a reference has
+ * 1, or 0 without a binder. After a settled run it no longer says how often a name is used: of a parameter the references from
+ * inner lambdas are left out, so that the x of (lambda (x) (lambda () x)) has 0; a let name that inner lambdas mention has what
+ * its last reference left, which is no count; other binders are as fresh, and every reference has 1. All this where no define
+ * is inner. The entries of argument lists keep the fresh counts.
  */
 typedef struct scheme_analysis_variable {
     uint32_t kind;                    /* enum scheme_analysis_kind */
     uint32_t set_bang;                /* binder: whether a set! sets it */
     uint32_t depth;                   /* 1, and 1 for each scope around; 1 of a reference to a define */
     uint32_t shadows;                 /* binder: id of the binder that it hides, or none */
-    uint32_t usage_count;             /* see above; of use after a fresh run */
+    uint32_t usage_count;             /* see above */
     scheme_analysis_span span;
     uint32_t refers_to;               /* reference: id of its binder, or none */
     uint32_t aliases_to;              /* binder of a top-level define: id of the identifier that is its body, or none */
