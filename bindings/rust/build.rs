@@ -1,4 +1,5 @@
-//! Finds the static library: in the folder SCHEME_ANALYSIS_LIB, or where `rt staticlib` writes it in this repository.
+//! Says where the static library is: in the folder SCHEME_ANALYSIS_LIB, or where `rt staticlib` writes it in this repository.
+//! Only linking needs it, so where it is missing this warns and does not fail: `cargo check`, `clippy` and `doc` go through.
 
 use std::env;
 use std::path::{Path, PathBuf};
@@ -16,10 +17,12 @@ fn main() {
     println!("cargo:rerun-if-env-changed=SCHEME_ANALYSIS_LIB");
     println!("cargo:rerun-if-changed={}", archive.display());
     if !archive.is_file() {
-        eprintln!("there is no {}", archive.display());
-        eprintln!("make it by `rt staticlib scheme_analysis`, or set SCHEME_ANALYSIS_LIB to the folder that has it");
-        std::process::exit(1);
+        println!("cargo:warning=nothing can be linked yet: there is no {}", archive.display());
+        println!(
+            "cargo:warning=make it by `rt staticlib scheme_analysis`, or set SCHEME_ANALYSIS_LIB to the folder that has it"
+        );
     }
     println!("cargo:rustc-link-search=native={}", folder.display());
-    println!("cargo:rustc-link-lib=static=scheme_analysis");
+    // not bundled: the crate is built without the library, and what links the crate looks for it
+    println!("cargo:rustc-link-lib=static:-bundle=scheme_analysis");
 }

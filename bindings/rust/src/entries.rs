@@ -1,22 +1,23 @@
 //! Typed views of the captured and argument lists.
 
-use crate::{optional, ENTRY_WIDTH};
+use crate::{optional, part, ENTRY_WIDTH};
+use core::fmt;
 
 /// The numbers of an entry.
 pub(crate) type Entry = [u32; ENTRY_WIDTH];
 
 /// A captured or an argument list.
-#[derive(Clone, Copy, Debug)]
-pub struct Entries<'t>(&'t [Entry]);
+#[derive(Clone, Copy)]
+pub struct Entries<'t>(&'t [u32]);
 
 impl<'t> Entries<'t> {
-    pub(crate) fn of(table: &'t [Entry], first: u32, length: u32) -> Self {
-        Entries(&table[first as usize..][..length as usize])
+    pub(crate) fn of(table: &'t [u32], first: u32, length: u32) -> Self {
+        Entries(&table[ENTRY_WIDTH * first as usize..][..ENTRY_WIDTH * length as usize])
     }
 
     /// How many entries it has.
     pub fn len(&self) -> usize {
-        self.0.len()
+        self.0.len() / ENTRY_WIDTH
     }
 
     /// Whether it has none.
@@ -26,12 +27,18 @@ impl<'t> Entries<'t> {
 
     /// The entry at a place, counted from 0.
     pub fn get(&self, place: usize) -> Option<ScopeInfo<'t>> {
-        self.0.get(place).map(ScopeInfo)
+        part(self.0, place).map(ScopeInfo)
     }
 
     /// The entries in order.
     pub fn iter(self) -> impl ExactSizeIterator<Item = ScopeInfo<'t>> {
-        self.0.iter().map(ScopeInfo)
+        (0..self.len()).map(move |place| self.get(place).expect("it is below the length"))
+    }
+}
+
+impl fmt::Debug for Entries<'_> {
+    fn fmt(&self, f: &mut fmt::Formatter<'_>) -> fmt::Result {
+        f.debug_list().entries(self.iter()).finish()
     }
 }
 
@@ -42,8 +49,11 @@ impl<'t> Entries<'t> {
 /// ([`read_heap_offset`](Self::read_heap_offset), [`local_heap_offset`](Self::local_heap_offset)). The other three offsets say
 /// where the lambda around has the value or its cell (docs/RULES.md, 10). There are none after a fresh run, and never any in an
 /// argument list.
-#[derive(Clone, Copy, Debug)]
+#[derive(Clone, Copy)]
 pub struct ScopeInfo<'t>(&'t Entry);
+
+debug_by_field!(ScopeInfo: name, id, captured, escapes, captured_from_enclosing, mutated, usage_count, last_used, stack_offset,
+    capture_offset, heap_offset, read_capture_offset, read_heap_offset, parent_heap_offset, local_heap_offset, depth);
 
 impl ScopeInfo<'_> {
     fn mark(&self, bit: u32) -> bool {
@@ -80,7 +90,7 @@ impl ScopeInfo<'_> {
         self.mark(8)
     }
 
-    /// How often it is used.
+    /// How often the fresh run had met it when the list was made: a read counts 1, a set! 2. The settled run keeps the number.
     pub fn usage_count(&self) -> u32 {
         self.0[3]
     }
@@ -171,11 +181,12 @@ pub(crate) mod tests {
     #[test]
     fn a_list_has_its_entries() {
         let table = [entry(10, 0), entry(20, 0), entry(30, 0)];
-        let list = Entries::of(&table, 1, 2);
+        let list = Entries::of(table.as_flattened(), 1, 2);
         assert_eq!((list.len(), list.is_empty()), (2, false));
         assert_eq!(list.get(0).map(|entry| entry.name()), Some(20));
         assert_eq!(list.get(1).map(|entry| entry.name()), Some(30));
         assert!(list.get(2).is_none());
-        assert!(Entries::of(&table, 3, 0).is_empty());
+        assert!(list.iter().map(|entry| entry.name()).eq([20, 30]));
+        assert!(Entries::of(table.as_flattened(), 3, 0).is_empty());
     }
 }

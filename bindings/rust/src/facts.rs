@@ -1,43 +1,69 @@
 //! Typed views of the tables after an accepted run. A view is a reference to its numbers.
 
-use crate::entries::{Entries, Entry};
-use crate::{optional, Tables, ROW_WIDTH};
+use crate::{optional, part, Entries, Record, Tables, RECORD_WIDTH, ROW_WIDTH};
+use core::fmt;
 
 /// The numbers of a row of the facts.
 type Numbers = [u32; ROW_WIDTH];
 
 /// The facts of a script: a row for each record.
-#[derive(Clone, Copy, Debug)]
+#[derive(Clone, Copy)]
 pub struct Facts<'t> {
-    records: usize,
-    rows: &'t [Numbers],
+    records: &'t [u32],
+    rows: &'t [u32],
     lists: Lists<'t>,
 }
 
 /// The two tables of lists.
-#[derive(Clone, Copy, Debug)]
+#[derive(Clone, Copy)]
 struct Lists<'t> {
-    captured: &'t [Entry],
-    arguments: &'t [Entry],
+    captured: &'t [u32],
+    arguments: &'t [u32],
 }
 
 impl<'t> Facts<'t> {
-    pub(crate) fn new(records: usize, tables: Tables<'t>) -> Self {
-        Facts {
-            records,
-            rows: tables.facts.as_chunks().0,
-            lists: Lists { captured: tables.captured.as_chunks().0, arguments: tables.arguments.as_chunks().0 },
-        }
+    pub(crate) fn new(records: &'t [u32], tables: Tables<'t>) -> Self {
+        Facts { records, rows: tables.facts, lists: Lists { captured: tables.captured, arguments: tables.arguments } }
     }
 
     /// How many records the script has.
     pub fn records(&self) -> usize {
-        self.records
+        self.records.len() / RECORD_WIDTH
+    }
+
+    /// A record of the script.
+    pub fn record(&self, record: usize) -> Option<Record> {
+        part(self.records, record).copied().and_then(Record::of)
+    }
+
+    /// The number of the record that has this id: that of a binder, from [`refers_to`](SemanticInformation::refers_to) or
+    /// [`shadows`](SemanticInformation::shadows), or of a lambda, from [`function_context`](LetInformation::function_context).
+    ///
+    /// It goes through the records from the first. Whoever asks often keeps a table.
+    ///
+    /// ```
+    /// # use scheme_analysis::{fresh, Row, Script, Storage};
+    /// # use std::sync::Mutex;
+    /// # static STORAGE: Mutex<Storage> = Mutex::new(Storage::new());
+    /// # let mut storage = STORAGE.lock().unwrap();
+    /// // (lambda (x) x)
+    /// let mut script = Script::new();
+    /// script.lambda(["x"], |s| s.identifier("x"));
+    /// let facts = fresh(script.records().unwrap(), script.classes(), storage.tables()).unwrap();
+    /// let Row::Variable(x) = facts.row(2) else { panic!("an identifier") };
+    /// assert_eq!(x.refers_to().and_then(|id| facts.record_of(id)), Some(1));
+    /// ```
+    pub fn record_of(&self, id: u32) -> Option<usize> {
+        // 0 stands in the records that have no id
+        if id == 0 {
+            return None;
+        }
+        self.records.chunks_exact(RECORD_WIDTH).position(|record| record[1] == id)
     }
 
     /// The fact of a record. Blank where it has none, or there is no such record.
     pub fn row(&self, record: usize) -> Row<'t> {
-        match self.rows.get(record) {
+        match part(self.rows, record) {
             Some(row) => Row::of(row, self.lists),
             None => Row::Blank,
         }
@@ -45,7 +71,14 @@ impl<'t> Facts<'t> {
 
     /// The rows of all records, in order.
     pub fn rows(self) -> impl ExactSizeIterator<Item = Row<'t>> {
-        (0..self.records).map(move |record| self.row(record))
+        (0..self.records()).map(move |record| self.row(record))
+    }
+}
+
+/// The row of each record, by the record's number.
+impl fmt::Debug for Facts<'_> {
+    fn fmt(&self, f: &mut fmt::Formatter<'_>) -> fmt::Result {
+        f.debug_map().entries(self.rows().enumerate()).finish()
     }
 }
 
@@ -115,8 +148,12 @@ impl IdentifierStatus {
 }
 
 /// The fact of an identifier: a binder, where a define, lambda or let names it, else a reference.
-#[derive(Clone, Copy, Debug)]
+#[derive(Clone, Copy)]
 pub struct SemanticInformation<'t>(&'t Numbers);
+
+debug_by_field!(SemanticInformation: kind, set_bang, depth, shadows, usage_count, span, refers_to, aliases_to, builtin, last_usage,
+    stack_offset, escapes, capture_index, read_capture_offset, captured_from_enclosing, heap_offset, read_heap_offset, is_shadowed,
+    is_required_identifier);
 
 impl SemanticInformation<'_> {
     /// What it is.
@@ -139,7 +176,22 @@ impl SemanticInformation<'_> {
         optional(self.0[3])
     }
 
-    /// Of a binder: how often it is used. Of a reference: 1, or 0 without a binder (settled: 1).
+    /// Of a binder, after a fresh run: how often it is used. A read counts 1; a set! counts 2 for a parameter or let name, and 1
+    /// for a define. Exact where no define is inner.
+    ///
+    /// Of a binder, after a settled run, it is a number of that run, and not how often the name is used (docs/RULES.md, 5.4 and
+    /// 9.3):
+    ///
+    /// - a parameter: the uses in its own lambda, as above, and 1 for each set! in a lambda inside. Reads in lambdas inside go
+    ///   through captures, which count for themselves: 0 of the x of `(lambda (x) (lambda () x))`, which a fresh run counts 1.
+    /// - a let name: what the last read of it left. Of a read in its own lambda that is the same as for a parameter, so far. Of a
+    ///   read through a capture it is the capture's count, which starts at the fresh run's: 2 of the y of
+    ///   `(lambda () (let ((y 1)) (lambda () y)))`, which a fresh run counts 1.
+    /// - a define: as after a fresh run.
+    ///
+    /// So whether a name is used at all is to be asked of a fresh run.
+    ///
+    /// Of a reference: 1, or 0 without a binder (settled: 1).
     pub fn usage_count(&self) -> u32 {
         self.0[4]
     }
@@ -169,7 +221,8 @@ impl SemanticInformation<'_> {
         self.0[10] == 1
     }
 
-    /// Of a reference: the slot in its binder's frame.
+    /// Of a reference: the slot in its binder's frame. After a settled run a reference through a capture has none, and that of a
+    /// cell is no slot of a frame; the crate's documentation says which run to use for what.
     pub fn stack_offset(&self) -> Option<u32> {
         optional(self.0[11])
     }
@@ -216,11 +269,13 @@ impl SemanticInformation<'_> {
 }
 
 /// The fact of a lambda.
-#[derive(Clone, Copy, Debug)]
+#[derive(Clone, Copy)]
 pub struct FunctionInformation<'t> {
     row: &'t Numbers,
     lists: Lists<'t>,
 }
+
+debug_by_field!(FunctionInformation: captured_vars, arguments, escapes, aliases_to, depth);
 
 impl<'t> FunctionInformation<'t> {
     /// The captured names around it, sorted by id (docs/RULES.md, 9 and 10).
@@ -250,11 +305,13 @@ impl<'t> FunctionInformation<'t> {
 }
 
 /// The fact of a let.
-#[derive(Clone, Copy, Debug)]
+#[derive(Clone, Copy)]
 pub struct LetInformation<'t> {
     row: &'t Numbers,
     lists: Lists<'t>,
 }
+
+debug_by_field!(LetInformation: stack_offset, function_context, arguments);
 
 impl<'t> LetInformation<'t> {
     /// The height of the frame before it.
@@ -280,13 +337,43 @@ pub enum CallKind {
     Normal,
     /// It may give up the frame.
     TailCall,
-    /// It may give up the frame, and calls the define that it stands in; with its number.
+    /// It may give up the frame, and calls the define that it stands in. The number is how many lambdas stand around the call:
+    /// all up to the top level, but where the define stands directly in an inner begin, only those inside the define.
+    ///
+    /// It is 1 in `(define f (lambda (x) (f x)))` and 2 in `(define f (lambda (x) (lambda (y) (f x))))`: there the frame given up
+    /// is that of the lambda inside, and none of f's.
+    ///
+    /// What is proved takes each as a tail call. To make a jump of one is the caller's own step: its number has to be 1, f may be
+    /// neither set! nor defined again, and the arguments have to be as many as the parameters.
+    ///
+    /// ```
+    /// # use scheme_analysis::{fresh, CallKind, Row, Script, Storage};
+    /// # use std::sync::Mutex;
+    /// # static STORAGE: Mutex<Storage> = Mutex::new(Storage::new());
+    /// # let mut storage = STORAGE.lock().unwrap();
+    /// // (define f (lambda (x) (lambda (y) (f x))))
+    /// let (mut script, mut call) = (Script::new(), 0);
+    /// script.define("f", |s| {
+    ///     s.lambda(["x"], |s| {
+    ///         s.lambda(["y"], |s| {
+    ///             call = s.call(|s| {
+    ///                 s.identifier("f");
+    ///                 s.identifier("x");
+    ///             });
+    ///         });
+    ///     });
+    /// });
+    /// let facts = fresh(script.records().unwrap(), script.classes(), storage.tables()).unwrap();
+    /// assert!(matches!(facts.row(call), Row::CallSite(c) if c.kind() == CallKind::SelfTailCall(2)));
+    /// ```
     SelfTailCall(u32),
 }
 
 /// The fact of a call.
-#[derive(Clone, Copy, Debug)]
+#[derive(Clone, Copy)]
 pub struct CallSiteInformation<'t>(&'t Numbers);
+
+debug_by_field!(CallSiteInformation: kind, span);
 
 impl CallSiteInformation<'_> {
     /// What it may do.
@@ -317,8 +404,8 @@ mod tests {
         row[..numbers.len()].copy_from_slice(numbers);
         let captured = [entry(100, 0), entry(200, 0)];
         let arguments = [entry(300, 0), entry(400, 0)];
-        let lists = Lists { captured: &captured, arguments: &arguments };
-        let facts = Facts { records: 1, rows: &[row], lists };
+        let lists = Lists { captured: captured.as_flattened(), arguments: arguments.as_flattened() };
+        let facts = Facts { records: &[0; RECORD_WIDTH], rows: &row, lists };
         check(facts.row(0));
     }
 
@@ -431,8 +518,10 @@ mod tests {
     #[test]
     fn where_there_is_no_record_the_row_is_blank() {
         let lists = Lists { captured: &[], arguments: &[] };
-        let facts = Facts { records: 0, rows: &[], lists };
+        let facts = Facts { records: &[], rows: &[], lists };
+        assert!(matches!(facts.row(0), Row::Blank));
         assert!(matches!(facts.row(usize::MAX), Row::Blank));
+        assert_eq!((facts.record(0), facts.record(usize::MAX)), (None, None));
         assert_eq!((facts.records(), facts.rows().len()), (0, 0));
     }
 }

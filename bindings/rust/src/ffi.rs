@@ -1,4 +1,7 @@
 //! The library's two functions. All unsafe code of the crate is here.
+//!
+//! The interface's version stands in the symbols: a crate and an archive of different versions do not link. The symbols change
+//! with [`VERSION`](crate::VERSION), and with what the numbers of a table mean.
 #![allow(unsafe_code)]
 
 use crate::Tables;
@@ -11,10 +14,11 @@ pub(crate) struct Answer {
 
 /// Both functions have one signature: a slice is a pointer and how many elements it has.
 macro_rules! operation {
-    ($name:ident, $symbol:ident) => {
+    ($name:ident, $symbol:literal) => {
         pub(crate) fn $name(records: &[u32], classes: &[u8], tables: &mut Tables<'_>) -> Answer {
             extern "C" {
-                fn $symbol(
+                #[link_name = $symbol]
+                fn operation(
                     records: *const u32,
                     records_length: usize,
                     classes: *const u8,
@@ -36,7 +40,7 @@ macro_rules! operation {
             // and that what it writes overlaps nothing else. Each pointer and length are one slice's, `at` is a local, and what
             // is written is borrowed as `&mut`. Any lengths and contents are answered; no pointer is kept.
             let number = unsafe {
-                $symbol(
+                operation(
                     records.as_ptr(),
                     records.len(),
                     classes.as_ptr(),
@@ -57,5 +61,5 @@ macro_rules! operation {
     };
 }
 
-operation!(fresh, scheme_analysis_fresh);
-operation!(settled, scheme_analysis_settled);
+operation!(fresh, "scheme_analysis_fresh_v1");
+operation!(settled, "scheme_analysis_settled_v1");

@@ -32,32 +32,155 @@
 //!
 //! # Example
 //!
-//! `(f x)`, where f is name 0 and x is name 1:
+//! [`Script`] makes the records: it gives ids, numbers names and counts children. `(f x)`:
 //!
 //! ```
-//! use scheme_analysis::{fresh, CallKind, IdentifierStatus, Row, Storage};
+//! use scheme_analysis::{fresh, CallKind, IdentifierStatus, Row, Script, Storage};
 //! use std::sync::Mutex;
 //!
 //! static STORAGE: Mutex<Storage> = Mutex::new(Storage::new());
 //!
-//! let records = [8, 1, 0, 2, 0, 5, 1, 2, 0, 0, 1, 2, 1, 3, 1, 0, 3, 4];
+//! let mut script = Script::new();
+//! script.call(|s| {
+//!     s.identifier("f");
+//!     s.identifier("x");
+//! });
 //! let mut storage = STORAGE.lock().unwrap();
-//! let facts = fresh(&records, &[0, 0], storage.tables()).unwrap();
+//! let facts = fresh(script.records().unwrap(), script.classes(), storage.tables()).unwrap();
 //! assert!(matches!(facts.row(0), Row::CallSite(call) if call.kind() == CallKind::Normal));
 //! assert!(matches!(facts.row(2), Row::Variable(x) if x.kind() == IdentifierStatus::Free));
 //! ```
+//!
+//! The same by hand, where f is name 0 and x is name 1:
+//!
+//! ```
+//! # use scheme_analysis::{fresh, CallKind, Form, Record, Row, Storage};
+//! # use std::sync::Mutex;
+//! # static STORAGE: Mutex<Storage> = Mutex::new(Storage::new());
+//! # let mut storage = STORAGE.lock().unwrap();
+//! let records = [
+//!     Record { form: Form::Call, id: 1, name: 0, count: 2, from: 0, to: 5 },
+//!     Record { form: Form::Identifier, id: 2, name: 0, count: 0, from: 1, to: 2 },
+//!     Record { form: Form::Identifier, id: 3, name: 1, count: 0, from: 3, to: 4 },
+//! ];
+//! let numbers = records.map(Record::numbers);
+//! let facts = fresh(numbers.as_flattened(), &[0, 0], storage.tables()).unwrap();
+//! assert!(matches!(facts.row(0), Row::CallSite(call) if call.kind() == CallKind::Normal));
+//! ```
+//!
+//! # Which run for what
+//!
+//! **A fresh run's slots are for a machine whose closures keep frames.** A reference that is
+//! [`Local`](IdentifierStatus::Local) reads its slot in the running frame. One that is [`Captured`](IdentifierStatus::Captured)
+//! reads the same slot of its binder's frame, which the closure has a copy of: the frame of the depth that the fact of the binder
+//! has ([`refers_to`](SemanticInformation::refers_to), [`Facts::record_of`]). For such a machine the execution property is proved.
+//!
+//! **A settled run's offsets are for a machine whose closures keep values and cells**, one for each entry of the lambda's
+//! [`captured_vars`](FunctionInformation::captured_vars). A reference through a capture has
+//! [`read_capture_offset`](SemanticInformation::read_capture_offset), or
+//! [`read_heap_offset`](SemanticInformation::read_heap_offset) to a cell, and no slot of a frame; the other offsets of an entry
+//! ([`ScopeInfo`]) tell where the value or cell is taken from when the closure is made (docs/RULES.md, 10). Binding and tail
+//! position are proved of these facts too. The execution property is not.
+//!
+//! The numbers of one run are not for the other machine. Both runs record the same tail calls; a settled run may record one as a
+//! [`TailCall`](CallKind::TailCall) that is a [`SelfTailCall`](CallKind::SelfTailCall) after a fresh run (docs/RULES.md, 4.6). How
+//! often a name is used is to be asked of a fresh run ([`usage_count`](SemanticInformation::usage_count)).
+//!
+//! # The execution property, and what leaves it
+//!
+//! It says that a machine which goes by a fresh run's references, depths and slots alone, and gives up a frame early only at
+//! recorded tail calls, stays in step with a plain Scheme machine for ever. It has two premises, and neither run checks them. A
+//! script outside them is accepted, and its slots do not have to give Scheme's values:
+//!
+//! - No set! of a parameter or let name that an inner lambda mentions. Closures copy frames, so they would not see it:
+//!   `((lambda (x) (let ((f (lambda () x))) (begin (set! x 2) (f)))) 3)` gives 2 in Scheme, and 3 by the slots. Such names have
+//!   cells after a settled run ([`HeapAllocated`](IdentifierStatus::HeapAllocated)).
+//! - No inner define, which is one neither at top level nor directly in a top-level begin. Its name is recorded as global:
+//!   `(lambda () (begin (define x 1) x))`. A let does instead, where the value does not mention its own name.
+//!
+//! # Renaming
+//!
+//! [`Reason::LiveName`] meets legal Scheme: `(lambda () (let ((a 1)) (let ((a 2)) a)))`. A lambda opens a scope, and so does a let
+//! outside all scopes. Any other let puts its names into the scope around it, where a name may be live once. So where a let binds
+//! a name that is live in its scope, give it a new name, and with it each reference in the let's body that means it. The initial
+//! expressions still mean the outer one. Any text that no other name has will do, as one with a space. It needs no class.
+//! Parameters hide what is outside their lambda, and only have to differ from one another; lets one after another may share names.
+//!
+//! ```
+//! # use scheme_analysis::{fresh, Reason, Row, Script, Storage};
+//! # use std::sync::Mutex;
+//! # static STORAGE: Mutex<Storage> = Mutex::new(Storage::new());
+//! # let mut storage = STORAGE.lock().unwrap();
+//! fn nested<'n>(inner: &'n str) -> Script<'n> {
+//!     let mut script = Script::new();
+//!     script.lambda([], |s| {
+//!         s.let_(["a"], |s| {
+//!             s.constant();
+//!             s.let_([inner], |s| {
+//!                 s.constant();
+//!                 s.identifier(inner);
+//!             });
+//!         });
+//!     });
+//!     script
+//! }
+//!
+//! let script = nested("a");
+//! let refusal = fresh(script.records().unwrap(), script.classes(), storage.tables()).unwrap_err();
+//! assert_eq!((refusal.reason, refusal.at()), (Reason::LiveName, Some(5)));
+//!
+//! let script = nested("a 2");
+//! let facts = fresh(script.records().unwrap(), script.classes(), storage.tables()).unwrap();
+//! assert!(matches!(facts.row(7), Row::Variable(a) if a.stack_offset() == Some(1)));
+//! ```
+//!
+//! # Linking
+//!
+//! The crate links `libscheme_analysis.a` from the folder that the variable `SCHEME_ANALYSIS_LIB` names, or from where
+//! `rt staticlib scheme_analysis` writes it. Without the library everything but linking works, and cargo warns. A library of
+//! another [`VERSION`] does not link: its symbols have other names.
+//!
+//! # Features
+//!
+//! None is on by default. `alloc`: tables on the heap, by `Storage::boxed`.
 
 #![no_std]
+
+#[cfg(feature = "alloc")]
+extern crate alloc;
+
+/// `Debug` by the fields of a view, as its methods give them.
+macro_rules! debug_by_field {
+    ($view:ident: $($field:ident),+) => {
+        impl core::fmt::Debug for $view<'_> {
+            fn fmt(&self, f: &mut core::fmt::Formatter<'_>) -> core::fmt::Result {
+                f.debug_struct(stringify!($view))$(.field(stringify!($field), &self.$field()))+.finish()
+            }
+        }
+    };
+}
 
 mod entries;
 mod facts;
 mod ffi;
+mod record;
 mod refusal;
+mod script;
+mod storage;
 
 pub use entries::{Entries, ScopeInfo};
 pub use facts::{CallKind, CallSiteInformation, Facts, FunctionInformation};
 pub use facts::{IdentifierStatus, LetInformation, Row, SemanticInformation, Span};
+pub use record::{Form, Record};
 pub use refusal::{Reason, Refusal};
+pub use script::{Script, ScriptError};
+#[cfg(feature = "alloc")]
+pub use storage::BoxedStorage;
+pub use storage::{Storage, Tables};
+
+/// The version of the interface: of the records, the tables and the two functions. The library's symbols have it in their names,
+/// so that a crate and a library of different versions do not link.
+pub const VERSION: u32 = 1;
 
 /// How many numbers a record has.
 pub const RECORD_WIDTH: usize = 6;
@@ -105,20 +228,9 @@ const fn optional(number: u32) -> Option<u32> {
     }
 }
 
-/// The form of a record: its first number.
-#[derive(Clone, Copy, Debug, PartialEq, Eq, Hash)]
-#[repr(u32)]
-#[allow(missing_docs)]
-pub enum Form {
-    Identifier = 1,
-    Constant = 2,
-    If = 3,
-    Let = 4,
-    Define = 5,
-    Lambda = 6,
-    Begin = 7,
-    Call = 8,
-    Set = 9,
+/// The row of a table at a place, where there is one.
+fn part<const WIDTH: usize>(table: &[u32], place: usize) -> Option<&[u32; WIDTH]> {
+    table.get(WIDTH.checked_mul(place)?..)?.first_chunk()
 }
 
 /// The class of a name that the language has: Global where no binder is found.
@@ -133,59 +245,12 @@ pub const MODULE_NAME: u8 = 4;
 /// The class of g where `(define x (g ..))` makes x a required identifier.
 pub const HASH_GETTER: u8 = 8;
 
-/// The four tables that a run writes, lent by the caller. What they hold before does not matter.
-#[derive(Debug)]
-pub struct Tables<'t> {
-    /// Row i is the fact of record i; zeros where it has none, and past the last record.
-    pub facts: &'t mut [u32],
-    /// The captured lists of the lambdas, in the order in which they end; zeros where no list lies.
-    pub captured: &'t mut [u32],
-    /// The argument lists of the lambdas and lets, the same way.
-    pub arguments: &'t mut [u32],
-    /// Room for the run: 0 after every call but one refused for a length.
-    pub work: &'t mut [u32],
-}
-
-/// Room for the four tables at their lengths: about a million bytes, so a `static`, and not a local.
-///
-/// Tables on the heap can be lent as [`Tables`] from four boxed slices.
-#[derive(Debug)]
-pub struct Storage {
-    facts: [u32; FACTS_LENGTH],
-    captured: [u32; CAPTURED_LENGTH],
-    arguments: [u32; ARGUMENTS_LENGTH],
-    work: [u32; WORK_LENGTH],
-}
-
-impl Storage {
-    /// Tables of zeros.
-    pub const fn new() -> Self {
-        Storage {
-            facts: [0; FACTS_LENGTH],
-            captured: [0; CAPTURED_LENGTH],
-            arguments: [0; ARGUMENTS_LENGTH],
-            work: [0; WORK_LENGTH],
-        }
-    }
-
-    /// Lends the tables.
-    pub fn tables(&mut self) -> Tables<'_> {
-        Tables { facts: &mut self.facts, captured: &mut self.captured, arguments: &mut self.arguments, work: &mut self.work }
-    }
-}
-
-impl Default for Storage {
-    fn default() -> Self {
-        Self::new()
-    }
-}
-
 /// The fresh run: what each name refers to, its depth and slot, and the kind of each call.
 ///
 /// # Errors
 ///
-/// A refusal says why, and at which record. The tables are then unchanged after [`Reason::Length`], else zero.
-pub fn fresh<'t>(records: &[u32], classes: &[u8], mut tables: Tables<'t>) -> Result<Facts<'t>, Refusal> {
+/// A refusal says why, and at which record ([`Refusal::at`]). The tables are then unchanged after [`Reason::Length`], else zero.
+pub fn fresh<'t>(records: &'t [u32], classes: &[u8], mut tables: Tables<'t>) -> Result<Facts<'t>, Refusal> {
     let answer = ffi::fresh(records, classes, &mut tables);
     facts_or_refusal(answer, records, tables)
 }
@@ -196,14 +261,14 @@ pub fn fresh<'t>(records: &[u32], classes: &[u8], mut tables: Tables<'t>) -> Res
 /// # Errors
 ///
 /// As of [`fresh`], with two more reasons.
-pub fn settled<'t>(records: &[u32], classes: &[u8], mut tables: Tables<'t>) -> Result<Facts<'t>, Refusal> {
+pub fn settled<'t>(records: &'t [u32], classes: &[u8], mut tables: Tables<'t>) -> Result<Facts<'t>, Refusal> {
     let answer = ffi::settled(records, classes, &mut tables);
     facts_or_refusal(answer, records, tables)
 }
 
-fn facts_or_refusal<'t>(answer: ffi::Answer, records: &[u32], tables: Tables<'t>) -> Result<Facts<'t>, Refusal> {
+fn facts_or_refusal<'t>(answer: ffi::Answer, records: &'t [u32], tables: Tables<'t>) -> Result<Facts<'t>, Refusal> {
     match Refusal::of(answer.number, answer.at) {
-        None => Ok(Facts::new(records.len() / RECORD_WIDTH, tables)),
+        None => Ok(Facts::new(records, tables)),
         Some(refusal) => Err(refusal),
     }
 }

@@ -26,6 +26,8 @@ pub enum Reason {
     RepeatedId = 8,
     /// A name is bound where it is live in the same scope. A lambda opens a scope, and so does a let outside all scopes. Any other
     /// let, and an inner define, binds its names in the scope around it. At the top level a name may be defined again.
+    ///
+    /// Legal Scheme meets it, as `(lambda () (let ((a 1)) (let ((a 2)) a)))`. The crate's documentation says how to rename.
     LiveName = 9,
     /// The captured lists have more than 4,096 entries; the record is the lambda whose list passes that.
     TooManyCaptured = 10,
@@ -56,6 +58,11 @@ impl Reason {
     pub const fn number(self) -> u32 {
         self as u32
     }
+
+    /// Whether a refusal for it names a record: all but [`Length`](Self::Length) and [`TooMany`](Self::TooMany).
+    pub const fn names_a_record(self) -> bool {
+        !matches!(self, Reason::Length | Reason::TooMany)
+    }
 }
 
 impl fmt::Display for Reason {
@@ -82,11 +89,20 @@ impl fmt::Display for Reason {
 pub struct Refusal {
     /// Why.
     pub reason: Reason,
-    /// The record, counted from 0; 0 after [`Reason::Length`] and [`Reason::TooMany`], which name none.
+    /// The library's number of the record. It is 0 where the reason names none: [`at`](Self::at) tells the two apart.
     pub record: usize,
 }
 
 impl Refusal {
+    /// The record, counted from 0; `None` where the reason names none. After [`Reason::Missing`] it is the number of records.
+    pub const fn at(&self) -> Option<usize> {
+        if self.reason.names_a_record() {
+            Some(self.record)
+        } else {
+            None
+        }
+    }
+
     /// What the library's answer says: `None` where it accepted.
     ///
     /// # Panics
@@ -101,7 +117,10 @@ impl Refusal {
 
 impl fmt::Display for Refusal {
     fn fmt(&self, f: &mut fmt::Formatter<'_>) -> fmt::Result {
-        write!(f, "refused {} at record {}: {}", self.reason.number(), self.record, self.reason)
+        match self.at() {
+            Some(record) => write!(f, "refused {} at record {record}: {}", self.reason.number(), self.reason),
+            None => write!(f, "refused {}: {}", self.reason.number(), self.reason),
+        }
     }
 }
 
@@ -116,6 +135,14 @@ mod tests {
         for number in 1..=12 {
             let refusal = Refusal::of(number, 7).unwrap();
             assert_eq!((refusal.reason.number(), refusal.record), (number, 7));
+        }
+    }
+
+    #[test]
+    fn the_first_two_reasons_name_no_record() {
+        for number in 1..=12 {
+            let refusal = Refusal::of(number, 0).unwrap();
+            assert_eq!(refusal.at(), if number <= 2 { None } else { Some(0) });
         }
     }
 

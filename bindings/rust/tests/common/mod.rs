@@ -108,7 +108,7 @@ pub enum Run {
 impl Run {
     pub const BOTH: [Run; 2] = [Run::Fresh, Run::Settled];
 
-    pub fn of<'t>(self, records: &[u32], classes: &[u8], tables: Tables<'t>) -> Result<Facts<'t>, Refusal> {
+    pub fn of<'t>(self, records: &'t [u32], classes: &[u8], tables: Tables<'t>) -> Result<Facts<'t>, Refusal> {
         match self {
             Run::Fresh => fresh(records, classes, tables),
             Run::Settled => settled(records, classes, tables),
