@@ -13,6 +13,8 @@ fn folder() -> PathBuf {
 
 fn main() {
     let folder = folder();
+    // what links the crate may stand in another folder
+    let folder = folder.canonicalize().unwrap_or(folder);
     let archive = folder.join("libscheme_analysis.a");
     println!("cargo:rerun-if-env-changed=SCHEME_ANALYSIS_LIB");
     println!("cargo:rerun-if-changed={}", archive.display());

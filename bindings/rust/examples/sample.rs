@@ -1,36 +1,41 @@
 //! Analyses `(define f (lambda (x) (f x)))`, says the facts of each record in words and compares them with those of document 01.
 //! Then a script that is refused. Exit status 1 where anything differs. Run by bindings/run.
 
-use scheme_analysis::{fresh, CallKind, CallSiteInformation, Entries, Facts, Form, FunctionInformation, IdentifierStatus};
-use scheme_analysis::{LetInformation, Reason, Refusal, Row, SemanticInformation, Storage, RECORD_WIDTH};
+use scheme_analysis::{fresh, CallKind, CallSiteInformation, Entries, Facts, FunctionInformation, IdentifierStatus};
+use scheme_analysis::{LetInformation, Reason, Refusal, Row, Script, SemanticInformation, Storage};
 use std::process::ExitCode;
 use std::sync::Mutex;
 
 static STORAGE: Mutex<Storage> = Mutex::new(Storage::new());
 
-type Record = [u32; RECORD_WIDTH];
+/// A script with room for what is analysed here.
+type Small = Script<'static, 16, 4>;
 
-/// `(define f (lambda (x) (f x)))`: form, id, name, count, from, to
-const SAMPLE: [Record; 7] = [
-    [Form::Define as u32, 0, 0, 0, 0, 29],
-    [Form::Identifier as u32, 1, 0, 0, 8, 9],
-    [Form::Lambda as u32, 2, 0, 1, 10, 28],
-    [Form::Identifier as u32, 3, 1, 0, 19, 20],
-    [Form::Call as u32, 4, 0, 2, 22, 27],
-    [Form::Identifier as u32, 5, 0, 0, 23, 24],
-    [Form::Identifier as u32, 6, 1, 0, 25, 26],
-];
-const SAMPLE_NAMES: [&str; 2] = ["f", "x"];
+/// `(define f (lambda (x) (f x)))`
+fn sample() -> Small {
+    let mut script = Small::sized();
+    script.define("f", |s| {
+        s.lambda(["x"], |s| {
+            s.call(|s| {
+                s.identifier("f");
+                s.identifier("x");
+            })
+        })
+    });
+    script
+}
 
 /// `(lambda (x) (let ((x 1)) x))`: the let binds x where the lambda's x is live
-const TWICE: [Record; 6] = [
-    [Form::Lambda as u32, 1, 0, 1, 0, 28],
-    [Form::Identifier as u32, 2, 0, 0, 9, 10],
-    [Form::Let as u32, 3, 0, 1, 12, 27],
-    [Form::Identifier as u32, 4, 0, 0, 19, 20],
-    [Form::Constant as u32, 5, 0, 0, 21, 22],
-    [Form::Identifier as u32, 6, 0, 0, 25, 26],
-];
+fn twice() -> Small {
+    let mut script = Small::sized();
+    script.lambda(["x"], |s| {
+        s.let_(["x"], |s| {
+            s.constant();
+            s.identifier("x");
+        })
+    });
+    script
+}
 
 /// The fields that document 01 prints of a fact.
 #[derive(Debug, PartialEq)]
@@ -72,12 +77,12 @@ impl Fact {
     }
 }
 
-fn names_of(list: Entries<'_>) -> String {
-    list.iter().map(|entry| SAMPLE_NAMES[entry.name() as usize]).collect::<Vec<_>>().join(" ")
+fn names_of(list: Entries<'_>, names: &[&str]) -> String {
+    list.iter().map(|entry| names[entry.name() as usize]).collect::<Vec<_>>().join(" ")
 }
 
-fn variable_in_words(v: SemanticInformation<'_>, name: u32) -> String {
-    let mut words = format!("{}, {:?}, depth {}, uses {}", SAMPLE_NAMES[name as usize], v.kind(), v.depth(), v.usage_count());
+fn variable_in_words(v: SemanticInformation<'_>, name: &str) -> String {
+    let mut words = format!("{name}, {:?}, depth {}, uses {}", v.kind(), v.depth(), v.usage_count());
     if let Some(id) = v.refers_to() {
         words += &format!(", refers to id {id}");
     }
@@ -90,39 +95,49 @@ fn variable_in_words(v: SemanticInformation<'_>, name: u32) -> String {
     words
 }
 
-fn function_in_words(f: FunctionInformation<'_>) -> String {
+fn function_in_words(f: FunctionInformation<'_>, names: &[&str]) -> String {
     let escapes = if f.escapes() { "escapes" } else { "does not escape" };
-    let (captured, arguments) = (names_of(f.captured_vars()), names_of(f.arguments()));
+    let (captured, arguments) = (names_of(f.captured_vars(), names), names_of(f.arguments(), names));
     format!("lambda, depth {}, captures ({captured}), arguments ({arguments}), {escapes}", f.depth())
 }
 
-fn let_in_words(l: LetInformation<'_>) -> String {
-    format!("let, height {}, names ({})", l.stack_offset(), names_of(l.arguments()))
+fn let_in_words(l: LetInformation<'_>, names: &[&str]) -> String {
+    format!("let, height {}, names ({})", l.stack_offset(), names_of(l.arguments(), names))
 }
 
 fn call_in_words(c: CallSiteInformation<'_>) -> String {
     format!("call, {:?}", c.kind())
 }
 
-fn say(facts: Facts<'_>) {
-    for ((number, record), row) in SAMPLE.iter().enumerate().zip(facts.rows()) {
+fn say(facts: Facts<'_>, names: &[&str]) {
+    for (number, row) in facts.rows().enumerate() {
         let words = match row {
             Row::Blank => "no fact".to_string(),
-            Row::Variable(v) => variable_in_words(v, record[2]),
-            Row::Function(f) => function_in_words(f),
-            Row::Let(l) => let_in_words(l),
+            Row::Variable(v) => {
+                let record = facts.record(number).expect("it has a row");
+                variable_in_words(v, names[record.name as usize])
+            }
+            Row::Function(f) => function_in_words(f, names),
+            Row::Let(l) => let_in_words(l, names),
             Row::CallSite(c) => call_in_words(c),
         };
         println!("record {number}: {words}");
     }
 }
 
+fn analysed<'t>(script: &'t Small, storage: &'t mut Storage) -> Result<Facts<'t>, Refusal> {
+    let records = script.records().expect("a good script");
+    fresh(records, script.classes(), storage.tables())
+}
+
 /// Whether the sample's facts are document 01's.
 fn sample_is_right(storage: &mut Storage) -> bool {
     println!("(define f (lambda (x) (f x)))");
-    match fresh(SAMPLE.as_flattened(), &[0, 0], storage.tables()) {
+    let script = sample();
+    let answer = analysed(&script, storage);
+    match answer {
         Ok(facts) => {
-            say(facts);
+            say(facts, script.names());
             facts.rows().map(Fact::of).eq(EXPECTED)
         }
         Err(refusal) => {
@@ -135,14 +150,16 @@ fn sample_is_right(storage: &mut Storage) -> bool {
 /// Whether it is refused as document 01 says.
 fn refusal_is_right(storage: &mut Storage) -> bool {
     println!("(lambda (x) (let ((x 1)) x))");
-    match fresh(TWICE.as_flattened(), &[0], storage.tables()) {
+    let script = twice();
+    let answer = analysed(&script, storage);
+    match answer {
         Ok(_) => {
             println!("accepted");
             false
         }
         Err(refusal) => {
             println!("{refusal}");
-            refusal == Refusal { reason: Reason::LiveName, record: 3 }
+            (refusal.reason, refusal.at()) == (Reason::LiveName, Some(3))
         }
     }
 }

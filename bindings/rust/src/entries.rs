@@ -105,12 +105,13 @@ impl ScopeInfo<'_> {
         optional(self.0[5])
     }
 
-    /// Where the lambda around has the value.
+    /// The value's number in the lambda around where that captures it too
+    /// ([`captured_from_enclosing`](Self::captured_from_enclosing)), else its number in this one.
     pub fn capture_offset(&self) -> Option<u32> {
         optional(self.0[6])
     }
 
-    /// Where the lambda around has the cell.
+    /// The cell's number in the lambda around, or its slot where that does not capture it.
     pub fn heap_offset(&self) -> Option<u32> {
         optional(self.0[7])
     }
@@ -125,7 +126,7 @@ impl ScopeInfo<'_> {
         optional(self.0[9])
     }
 
-    /// The cell's number in the lambda around, or its slot.
+    /// The cell's number in the lambda around, or its slot where that does not capture it.
     pub fn parent_heap_offset(&self) -> Option<u32> {
         optional(self.0[10])
     }

@@ -4,7 +4,7 @@
 //! with [`VERSION`](crate::VERSION), and with what the numbers of a table mean.
 #![allow(unsafe_code)]
 
-use crate::Tables;
+use crate::{Tables, VERSION};
 
 /// 0 or the number of a refusal, and its record.
 pub(crate) struct Answer {
@@ -60,6 +60,8 @@ macro_rules! operation {
         }
     };
 }
+
+const _: () = assert!(VERSION == 1, "the symbols below are of version 1");
 
 operation!(fresh, "scheme_analysis_fresh_v1");
 operation!(settled, "scheme_analysis_settled_v1");

@@ -93,8 +93,9 @@
 //! script outside them is accepted, and its slots do not have to give Scheme's values:
 //!
 //! - No set! of a parameter or let name that an inner lambda mentions. Closures copy frames, so they would not see it:
-//!   `((lambda (x) (let ((f (lambda () x))) (begin (set! x 2) (f)))) 3)` gives 2 in Scheme, and 3 by the slots. Such names have
-//!   cells after a settled run ([`HeapAllocated`](IdentifierStatus::HeapAllocated)).
+//!   `((lambda (x) (let ((f (lambda () x))) (begin (set! x 2) (f)))) 3)` gives 2 in Scheme, and 3 by the slots. A settled run
+//!   makes x a cell ([`HeapAllocated`](IdentifierStatus::HeapAllocated)), but to a lambda that ends before the set!, as here, x is
+//!   still a captured value: so its offsets do not have to give Scheme's values either.
 //! - No inner define, which is one neither at top level nor directly in a top-level begin. Its name is recorded as global:
 //!   `(lambda () (begin (define x 1) x))`. A let does instead, where the value does not mention its own name.
 //!

@@ -119,3 +119,92 @@ fn a_capture_mutated_late_has_no_capture_offset() {
 fn a_let_outside_lambdas_has_no_cells() {
     assert_eq!(refusal_of(Run::Settled, "(let ((x 1)) (lambda () (set! x 2)))"), (Reason::HeapLet, 1));
 }
+
+/// How often the binder at this record is used, by a fresh and by a settled run.
+fn uses(text: &str, binder: usize) -> (u32, u32) {
+    let mut uses = [0; 2];
+    for (run, uses) in Run::BOTH.into_iter().zip(&mut uses) {
+        facts_of(run, text, |facts| *uses = variable(&facts, binder).usage_count());
+    }
+    (uses[0], uses[1])
+}
+
+#[test]
+fn settled_uses_of_a_parameter_are_those_in_its_own_lambda() {
+    assert_eq!(uses("(lambda (x) (lambda () x))", 1), (1, 0));
+    assert_eq!(uses("(lambda (x) (begin x x (lambda () x)))", 1), (3, 2));
+    // a set! counts one for itself, here by the name's entry, and one for its target, here by the capture
+    assert_eq!(uses("(lambda (x) (lambda () (set! x 1)))", 1), (2, 1));
+}
+
+#[test]
+fn settled_uses_of_a_let_name_are_what_its_last_read_left() {
+    // the capture starts at 1 and is read once
+    assert_eq!(uses("(lambda () (let ((y 1)) (lambda () y)))", 2), (1, 2));
+    // the last read is the only one in its own lambda
+    assert_eq!(uses("(lambda () (let ((y 1)) (begin (lambda () y) y)))", 2), (2, 1));
+}
+
+#[test]
+fn settled_uses_of_a_define_are_the_fresh_ones() {
+    assert_eq!(uses("(define f (lambda () (lambda () (f)))) (f) (set! f 1)", 1), (3, 3));
+}
+
+#[test]
+fn the_number_of_a_self_tail_call_is_that_of_the_lambdas_around() {
+    for run in Run::BOTH {
+        facts_of(run, "(define f (lambda (x) (lambda (y) (f x))))", |facts| {
+            assert_eq!(call(&facts, 6), CallKind::SelfTailCall(2));
+        });
+        // directly in an inner begin the define starts anew, elsewhere not
+        facts_of(run, "(lambda () (begin (define g (lambda () (g))) 1))", |facts| {
+            assert_eq!(call(&facts, 5), CallKind::SelfTailCall(1));
+        });
+        facts_of(run, "(lambda () (define g (lambda () (g))))", |facts| {
+            assert_eq!(call(&facts, 4), CallKind::SelfTailCall(2));
+        });
+    }
+}
+
+#[test]
+fn settled_a_set_ends_self_tail_calls() {
+    let text = "(define f (lambda (x) (begin (set! f x) (f x))))";
+    facts_of(Run::Fresh, text, |facts| assert_eq!(call(&facts, 8), CallKind::SelfTailCall(1)));
+    facts_of(Run::Settled, text, |facts| assert_eq!(call(&facts, 8), CallKind::TailCall));
+}
+
+#[test]
+fn nested_lets_of_one_name_are_refused_until_one_is_renamed() {
+    for run in Run::BOTH {
+        assert_eq!(refusal_of(run, "(lambda () (let ((a 1)) (let ((a 2)) a)))"), (Reason::LiveName, 5));
+        assert_eq!(refusal_of(run, "(let ((a 1)) (let ((a 2)) a))"), (Reason::LiveName, 4));
+        facts_of(run, "(lambda () (let ((a 1)) (let ((b a)) b)))", |facts| {
+            // in the initial expression the outer one, in the body the renamed one
+            assert_eq!((variable(&facts, 6).refers_to(), variable(&facts, 7).refers_to()), (Some(3), Some(6)));
+            assert_eq!((variable(&facts, 6).stack_offset(), variable(&facts, 7).stack_offset()), (Some(0), Some(1)));
+        });
+        // one after another, and in a lambda inside, a name may come again
+        facts_of(run, "(lambda (a) (begin (let ((b 1)) b) (let ((b 2)) b) (lambda (a b) a)))", |_| ());
+    }
+}
+
+#[test]
+fn the_premises_of_the_execution_property_are_not_checked() {
+    let set = "((lambda (x) (let ((f (lambda () x))) (begin (set! x 2) (f)))) 3)";
+    facts_of(Run::Fresh, set, |facts| {
+        let x = variable(&facts, 6);
+        assert_eq!((x.kind(), x.stack_offset()), (IdentifierStatus::Captured, Some(0)));
+    });
+    // the inner lambda ends before the set!: to it x is no cell, and its own lambda has one for it
+    facts_of(Run::Settled, set, |facts| {
+        assert_eq!(variable(&facts, 6).kind(), IdentifierStatus::Captured);
+        assert_eq!(variable(&facts, 2).kind(), IdentifierStatus::HeapAllocated);
+    });
+    facts_of(Run::Settled, "(lambda (x) (begin (set! x 2) (lambda () x)))", |facts| {
+        assert_eq!(variable(&facts, 7).kind(), IdentifierStatus::HeapAllocated);
+    });
+    facts_of(Run::Fresh, "(lambda () (begin (define x 1) x))", |facts| {
+        let x = variable(&facts, 5);
+        assert_eq!((x.kind(), x.depth(), x.stack_offset()), (IdentifierStatus::Global, 1, None));
+    });
+}
