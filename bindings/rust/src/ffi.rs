@@ -1,7 +1,7 @@
 //! The library's two functions. All unsafe code of the crate is here.
 //!
 //! The interface's version stands in the symbols: a crate and an archive of different versions do not link. The symbols change
-//! with [`VERSION`](crate::VERSION), and with what the numbers of a table mean.
+//! with [`VERSION`], and with what the numbers of a table mean.
 #![allow(unsafe_code)]
 
 use crate::{Tables, VERSION};
