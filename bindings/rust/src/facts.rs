@@ -184,9 +184,9 @@ impl SemanticInformation<'_> {
     ///
     /// - a parameter: the uses in its own lambda, as above, and 1 for each set! in a lambda inside. Reads in lambdas inside go
     ///   through captures, which count for themselves: 0 of the x of `(lambda (x) (lambda () x))`, which a fresh run counts 1.
-    /// - a let name: what the last read of it left. Of a read in its own lambda that is the same as for a parameter, so far. Of a
-    ///   read through a capture it is the capture's count, which starts at the fresh run's: 2 of the y of
-    ///   `(lambda () (let ((y 1)) (lambda () y)))`, which a fresh run counts 1.
+    /// - a let name: what the last read of it left. After a read in its own lambda that is counted as for a parameter, so far.
+    ///   After a read through a capture it is the [`usage_count`](crate::ScopeInfo::usage_count) of the capture's entry, and 1 for
+    ///   each read through that capture so far: 2 of the y of `(lambda () (let ((y 1)) (lambda () y)))`, which a fresh run counts 1.
     /// - a define: as after a fresh run.
     ///
     /// So whether a name is used at all is to be asked of a fresh run.
