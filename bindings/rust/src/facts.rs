@@ -221,8 +221,9 @@ impl SemanticInformation<'_> {
         self.0[10] == 1
     }
 
-    /// Of a reference: the slot in its binder's frame. After a settled run a reference through a capture has none, and that of a
-    /// cell is no slot of a frame; the crate's documentation says which run to use for what.
+    /// Of a reference: the slot in its binder's frame. After a settled run a reference through a capture has none, and one to
+    /// a let name that is a cell has the name's place in its let, which is no slot. The crate's documentation says which run to use
+    /// for what.
     pub fn stack_offset(&self) -> Option<u32> {
         optional(self.0[11])
     }

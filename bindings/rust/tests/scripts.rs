@@ -208,3 +208,14 @@ fn the_premises_of_the_execution_property_are_not_checked() {
         assert_eq!((x.kind(), x.depth(), x.stack_offset()), (IdentifierStatus::Global, 1, None));
     });
 }
+
+#[test]
+fn settled_a_let_name_that_is_a_cell_has_its_place_for_a_slot() {
+    let text = "(lambda (p) (let ((y p)) (begin (lambda () (set! y 1)) y)))";
+    let slot = |run| {
+        let mut slot = None;
+        facts_of(run, text, |facts| slot = variable(&facts, 10).stack_offset());
+        slot
+    };
+    assert_eq!((slot(Run::Fresh), slot(Run::Settled)), (Some(1), Some(0)));
+}
