@@ -32,6 +32,10 @@ extern "C" {
 /// All symbols at once, none of them for others.
 const RTLD_NOW: c_int = 2;
 
+/// The symbols, the newest first: those of the earliest ports have no version.
+const FRESH: [&CStr; 2] = [c"scheme_analysis_fresh_v1", c"scheme_analysis_fresh"];
+const SETTLED: [&CStr; 2] = [c"scheme_analysis_settled_v1", c"scheme_analysis_settled"];
+
 /// The lengths as a header names them, in the order of `LENGTHS`.
 const NAMES: [&str; LENGTHS.len()] = ["FACTS", "CAPTURED", "ARGUMENTS", "WORK"];
 
@@ -61,8 +65,8 @@ impl Earlier {
             lengths[i] = length(name)?;
         }
         Ok(Earlier {
-            fresh: symbol(library, c"scheme_analysis_fresh")?,
-            settled: symbol(library, c"scheme_analysis_settled")?,
+            fresh: call(library, &FRESH)?,
+            settled: call(library, &SETTLED)?,
             lengths,
             about: fs::read_to_string(folder.join("ABOUT")).unwrap_or_default().trim().to_string(),
         })
@@ -103,14 +107,17 @@ fn length(header: &str, name: &str) -> Option<usize> {
     rest.trim_start().split(|c: char| !c.is_ascii_digit()).next()?.parse().ok()
 }
 
-fn symbol(library: *mut c_void, name: &CStr) -> Result<Call, String> {
-    // SAFETY: the library is open, and the name ends with a zero.
-    let found = unsafe { dlsym(library, name.as_ptr()) };
-    if found.is_null() {
-        return Err(last_error());
-    }
+fn call(library: *mut c_void, names: &[&CStr]) -> Result<Call, String> {
+    let found = symbol(library, names)?;
     // SAFETY: every port has had both functions with this signature.
     Ok(unsafe { std::mem::transmute::<*mut c_void, Call>(found) })
+}
+
+/// The first of the names that the library has.
+fn symbol(library: *mut c_void, names: &[&CStr]) -> Result<*mut c_void, String> {
+    // SAFETY: the library is open, and the name ends with a zero.
+    let mut found = names.iter().map(|name| unsafe { dlsym(library, name.as_ptr()) });
+    found.find(|symbol| !symbol.is_null()).ok_or_else(|| format!("the earlier port has none of {names:?}"))
 }
 
 fn last_error() -> String {
@@ -127,5 +134,18 @@ mod tests {
         let header = "    SCHEME_ANALYSIS_WORK_LENGTH = 59392,\n    SCHEME_ANALYSIS_FACTS_LENGTH = 81920\n";
         assert_eq!((length(header, "WORK"), length(header, "FACTS")), (Some(59392), Some(81920)));
         assert_eq!(length(header, "CAPTURED"), None);
+    }
+
+    /// In the program itself, where the C library's symbols are found.
+    #[test]
+    fn the_first_name_that_there_is() {
+        // SAFETY: without a path it opens the running program.
+        let library = unsafe { dlopen(std::ptr::null(), RTLD_NOW) };
+        let of = |names: &[&CStr]| symbol(library, names);
+        assert_eq!(of(&[c"no_such_symbol", c"free", c"malloc"]), of(&[c"free"]));
+        assert_ne!(of(&[c"malloc", c"free"]), of(&[c"free"]));
+        assert!(of(&[c"free"]).is_ok());
+        let told = of(&[c"no_such_symbol", c"nor_this"]).unwrap_err();
+        assert!(told.contains("no_such_symbol") && told.contains("nor_this"), "{told}");
     }
 }
