@@ -2,7 +2,7 @@
 
 use crate::case::Case;
 use crate::expected::{expected, Answer, Expected};
-use crate::port::{self, Run};
+use crate::port::{Port, Run};
 use crate::random::Random;
 use crate::refusals::Refusal;
 use crate::tables::{Tables, Wanted, Wrong};
@@ -27,26 +27,27 @@ pub enum Difference {
 const MOST_TOLD: usize = 8;
 
 /// What was expected, and the differences; the first alone where the original itself is one.
-pub fn compare(case: &Case, tables: &mut Tables, random: &mut Random) -> (Option<Expected>, Vec<Difference>) {
+pub fn compare(
+    port: &Port,
+    case: &Case,
+    tables: &mut Tables,
+    random: &mut Random,
+) -> (Option<Expected>, Vec<Difference>) {
     match expected(case) {
         Err(text) => (None, vec![Difference::Original(text)]),
         Ok(expected) => {
             let runs = [(Run::Fresh, &expected.fresh), (Run::Settled, &expected.settled)];
-            let differences =
-                runs.iter().flat_map(|(run, answer)| one_call(*run, answer, case, tables, random)).collect();
+            let mut differences = Vec::new();
+            for (run, answer) in runs {
+                let found = port(run, &case.input, tables.lend(case.lent, random));
+                differences.extend(of_call(run, answer, found, tables));
+            }
             (Some(expected), differences)
         }
     }
 }
 
-fn one_call(
-    run: Run,
-    answer: &Answer,
-    case: &Case,
-    tables: &mut Tables,
-    random: &mut Random,
-) -> Vec<Difference> {
-    let found = port::call(run, &case.input, tables.lend(case.lent, random));
+fn of_call(run: Run, answer: &Answer, found: Option<Refusal>, tables: &Tables) -> Vec<Difference> {
     let wanted = match answer {
         Answer::Refused(refusal) => Some(*refusal),
         Answer::Accepted(_) => None,

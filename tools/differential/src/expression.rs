@@ -51,6 +51,14 @@ pub struct Own {
     pub to: u32,
 }
 
+impl Own {
+    /// Numbers that rise with the place of the record.
+    pub fn plain(at: usize) -> Self {
+        let at = at as u32;
+        Own { id: 10 + at, from: 100 + 2 * at, to: 101 + 2 * at }
+    }
+}
+
 /// The numbers of the records in preorder; `own` is asked by record.
 pub fn numbers(all: &[Expression], own: impl Fn(usize) -> Own) -> Vec<u32> {
     let mut out = Vec::new();

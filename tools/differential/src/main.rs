@@ -15,17 +15,20 @@ mod record;
 mod refusals;
 mod report;
 mod rows;
+mod scheme;
+mod shrink;
 mod stage;
 mod summary;
 mod syntax;
 mod tables;
 mod tally;
+mod tree;
 
 use case::Case;
 use generate::exhaustive::Exhaustive;
 use generate::{damaged_case, exhaustive_case, limits::limits, random_case, scripts::scripts};
 use options::Options;
-use stage::{Differing, Stage};
+use stage::{with_stack, Differing, Stage};
 use std::process::ExitCode;
 use std::time::Instant;
 use tally::Tally;
@@ -47,19 +50,24 @@ fn compare_all(options: &Options) -> ExitCode {
     let fixed: Vec<_> = scripts().into_iter().chain(limits()).map(Case::new).collect();
     let start = Instant::now();
     let (mut told, mut total) = (Vec::new(), Tally::default());
-    let (mut differing, mut smallest) = (0, None);
+    let (mut differing, mut smallest) = (0, Vec::new());
     for stage in stages(options, &all, &fixed) {
         let outcome = stage.run(options.seed, options.threads);
         differing += outcome.differing;
         total += &outcome.tally;
         told.push((stage.name, outcome.tally));
-        let size = |d: &Differing| d.case.input.numbers.len();
-        smallest = smallest.into_iter().chain(outcome.smallest).min_by_key(size);
+        smallest.extend(outcome.smallest);
     }
     print!("{}{}", summary::answers(&told), summary::held(&total));
     print!("listed in docs/DIFFERENCES.md:\n{}", summary::listed(&total));
     println!("{} inputs, {} records, {} seconds", total.inputs, total.records, start.elapsed().as_secs());
-    smallest.iter().for_each(|d| print!("{}", report::differing(d)));
+    let shrunk = smallest.into_iter().map(|d| {
+        eprintln!("shrinking {} number {}", d.stage, d.number);
+        with_stack(|| d.shrunk(options.seed, &port::call))
+    });
+    if let Some(d) = shrunk.min_by_key(Differing::size) {
+        print!("{}", report::differing(&d));
+    }
     println!("{differing} differences");
     if differing == 0 {
         ExitCode::SUCCESS

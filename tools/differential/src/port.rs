@@ -13,6 +13,9 @@ pub enum Run {
     Settled,
 }
 
+/// What stands for the port in a comparison; tests have others.
+pub type Port = dyn Fn(Run, &Input, [&mut [u32]; 4]) -> Option<Refusal> + Sync;
+
 /// The refusal, if there is one. The tables stand in the order of `LENGTHS` and may have any length.
 pub fn call(run: Run, input: &Input, [facts, captured, arguments, work]: [&mut [u32]; 4]) -> Option<Refusal> {
     let operation = match run {

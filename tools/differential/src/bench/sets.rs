@@ -47,7 +47,11 @@ fn captured_in_order() -> Input {
     let begin = |kids| Expression::new(BEGIN, vec![], kids);
     let lambda = |names, body| Expression::new(LAMBDA, names, vec![body]);
     let used = |i: u32| {
-        begin(group(i).map(|name| if (name - 255 * i) % 4 == 0 { set(name) } else { read(name) }).collect())
+        begin(
+            group(i)
+                .map(|name| if (name - 255 * i).is_multiple_of(4) { set(name) } else { read(name) })
+                .collect(),
+        )
     };
     let mut kids: Vec<Expression> = (0..4).map(used).collect();
     kids.push(lambda(vec![], read(0)));

@@ -18,13 +18,13 @@ use trees::{tree, Style};
 pub fn exhaustive_case(all: &Exhaustive, number: u64) -> Case {
     let (tree, second) = (all.tree(number / 2), number % 2 == 1);
     let size: usize = tree.iter().map(Expression::size).sum();
-    let mut ids: Vec<u32> = (10..10 + size as u32).collect();
+    let mut ids: Vec<u32> = (0..size).map(|at| Own::plain(at).id).collect();
     let mut classes = vec![0, 0];
     if second {
         Random::new(0, "exhaustive", number).shuffle(&mut ids);
         classes = vec![(number / 2 % 16) as u8, (number / 32 % 16) as u8];
     }
-    let own = |at: usize| Own { id: ids[at], from: 100 + 2 * at as u32, to: 101 + 2 * at as u32 };
+    let own = |at: usize| Own { id: ids[at], ..Own::plain(at) };
     Case::new(Input { classes, numbers: numbers(&tree, own) })
 }
 
