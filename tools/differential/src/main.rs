@@ -61,10 +61,7 @@ fn compare_all(options: &Options) -> ExitCode {
     print!("{}{}", summary::answers(&told), summary::held(&total));
     print!("listed in docs/DIFFERENCES.md:\n{}", summary::listed(&total));
     println!("{} inputs, {} records, {} seconds", total.inputs, total.records, start.elapsed().as_secs());
-    let shrunk = smallest.into_iter().map(|d| {
-        eprintln!("shrinking {} number {}", d.stage, d.number);
-        with_stack(|| d.shrunk(options.seed, &port::call))
-    });
+    let shrunk = smallest.into_iter().map(|d| with_stack(|| d.shrunk(options.seed, &port::call)));
     if let Some(d) = shrunk.min_by_key(Differing::size) {
         print!("{}", report::differing(&d));
     }

@@ -56,6 +56,7 @@ impl Differing {
         if refusals::first(&self.case).is_some() {
             return self;
         }
+        eprintln!("shrinking {} number {}, {} records", self.stage, self.number, self.size());
         let mut tables = Tables::new(seed);
         let mut differences = |case: &Case| {
             let mut random = Random::new(seed, "tables", self.number);
