@@ -87,6 +87,10 @@ def equation(name, case, opened):
     return f"\n-- {case['text']}\n{name} : {case['goal']}\n{opened}\n{name} = refl\n"
 
 
+class NotProved(Exception):
+    """A crate whose proofs no longer hold, so that nothing can be tried on it."""
+
+
 def check(place, cases, opened):
     """The names of the equations that fail."""
     failed = []
@@ -100,7 +104,8 @@ def check(place, cases, opened):
         said = done.stdout + done.stderr
         wrong = {n for n in re.findall(r"`(t\d+)`", said) if n in part}
         if not wrong and done.returncode != 0:
-            sys.exit(said[-3000:])
+            lost = re.search(r"rt: (\w+) NOT PROVED", said)
+            raise NotProved(lost.group(1)) if lost else SystemExit(said[-3000:])
         failed += [part[n] for n in sorted(wrong)]
         print(f"  {start + len(part)} of {len(cases)}, {len(failed)} failed", flush=True)
     return failed
@@ -218,7 +223,7 @@ def compare_with_guile(tops):
 
 
 def slips(args):
-    """Each slip, made in the definitions, has to make a trial fail."""
+    """Each slip, made in the definitions, has to break the proofs of a crate, or else to make a trial fail."""
     unnoticed = 0
     for name, edits in scripts.SLIPS:
         place = tempfile.mkdtemp()
@@ -230,9 +235,12 @@ def slips(args):
                 out.write(text.replace(old, new))
         print(name)
         opened = unfolding(place)
-        failed = [len(check(place, cases, opened)) for cases in (runs(args)[1], claim_cases(args)[0])]
-        print(f"  scripts that fail: {failed[0]}; claims that fail: {failed[1]}")
-        unnoticed += not any(failed)
+        try:
+            failed = [len(check(place, cases, opened)) for cases in (runs(args)[1], claim_cases(args)[0])]
+            print(f"  scripts that fail: {failed[0]}; claims that fail: {failed[1]}", flush=True)
+            unnoticed += not any(failed)
+        except NotProved as crate:
+            print(f"  not proved any more: {crate}", flush=True)
         shutil.rmtree(place)
     sys.exit(1 if unnoticed else 0)
 
