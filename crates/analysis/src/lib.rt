@@ -70,6 +70,7 @@ fn answer_of(c: Checked) -> Answer
         Checked::Deep(i) => Answer::Refused(5, i),
         Checked::NotAName(i) => Answer::Refused(6, i),
         Checked::EmptyCall(i) => Answer::Refused(7, i),
+        Checked::Untested(i) => Answer::Refused(16, i),
         Checked::Repeated(i) => Answer::Refused(8, i),
     }
 }

@@ -1,4 +1,4 @@
--- What is claimed of the facts: demands 2 and 3 of document 00. Read this first; each word leads to its definition.
+-- What is claimed of the facts: demands 2 and 3 of document 00, and order 7 of document 02. Read this first; each word leads to its definition.
 use Prim.Native.Nat.{ℕ}
 use mathlib.Core.List.{List, []}
 use mathlib.Core.Option.{none}
@@ -6,6 +6,7 @@ use mathlib.Core.Path.{_≡_}
 use lib.ListN.{length}
 use Rattle.tree.specs.Tree.{Trees}
 use Rattle.tree.specs.Define.{innerDefines}
+use Rattle.tree.specs.Expand.{expands, NineFormsIn}
 use Rattle.tree.specs.Accepted.{Accepted}
 use Rattle.semantic.specs.Rows.{Row}
 use Rattle.pass.specs.State.{State}
@@ -13,6 +14,9 @@ use Rattle.pass.specs.Run.{fresh, settled}
 use Rattle.pass.specs.TailPosition.{CallsRecorded}
 use Rattle.pass.specs.Bare.{bares}
 use Rattle.r7rs.specs.Binding.{events}
+use Rattle.r7rs.specs.Tail.{callsIn}
+use Rattle.r7rs.specs.Expansion.{keys}
+use Rattle.r7rs.specs.Alike.{RunAlike}
 use Rattle.r7rs.specs.Run.{plain}
 use Rattle.execution.specs.Slot.{slots}
 use Rattle.execution.specs.Lock.{Lockstep}
@@ -88,3 +92,24 @@ SecondExact =
 abbrev pub PositionsCarried : Type 0
 PositionsCarried =
     (classes : List ℕ) (ts us : Trees) → bares ts ≡ bares us → Same (fresh classes ts) (fresh classes us) × Same (settled classes ts) (settled classes us)
+
+-- Order 7 of document 02: "Facts must equal those of the expanded tree, apart from records that the expansion added". The expansion has the nine forms
+-- of document 01; both runs leave the same facts for it and note the same refusals, so none for an added record. Of every tree.
+
+abbrev pub FactsExpanded : Type 0
+FactsExpanded =
+    (classes : List ℕ) (ts : Trees)
+    → NineFormsIn (expands ts) × (fresh classes (expands ts) ≡ fresh classes ts) × (settled classes (expands ts) ≡ settled classes ts)
+
+-- "Whether a define is inner, and what a call's head or a define's body is, is judged on the expansion": inner defines, mentions and what they mean, and
+-- each call's record and whether it stands in tail position are those of the expansion. So the claims above hold of it too.
+
+abbrev pub JudgedExpanded : Type 0
+JudgedExpanded =
+    (ts : Trees)
+    → (innerDefines (expands ts) ≡ innerDefines ts) × (events (expands ts) ≡ events ts) × (keys (callsIn (expands ts)) ≡ keys (callsIn ts))
+
+-- "R7RS 4.2.1 gives their meaning": the plain machine on the tree as written and on its expansion end alike, or both stop, or neither ends (`RunAlike`)
+
+abbrev pub RunsExpanded : Type 0
+RunsExpanded = (ts : Trees) → RunAlike ts

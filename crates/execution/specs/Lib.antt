@@ -9,6 +9,7 @@ pub mod Positions
 pub mod TailPosition
 pub mod Simulation
 pub mod Carried
+pub mod Expansion
 pub mod Exact
 pub mod Settled
 pub mod BindingFresh

@@ -6,9 +6,9 @@ use mathlib.Core.Bool.{cond}
 use mathlib.Core.Option.{Option, none, some}
 use mathlib.Core.Path.{_≡_, ap}
 use lib.ListN.{getElem?}
-use Rattle.tree.specs.Tree.{Tree, Trees, ident, const, if, letin, define, lambda, begin, call, set!, nil, cons}
+use Rattle.tree.specs.Tree.{Tree, Trees, ident, const, if, letin, define, lambda, sequence, call, set!, nil, cons}
 use Rattle.r7rs.specs.Binding.{Means}
-use Rattle.r7rs.specs.Machine.{Moment, start, entered, read, pushed, place, waiting, kend, kif, kseq, kpush, khead, kdrop, kret, kset, kdef, next, ended, stopped, Cells, lastN, butN}
+use Rattle.r7rs.specs.Machine.{Moment, start, entered, read, pushed, place, waiting, kend, kif, kseq, kpush, khead, kdrop, kret, kset, kdef, next, ended, stopped, Cells, lastN, butN, kand, kwhen}
 use Rattle.r7rs.specs.Plain.{Env, PVal, pconst, punit, pclo, Store, PMem, PBody, PKont, PState, POut}
 use Rattle.r7rs.specs.Run.{Ran}
 use Rattle.semantic.specs.Rows.{Row}
@@ -24,7 +24,7 @@ unfoldable mutual
   idents (letin n xs es b) = identsIn es ++ idents b
   idents (define n x b) = idents b
   idents (lambda n xs b) = idents b
-  idents (begin n es) = identsIn es
+  idents (sequence n es) = identsIn es
   idents (call n h es) = idents h ++ identsIn es
   idents (set! n x e) = x .at ∷ idents e
 
@@ -105,6 +105,8 @@ abbrev pub pushedP : PKont → List PVal
 pushedP (kend es) = []
 pushedP (kif t e k) = pushedP k
 pushedP (kseq e es k) = pushedP k
+pushedP (kand e es k) = pushedP k
+pushedP (kwhen q es k) = pushedP k
 pushedP (kpush i w n es k) = pushedP k
 pushedP (khead i n k) = pushedP k
 pushedP (kdrop n k) = pushedP k
@@ -117,6 +119,8 @@ abbrev pub pushedS : SKont → List SVal → List SVal
 pushedS (kend es) F = []
 pushedS (kif t e k) F = pushedS k F
 pushedS (kseq e es k) F = pushedS k F
+pushedS (kand e es k) F = pushedS k F
+pushedS (kwhen q es k) F = pushedS k F
 pushedS (kpush i w n es k) F = pushedS k (butN n F) ++ lastN n F
 pushedS (khead i n k) F = pushedS k (butN n F) ++ lastN n F
 pushedS (kdrop n k) F = pushedS k (butN n F)

@@ -6,7 +6,7 @@ use mathlib.Core.Option.{Option, none, some}
 use lib.ListN.{length, take, set, getElem?}
 use lib.Dec.{ltb}
 use Rattle.tree.specs.Tree.{Ident, Tree, Trees, nil}
-use Rattle.r7rs.specs.Machine.{start, Kont, kend, kif, kseq, kpush, khead, kdrop, kret, kset, kdef, State, Out, Got, got, missing, astray, state, Cells, unbound, fill, inCell, lastN, butN}
+use Rattle.r7rs.specs.Machine.{start, Kont, kend, kif, kseq, kpush, khead, kdrop, kret, kset, kdef, State, Out, Got, got, missing, astray, state, Cells, unbound, fill, inCell, lastN, butN, kand, kwhen}
 use Rattle.r7rs.specs.Steps.{Procedure, Ops, step}
 use Rattle.r7rs.specs.Run.{Ran, run}
 use Rattle.semantic.specs.Rows.{Row}
@@ -107,6 +107,8 @@ abbrev pub giveUp : SKont → SKont
 giveUp (kend es) = kend es
 giveUp (kif t e k) = giveUp k
 giveUp (kseq e es k) = giveUp k
+giveUp (kand e es k) = giveUp k
+giveUp (kwhen q es k) = giveUp k
 giveUp (kpush i w n es k) = giveUp k
 giveUp (khead i n k) = giveUp k
 giveUp (kdrop n k) = giveUp k

@@ -7,7 +7,7 @@ ghost use mathlib.Core.Path.{_≡_};
 ghost use Prim.Native.Nat.{_+_, _<_};
 ghost use Rattle.flags.specs.Flags.{Most, FlagsAre};
 ghost use Rattle.flags.specs.Part.{Room, atPart};
-ghost use Rattle.flags.specs.declared.Part.the-variants.{NotTail, SameTail, LetBody, Body, Argument, Next, Head, Child, DefineBody};
+ghost use Rattle.flags.specs.declared.Part.the-variants.{NotTail, SameTail, LetBody, Body, Argument, Next, Head, InBegin, InAnd, Child, DefineBody};
 ghost use Rattle.pass.specs.Visit.{topFlags};
 
 // `function_context`: the record of the innermost lambda, counted from 1, and its id. With no lambda around, 0 and NONE.
@@ -46,7 +46,10 @@ pub enum Part {
     Next,
     // of a call: whether it is a lambda, and how many arguments there are
     Head(bool, u32),
-    // of an inner begin: whether it is the last
+    // what an inner begin hands its children, and an and: whether it has one child alone
+    InBegin,
+    InAnd(bool),
+    // of a row of children, with what the whole row is handed: whether it is the last
     Child(bool),
     DefineBody,
 }
@@ -155,11 +158,24 @@ impl Flags {
         }
     }
 
+    fn in_begin(mut self) -> Self
+        ensures { λ r. ⌜ r ≡ atPart InBegin self ⌝ }
+    {
+        self.direct = true;
+        self
+    }
+
+    fn in_and(mut self, alone: bool) -> Self
+        ensures { λ r. ⌜ r ≡ atPart (InAnd alone) self ⌝ }
+    {
+        self.direct = alone && self.direct;
+        self
+    }
+
     fn child(mut self, last: bool) -> Self
         ensures { λ r. ⌜ r ≡ atPart (Child last) self ⌝ }
     {
         self.tail = self.tail && last;
-        self.direct = true;
         self
     }
 
@@ -186,6 +202,8 @@ impl Flags {
             Part::Argument => self.argument(),
             Part::Next => self.next(),
             Part::Head(lambda, k) => self.head(lambda, k),
+            Part::InBegin => self.in_begin(),
+            Part::InAnd(alone) => self.in_and(alone),
             Part::Child(last) => self.child(last),
             Part::DefineBody => self.define_body(),
         }

@@ -9,7 +9,9 @@ use lib.ListN.{length}
 use lib.Dec.{eqb, ltb}
 use Rattle.tree.specs.Record.{records}
 use Rattle.tree.specs.RecordLaws.{nth}
-use Rattle.tree.specs.Tree.{Ident, Node, Tree, Trees, ident, const, if, letin, define, lambda, begin, call, set!, nil, cons, many, size}
+use Rattle.tree.specs.Tree.{Ident, Node, Tree, Trees, ident, const, if, letin, define, lambda, sequence, call, set!, nil, cons, many, size}
+use Rattle.tree.specs.Core.{core, cores, peel}
+use Rattle.tree.specs.CoreLaws.{by-peel}
 use Rattle.tree.specs.Parts.{own}
 use Rattle.tree.specs.Stands.{Stands, StandAll}
 use Rattle.tree.specs.StandsLaws.{root, root-form}
@@ -35,7 +37,7 @@ use Rattle.work.specs.GoodLaws.{Sized, sized-same, sized-then, good-each}
 use Rattle.work.specs.declared.Pass.{Pass}
 use Rattle.work.specs.declared.entries.Entry.{Entry as Coded}
 use Rattle.work.specs.declared.scope.Binder.{Binder}
-use Rattle.walk.specs.Contract.{SomeTree, StepsOver}
+use Rattle.walk.specs.Contract.{SomeTree, StepsOver, Reaches}
 use Rattle.forms.specs.Contract.{Fits, CallFits, EndsCall}
 use Rattle.forms.specs.FitsLaws.{fact-inside, tied-amend}
 use Rattle.forms.specs.GoodLaws.{sized-last}
@@ -161,13 +163,13 @@ module _ (rs : List ℕ) (at : ℕ) (p : Pass) (F w : List ℕ) where
       go C A s (letin n xs es b) out k = k
       go C A s (define n x b) out k = k
       go C A s (lambda n xs b) out k = k
-      go C A s (begin n es) out k = k
+      go C A s (sequence n es) out k = k
       go C A s (call n h es) out k = k
       go C A s (set! n x e) out k = k
 
--- Arguments in a row
+-- Arguments in a row, each as what it is
 
-pub marks-walk : Walks markArguments markArgument
+pub marks-walk : Walks (λ ts. markArguments (cores ts)) (λ t. markArgument (core t))
 unfolding markArguments
 marks-walk = record { none = λ s. refl; more = λ t ts s. refl }
 
@@ -182,7 +184,7 @@ sized-argument (if n a b c) s = sized-same s
 sized-argument (letin n xs es b) s = sized-same s
 sized-argument (define n x b) s = sized-same s
 sized-argument (lambda n xs b) s = sized-same s
-sized-argument (begin n es) s = sized-same s
+sized-argument (sequence n es) s = sized-same s
 sized-argument (call n h es) s = sized-same s
 sized-argument (set! n x e) s = sized-same s
 
@@ -193,7 +195,7 @@ good-argument {s = s} t g = good-each g (sized-argument t s) (λ Q l F z h. each
 -- the state of the loop: i arguments are done, and the next is at the record `at`
 pub record Marking (rs : List ℕ) (first k : ℕ) (p : Pass) (F w : List ℕ) (at i : ℕ) (F′ : List ℕ) : Type 0 where
   pub is : (N : ℕ) (C A : List ℕ) (s : State) (es : Trees) → StandAll N rs first es → k ≡ many es → Fits rs (raw p F C A w) s
-      → Left marks-walk N rs at (k - i) (raw p F′ C A w) (markArguments es s)
+      → Left marks-walk N rs at (k - i) (raw p F′ C A w) (markArguments (cores es) s)
 
 module _ {rs : List ℕ} {first k : ℕ} {p : Pass} {F w : List ℕ} where
   pub marking-starts : Marking rs first k p F w first 0 F
@@ -203,31 +205,34 @@ module _ {rs : List ℕ} {first k : ℕ} {p : Pass} {F w : List ℕ} where
     pub marking-ends : k ≤ i → MarksArguments rs first k p F w F′
     marking-ends h = record { is = λ N C A s es a b f. left-done marks-walk N rs (m .is N C A s es a b f) (omega arith) }
 
-    pub marking-goes : i < k → {n : ℕ} {F″ : List ℕ} → MarksArgument rs at p F′ w F″ → StepsOver rs at (k - (i + 1)) n → Marking rs first k p F w (at + n) (i + 1) F″
-    marking-goes h {n} {F″} d x = record {
+    pub marking-goes : i < k → {n r : ℕ} {F″ : List ℕ} → Reaches rs at r → MarksArgument rs r p F′ w F″ → StepsOver rs at (k - (i + 1)) n → Marking rs first k p F w (at + n) (i + 1) F″
+    marking-goes h {n} {F″ = F″} c d x = record {
       is = λ N C A s es a b f.
           let l = m .is N C A s es a b f in
           let t = left-head marks-walk N rs l (omega arith) in
-          let g : Fits rs (raw p F″ C A w) (markArgument (t .t) (l .s)) =
-          record { good = good-argument (t .t) (l .fits .good); tied = d .is N C A (l .s) (t .t) (t .stands) (l .fits) } in
-          subst (λ (j : ℕ). Left marks-walk N rs (at + n) j (raw p F″ C A w) (markArguments es s)) (omega arith) (t .next n _ (subst (λ (j : ℕ). StepsOver rs at j n) (omega arith) x) g);
+          let g : Fits rs (raw p F″ C A w) (markArgument (core (t .t)) (l .s)) = record {
+            good = good-argument (core (t .t)) (l .fits .good);
+            tied = subst (Tied (raw p F″ C A w)) (sym (by-peel (λ (u : Tree). markArgument u (l .s)) (λ m. refl) (t .t)))
+                (d .is N C A (l .s) (peel (t .t)) (c .is N (t .t) (t .stands)) (l .fits));
+          } in
+          subst (λ (j : ℕ). Left marks-walk N rs (at + n) j (raw p F″ C A w) (markArguments (cores es) s)) (omega arith) (t .next n _ (subst (λ (j : ℕ). StepsOver rs at j n) (omega arith) x) g);
     }
 
     module _ (a : ArgumentsFit rs first k p F w) (h : i < k) where
-      here : Left marks-walk (a .names) rs at (k - i) (raw p F′ (a .captured) (a .arguments) w) (markArguments (a .es) (a .s))
+      here : Left marks-walk (a .names) rs at (k - i) (raw p F′ (a .captured) (a .arguments) w) (markArguments (cores (a .es)) (a .s))
       here = m .is (a .names) (a .captured) (a .arguments) (a .s) (a .es) (a .stand) (a .count) (a .fits)
 
-      tree-here : Head marks-walk (a .names) rs at (k - i) (here .s) (markArguments (a .es) (a .s))
+      tree-here : Head marks-walk (a .names) rs at (k - i) (here .s) (markArguments (cores (a .es)) (a .s))
       tree-here = left-head marks-walk (a .names) rs here (omega arith)
 
-      pub marking-fits : ArgumentFits rs at p F′ w
-      marking-fits = record {
+      pub marking-fits : {r : ℕ} → Reaches rs at r → ArgumentFits rs r p F′ w
+      marking-fits c = record {
         names = a .names;
         captured = a .captured;
         arguments = a .arguments;
         s = here .s;
-        t = tree-here .t;
-        stands = tree-here .stands;
+        t = peel (tree-here .t);
+        stands = c .is (a .names) (tree-here .t) (tree-here .stands);
         fits = here .fits;
       }
 
@@ -272,9 +277,9 @@ module _ (rs : List ℕ) (at first k : ℕ) (p : Pass) (F w : List ℕ) where
 
   module _ {b : Bool} {F′ : List ℕ} (m : MarksIfTail rs first k b p F w F′) where
     after-marks : {N : ℕ} {C A : List ℕ} {s : State} {n : Node} {h : Tree} {es : Trees} → Stands N rs at (call n h es) → first ≡ at + 1 + size h
-        → k ≡ many es → Fits rs (raw p F C A w) s → Fits rs (raw p F′ C A w) (markIfTail b es s)
+        → k ≡ many es → Fits rs (raw p F C A w) s → Fits rs (raw p F′ C A w) (markIfTail b (cores es) s)
     after-marks {N} {C} {A} {s} {es = es} a e c f = record {
-      good = good-if-tail b es (f .good);
+      good = good-if-tail b (cores es) (f .good);
       tied = m .is N C A s es (rw e (call-parts a .operands)) c f;
     }
 
@@ -284,7 +289,7 @@ module _ (rs : List ℕ) (at first k : ℕ) (p : Pass) (F w : List ℕ) where
       captured = a .captured;
       arguments = a .arguments;
       work = w;
-      s = markIfTail b (a .es) (a .s);
+      s = markIfTail b (cores (a .es)) (a .s);
       n = a .n;
       h = a .h;
       es = a .es;

@@ -7,7 +7,9 @@ use native.Mathlib.Omega.{arith}
 use lib.ListN.{length}
 use Rattle.tree.specs.Record.{records}
 use Rattle.tree.specs.RecordLaws.{nth}
-use Rattle.tree.specs.Tree.{Tree, Trees, ident, const, if, letin, define, lambda, begin, call, set!, many}
+use Rattle.tree.specs.Tree.{Tree, Trees, ident, const, if, letin, define, lambda, sequence, call, set!, many}
+use Rattle.tree.specs.Core.{core, cores, peel}
+use Rattle.tree.specs.CoreLaws.{by-peel}
 use Rattle.tree.specs.Parts.{own}
 use Rattle.tree.specs.Stands.{Stands, StandAll}
 use Rattle.tree.specs.StandsLaws.{root, root-form}
@@ -22,7 +24,7 @@ use Rattle.pass.specs.Laws.Sound.Rooms.{grows-none, grows-wide, grows-define}
 use Rattle.work.specs.WorksLaws.{names-many}
 use Rattle.work.specs.Tied.{raw, Tied, Good}
 use Rattle.work.specs.declared.Pass.{Pass}
-use Rattle.walk.specs.Contract.{SomeTree, SomeTreeOf, StepsOver, TellsBody}
+use Rattle.walk.specs.Contract.{SomeTree, SomeTreeOf, StepsOver, TellsBody, Reaches}
 use Rattle.walk.specs.declared.body.Body.{Body as Says}
 use Rattle.names.specs.Contract.{Room, Defined, DefinesBy}
 use Rattle.forms.specs.Contract.{Fits, NamesRoom, ChildFits, EntersChild, ChildrenFit, EntersChildren}
@@ -49,7 +51,7 @@ module _ (classes rs : List ℕ) (at : ℕ) (kind : IdentifierStatus) (p : Pass)
       go C A s (letin n xs es b) out k = k
       go C A s (define n x b) out k = absurd (out refl)
       go C A s (lambda n xs b) out k = k
-      go C A s (begin n es) out k = k
+      go C A s (sequence n es) out k = k
       go C A s (call n h es) out k = k
       go C A s (set! n x e) out k = k
 
@@ -81,9 +83,9 @@ module _ (classes rs : List ℕ) (at : ℕ) (kind : IdentifierStatus) (p : Pass)
             rw (d .is, z) (f .tied);
       }
 
--- Trees in a row
+-- Trees in a row, each as what it is
 
-pub enters-walk : (classes : List ℕ) (kind : IdentifierStatus) → Walks (enterEach classes kind) (enterOne classes kind)
+pub enters-walk : (classes : List ℕ) (kind : IdentifierStatus) → Walks (λ ts. enterEach classes kind (cores ts)) (λ t. enterOne classes kind (core t))
 unfolding enterEach
 enters-walk classes kind = record { none = λ s. refl; more = λ t ts s. refl }
 
@@ -99,7 +101,7 @@ module _ (classes : List ℕ) (kind : IdentifierStatus) where
       go true = good-define classes kind NONE x b (known-ident (define-parts a .name)) g
       go false = g
   good-one (lambda n xs b) a g = g
-  good-one (begin n es) a g = g
+  good-one (sequence n es) a g = g
   good-one (call n h es) a g = g
   good-one (set! n x e) a g = g
 
@@ -114,14 +116,14 @@ module _ (classes : List ℕ) (kind : IdentifierStatus) where
       go true = grows-define classes kind NONE x b s
       go false = grows-wide (omega arith) grows-none
   grows-one (lambda n xs b) s = grows-wide (omega arith) grows-none
-  grows-one (begin n es) s = grows-wide (omega arith) grows-none
+  grows-one (sequence n es) s = grows-wide (omega arith) grows-none
   grows-one (call n h es) s = grows-wide (omega arith) grows-none
   grows-one (set! n x e) s = grows-wide (omega arith) grows-none
 
 -- the state of the loop: i trees are done, and the next is at the record `at`
 pub record Going (classes rs : List ℕ) (first k : ℕ) (kind : IdentifierStatus) (p : Pass) (F w : List ℕ) (at i : ℕ) (q : Pass) (F′ w′ : List ℕ) : Type 0 where
   pub is : (C A : List ℕ) (s : State) (es : Trees) → StandAll (length classes) rs first es → k ≡ many es → Fits rs (raw p F C A w) s
-      → Left (enters-walk classes kind) (length classes) rs at (k - i) (raw q F′ C A w′) (enterEach classes kind es s)
+      → Left (enters-walk classes kind) (length classes) rs at (k - i) (raw q F′ C A w′) (enterEach classes kind (cores es) s)
 
 module _ {classes rs : List ℕ} {first k : ℕ} {kind : IdentifierStatus} {p : Pass} {F w : List ℕ} where
   pub going-starts : Going classes rs first k kind p F w first 0 p F w
@@ -134,35 +136,37 @@ module _ {classes rs : List ℕ} {first k : ℕ} {kind : IdentifierStatus} {p : 
     module _ (h : i < k) where
       -- what the next tree leaves
       left : {q′ : Pass} {F″ w″ C A : List ℕ} {out : State} (l : Left (enters-walk classes kind) (length classes) rs at (k - i) (raw q F′ C A w′) out)
-          (t : Head (enters-walk classes kind) (length classes) rs at (k - i) (l .s) out) → EntersChild classes rs at kind q F′ w′ q′ F″ w″
-          → Fits rs (raw q′ F″ C A w″) (enterOne classes kind (t .t) (l .s))
-      left {C = C} {A} l t d =
-          record { good = good-one classes kind (t .t) (t .stands) (l .fits .good); tied = d .is C A (l .s) (t .t) (t .stands) (l .fits) }
+          (t : Head (enters-walk classes kind) (length classes) rs at (k - i) (l .s) out) {r : ℕ} → Reaches rs at r → EntersChild classes rs r kind q F′ w′ q′ F″ w″
+          → Fits rs (raw q′ F″ C A w″) (enterOne classes kind (core (t .t)) (l .s))
+      left {C = C} {A} l t c d =
+          let u = c .is (length classes) (t .t) (t .stands) in
+          subst (Fits rs _) (sym (by-peel (λ (v : Tree). enterOne classes kind v (l .s)) (λ m. refl) (t .t)))
+          (record { good = good-one classes kind (peel (t .t)) u (l .fits .good); tied = d .is C A (l .s) (peel (t .t)) u (l .fits) })
 
-      pub going-goes : {n : ℕ} {q′ : Pass} {F″ w″ : List ℕ} → EntersChild classes rs at kind q F′ w′ q′ F″ w″ → StepsOver rs at (k - (i + 1)) n
+      pub going-goes : {n r : ℕ} {q′ : Pass} {F″ w″ : List ℕ} → Reaches rs at r → EntersChild classes rs r kind q F′ w′ q′ F″ w″ → StepsOver rs at (k - (i + 1)) n
           → Going classes rs first k kind p F w (at + n) (i + 1) q′ F″ w″
-      going-goes {n} {q′} {F″} {w″} d x = record {
+      going-goes {n} {q′ = q′} {F″} {w″} c d x = record {
         is = λ C A s es a b f.
             let l = m .is C A s es a b f in
             let t = left-head (enters-walk classes kind) (length classes) rs l (omega arith) in
-            subst (λ (j : ℕ). Left (enters-walk classes kind) (length classes) rs (at + n) j (raw q′ F″ C A w″) (enterEach classes kind es s)) (omega arith)
-            (t .next n _ (subst (λ (j : ℕ). StepsOver rs at j n) (omega arith) x) (left l t d));
+            subst (λ (j : ℕ). Left (enters-walk classes kind) (length classes) rs (at + n) j (raw q′ F″ C A w″) (enterEach classes kind (cores es) s)) (omega arith)
+            (t .next n _ (subst (λ (j : ℕ). StepsOver rs at j n) (omega arith) x) (left l t c d));
       }
 
       module _ (a : ChildrenFit (length classes) rs first k p F w) where
-        here : Left (enters-walk classes kind) (length classes) rs at (k - i) (raw q F′ (a .captured) (a .arguments) w′) (enterEach classes kind (a .es) (a .s))
+        here : Left (enters-walk classes kind) (length classes) rs at (k - i) (raw q F′ (a .captured) (a .arguments) w′) (enterEach classes kind (cores (a .es)) (a .s))
         here = m .is (a .captured) (a .arguments) (a .s) (a .es) (a .stand) (a .count) (a .fits)
 
-        tree-here : Head (enters-walk classes kind) (length classes) rs at (k - i) (here .s) (enterEach classes kind (a .es) (a .s))
+        tree-here : Head (enters-walk classes kind) (length classes) rs at (k - i) (here .s) (enterEach classes kind (cores (a .es)) (a .s))
         tree-here = left-head (enters-walk classes kind) (length classes) rs here (omega arith)
 
-        pub going-fits : NamesRoom q (k - i) → ChildFits (length classes) rs at q F′ w′
-        going-fits r = record {
+        pub going-fits : {r : ℕ} → Reaches rs at r → NamesRoom q (k - i) → ChildFits (length classes) rs r q F′ w′
+        going-fits c r = record {
           captured = a .captured;
           arguments = a .arguments;
           s = here .s;
-          t = tree-here .t;
-          stands = tree-here .stands;
+          t = peel (tree-here .t);
+          stands = c .is (length classes) (tree-here .t) (tree-here .stands);
           fits = here .fits;
           room = omega arith;
         }
@@ -174,10 +178,10 @@ module _ {classes rs : List ℕ} {first k : ℕ} {kind : IdentifierStatus} {p : 
         going-few x = step-few (tree-here .stands) x
 
         -- one name more at most
-        pub going-room : {q′ : Pass} {F″ w″ : List ℕ} → NamesRoom q (k - i) → EntersChild classes rs at kind q F′ w′ q′ F″ w″ → NamesRoom q′ (k - (i + 1))
-        going-room r d = omega (
+        pub going-room : {r : ℕ} {q′ : Pass} {F″ w″ : List ℕ} → NamesRoom q (k - i) → Reaches rs at r → EntersChild classes rs r kind q F′ w′ q′ F″ w″ → NamesRoom q′ (k - (i + 1))
+        going-room g c d = omega (
           arith,
           names-many (here .fits .tied .works),
-          names-many (left here tree-here d .tied .works),
-          grows-one classes kind (tree-here .t) (here .s) .live,
+          names-many (left here tree-here c d .tied .works),
+          grows-one classes kind (core (tree-here .t)) (here .s) .live,
         )

@@ -1,3 +1,4 @@
+pub mod Heads
 pub mod Idents
 pub mod Trees
 pub mod CallsCase

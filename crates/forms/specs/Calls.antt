@@ -1,10 +1,13 @@
 -- What the functions at the end of a call promise.
 use Prim.Native.Nat.{ℕ, _+_, _<_}
 use mathlib.Core.List.{List}
-use mathlib.Core.Bool.{Bool}
+use mathlib.Core.Bool.{Bool, _&&_, _||_}
 use mathlib.Core.Path.{_≡_}
 use lib.ListN.{length}
+use lib.Dec.{eqb}
+use Rattle.tree.specs.Record.{Record}
 use Rattle.tree.specs.Tree.{Ident, Node, Tree, Trees, call, many}
+use Rattle.tree.specs.Core.{core, cores}
 use Rattle.tree.specs.Stands.{Stands, StandAll}
 use Rattle.semantic.specs.Rows.{CallSite}
 use Rattle.pass.specs.State.{State, newest}
@@ -53,15 +56,19 @@ pub record ArgumentsFit (rs : List ℕ) (first k : ℕ) (p : Pass) (F w : List �
 
 pub record MarksArguments (rs : List ℕ) (first k : ℕ) (p : Pass) (F w : List ℕ) (F′ : List ℕ) : Type 0 where
   pub is : (N : ℕ) (C A : List ℕ) (s : State) (es : Trees) → StandAll N rs first es → k ≡ many es → Fits rs (raw p F C A w) s
-      → Tied (raw p F′ C A w) (markArguments es s)
+      → Tied (raw p F′ C A w) (markArguments (cores es) s)
 
 pub record MarksIfTail (rs : List ℕ) (first k : ℕ) (tail : Bool) (p : Pass) (F w : List ℕ) (F′ : List ℕ) : Type 0 where
   pub is : (N : ℕ) (C A : List ℕ) (s : State) (es : Trees) → StandAll N rs first es → k ≡ many es → Fits rs (raw p F C A w) s
-      → Tied (raw p F′ C A w) (markIfTail tail es s)
+      → Tied (raw p F′ C A w) (markIfTail tail (cores es) s)
 
 -- the fact at the record refers to the define that the walk is in
 pub record TellsSelf (at : ℕ) (p : Pass) (F : List ℕ) (r : Bool) : Type 0 where
   pub is : (rs C A w : List ℕ) (s : State) (x : Ident) → x .at ≡ at → Fits rs (raw p F C A w) s → r ≡ isSelf s x
+
+-- a constant's record: an and of none is #t
+abbrev pub constantRecord : Record → Bool
+constantRecord r = eqb (r .form) 2 || eqb (r .form) 10 && eqb (r .count) 0
 
 -- the call's own fact, after its arguments
 pub record Called (rs : List ℕ) (at : ℕ) (p : Pass) (F : List ℕ) : Type 0 where
@@ -78,4 +85,4 @@ pub record Called (rs : List ℕ) (at : ℕ) (p : Pass) (F : List ℕ) : Type 0 
 
 pub record MakesCall (rs : List ℕ) (at : ℕ) (tail : Bool) (k : ℕ) (p : Pass) (F : List ℕ) (F′ : List ℕ) : Type 0 where
   pub is : (N : ℕ) (C A w : List ℕ) (s : State) (n : Node) (h : Tree) (es : Trees) → Stands N rs at (call n h es) → Fits rs (raw p F C A w) s
-      → Tied (raw p F′ C A w) (callFact h n tail k s)
+      → Tied (raw p F′ C A w) (callFact (core h) n tail k s)

@@ -6,6 +6,7 @@ use mathlib.Core.Option.{Option, none, some}
 use mathlib.Core.Path.{_≡_}
 use lib.ListN.{length}
 use Rattle.tree.specs.Tree.{Ident, Node, Tree, Trees, define, call, many, size}
+use Rattle.tree.specs.Core.{cores}
 use Rattle.tree.specs.Stands.{Stands, StandAll}
 use Rattle.scope_map.specs.ScopeMap.{newestLayer}
 use Rattle.scope_map.specs.Hints.{rowsLength}
@@ -219,7 +220,7 @@ pub record ChildrenFit (N : ℕ) (rs : List ℕ) (first k : ℕ) (p : Pass) (F w
 
 pub record EntersChildren (classes rs : List ℕ) (first k : ℕ) (kind : IdentifierStatus) (p : Pass) (F w : List ℕ) (p′ : Pass) (F′ w′ : List ℕ) : Type 0 where
   pub is : (C A : List ℕ) (s : State) (es : Trees) → StandAll (length classes) rs first es → k ≡ many es → Fits rs (raw p F C A w) s
-      → Tied (raw p′ F′ C A w′) (enterEach classes kind es s)
+      → Tied (raw p′ F′ C A w′) (enterEach classes kind (cores es) s)
 
 pub record ChildFits (N : ℕ) (rs : List ℕ) (at : ℕ) (p : Pass) (F w : List ℕ) : Type 0 where
   pub captured : List ℕ

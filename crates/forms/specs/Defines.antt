@@ -3,7 +3,7 @@ use Prim.Native.Nat.{ℕ}
 use mathlib.Core.List.{List}
 use mathlib.Core.Bool.{Bool, true, false}
 use mathlib.Core.Path.{_≡_, refl, ap, _∙_}
-use Rattle.tree.specs.Tree.{Ident, Tree, Trees, ident, const, if, letin, define, lambda, begin, call, set!, nil, cons}
+use Rattle.tree.specs.Tree.{Ident, Tree, Trees, ident, const, if, letin, define, lambda, sequence, call, set!, nil, cons}
 use Rattle.semantic.specs.Information.{NONE}
 use Rattle.semantic.specs.declared.IdentifierStatus.{IdentifierStatus}
 use Rattle.semantic.specs.declared.IdentifierStatus.the-variants.{Global, Local, LocallyDefinedFunction}
@@ -23,7 +23,7 @@ module _ (classes : List ℕ) (kind : IdentifierStatus) where
   enterOne (letin n xs es b) s = s
   enterOne (define n x b) s = enterIf (isLambda b) x b s
   enterOne (lambda n xs b) s = s
-  enterOne (begin n es) s = s
+  enterOne (sequence n es) s = s
   enterOne (call n h es) s = s
   enterOne (set! n x e) s = s
 
@@ -49,7 +49,7 @@ module _ (classes : List ℕ) where
       go true = refl
       go false = refl
   child-entered (lambda n xs b) s = refl
-  child-entered (begin n es) s = refl
+  child-entered (sequence n es) s = refl
   child-entered (call n h es) s = refl
   child-entered (set! n x e) s = refl
 
@@ -70,7 +70,7 @@ module _ (classes : List ℕ) where
       go true = refl
       go false = refl
   top-entered (lambda n xs b) s = refl
-  top-entered (begin n es) s = refl
+  top-entered (sequence n es) s = refl
   top-entered (call n h es) s = refl
   top-entered (set! n x e) s = refl
 

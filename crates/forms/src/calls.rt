@@ -4,6 +4,7 @@ use semantic::CallSiteInformation;
 use semantic::NONE;
 use semantic::Span;
 use table::wide;
+use walk::body::core_at;
 use walk::extent::step_over;
 use work::Pass;
 use work::entries::load_entry;
@@ -19,7 +20,9 @@ ghost use Rattle.semantic.specs.Rows.{rowWidth, putRow, CallSite};
 ghost use Rattle.semantic.specs.Leaves.{Stores};
 ghost use Rattle.pass.specs.Visit.{callKind};
 ghost use Rattle.forms.specs.Contract.{CallFits, EndsCall, ClearsContext};
-ghost use Rattle.forms.specs.Calls.{Mentioned, IsLast, ArgumentFits, MarksArgument, ArgumentsFit, MarksArguments, MarksIfTail, TellsSelf, Called, MakesCall};
+ghost use Rattle.tree.specs.Record.{records};
+ghost use Rattle.tree.specs.RecordLaws.{nth};
+ghost use Rattle.forms.specs.Calls.{constantRecord, Mentioned, IsLast, ArgumentFits, MarksArgument, ArgumentsFit, MarksArguments, MarksIfTail, TellsSelf, Called, MakesCall};
 
 // Whether the identifier's last use so far is the one at the record.
 fn is_last_use(all: &[u32], at: usize, p: Pass, work: &[u32]) -> bool
@@ -57,7 +60,7 @@ fn mark_arguments(all: &[u32], first: usize, k: usize, p: Pass, facts: &mut [u32
     let mut at = first;
     let mut i = 0;
     while i < k {
-        mark_argument(all, at, p, facts, work);
+        mark_argument(all, core_at(all, at), p, facts, work);
         i += 1;
         at += step_over(all, at, k - i);
     }
@@ -91,31 +94,32 @@ fn call_site(at: usize, kind: CallKind, span: Span, facts: &mut [u32])
     semantic::rows::store_call_site(facts, at, CallSiteInformation::new(kind, span));
 }
 
+// Whether the tree at the record is a constant: an and of none is #t.
+fn is_constant(all: &[u32], at: usize) -> bool
+    requires { ⌜ at < length (records (now all)) ⌝ }
+    ensures { λ r. ⌜ r ≡ constantRecord (nth (now (all .entry)) at) ⌝ }
+{
+    let form = tree::record::form(all, at);
+    form == 2 || form == 10 && tree::record::count(all, at) == 0
+}
+
 // A constant head leaves no fact.
 fn call_fact(all: &[u32], at: usize, tail: bool, k: u32, p: Pass, facts: &mut [u32])
     requires { ⌜ Called (now all) at p (now facts) ⌝ }
     ensures { λ _. ⌜ MakesCall (now (all .entry)) at tail k p (now (facts .entry)) (now (facts .exit)) ⌝ }
 {
-    let head = at + 1;
-    let form = tree::record::form(all, head);
-    match form {
-        1 => {
-            let own = is_self(head, p, facts);
-            call_site(
-                at,
-                call_kind(tail, own, k),
-                names::facts::span_at(all, head),
-                facts,
-            );
-        }
-        2 => (),
-        _ => call_site(
-            at,
-            call_kind(tail, false, k),
-            names::facts::span_at(all, at),
-            facts,
-        ),
+    let head = core_at(all, at + 1);
+    if is_constant(all, head) {
+        return;
     }
+    if tree::record::form(all, head) == 1 {
+        let own = is_self(head, p, facts);
+        let span = names::facts::span_at(all, head);
+        call_site(at, call_kind(tail, own, k), span, facts);
+        return;
+    }
+    let span = names::facts::span_at(all, at);
+    call_site(at, call_kind(tail, false, k), span, facts);
 }
 
 // A call in tail position is a tail call above the bottom layer.

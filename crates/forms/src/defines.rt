@@ -6,6 +6,7 @@ use semantic::IdentifierStatus;
 use semantic::NONE;
 use walk::body::Body;
 use walk::body::body_at;
+use walk::body::core_at;
 use walk::extent::step_over;
 use work::Pass;
 ghost use lib.ListN.{length};
@@ -141,7 +142,7 @@ pub fn enter_children(
     let mut at = first;
     let mut i = 0;
     while i < k {
-        q = enter_child(classes, all, at, kind, q, facts, work);
+        q = enter_child(classes, all, core_at(all, at), kind, q, facts, work);
         i += 1;
         at += step_over(all, at, k - i);
     }

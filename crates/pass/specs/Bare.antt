@@ -12,7 +12,7 @@ pub mod Runs
 use mathlib.Core.List.{map}
 use mathlib.Core.Option.{Option·map}
 use mathlib.Core.Path.{_≡_}
-use Rattle.tree.specs.Tree.{Node, Ident, Tree, Trees, ident, const, if, letin, define, lambda, begin, call, set!, nil, cons}
+use Rattle.tree.specs.Tree.{Node, Ident, Tree, Trees, ident, const, if, letin, define, lambda, sequence, call, set!, nil, cons, Sequence, begins, ands, whens}
 use Rattle.scope_map.specs.MapLaws.{mapValues}
 use Rattle.semantic.specs.Rows.{Row, Blank, Variable, Function, CallSite, Let, Item}
 use Rattle.semantic.specs.declared.Span.{Span}
@@ -27,6 +27,11 @@ bareNode n = record { at = n .at; id = n .id; from = 0; to = 0 }
 abbrev pub bareIdent : Ident → Ident
 bareIdent x = record { at = x .at; id = x .id; name = x .name; from = 0; to = 0 }
 
+abbrev pub bareSequence : Sequence → Sequence
+bareSequence (begins n) = begins (bareNode n)
+bareSequence (ands n) = ands (bareNode n)
+bareSequence (whens b n) = whens b (bareNode n)
+
 unfoldable mutual
   pub bare : Tree → Tree
   bare (ident x) = ident (bareIdent x)
@@ -35,7 +40,7 @@ unfoldable mutual
   bare (letin n xs es b) = letin (bareNode n) (map bareIdent xs) (bares es) (bare b)
   bare (define n x b) = define (bareNode n) (bareIdent x) (bare b)
   bare (lambda n xs b) = lambda (bareNode n) (map bareIdent xs) (bare b)
-  bare (begin n es) = begin (bareNode n) (bares es)
+  bare (sequence n es) = sequence (bareSequence n) (bares es)
   bare (call n h es) = call (bareNode n) (bare h) (bares es)
   bare (set! n x e) = set! (bareNode n) (bareIdent x) (bare e)
 

@@ -5,7 +5,7 @@ use mathlib.Core.Bool.{Bool, true, false, cond, not, _&&_, _||_}
 use mathlib.Core.Option.{Option, none, some}
 use lib.ListN.{length, getD}
 use lib.Dec.{eqb, ltb}
-use Rattle.tree.specs.Tree.{Ident, Node, Tree, Trees, ident, const, if, letin, define, lambda, begin, call, set!, nil, cons}
+use Rattle.tree.specs.Tree.{Ident, Node, Tree, Trees, ident, const, if, letin, define, lambda, sequence, call, set!, nil, cons}
 use Rattle.tree.specs.Check.{member}
 use Rattle.scope_map.specs.ScopeMap.{ScopeMap, Live, pushLayer, popLayer, newestLayer}
 use Rattle.scope_map.specs.ScopeMap as scopeMap
@@ -93,7 +93,7 @@ unfoldable mutual
   namesUsed (letin n xs es b) = namesUsedIn es ++ namesUsed b
   namesUsed (define n x b) = namesUsed b
   namesUsed (lambda n xs b) = namesUsed b
-  namesUsed (begin n es) = namesUsedIn es
+  namesUsed (sequence n es) = namesUsedIn es
   namesUsed (call n h es) = namesUsed h ++ namesUsedIn es
   namesUsed (set! n x e) = x .name ∷ namesUsed e
 
@@ -109,7 +109,7 @@ unfoldable mutual
   holdsLambda (letin n xs es b) = holdsLambdaIn es || holdsLambda b
   holdsLambda (define n x b) = holdsLambda b
   holdsLambda (lambda n xs b) = true
-  holdsLambda (begin n es) = holdsLambdaIn es
+  holdsLambda (sequence n es) = holdsLambdaIn es
   holdsLambda (call n h es) = holdsLambda h || holdsLambdaIn es
   holdsLambda (set! n x e) = holdsLambda e
 

@@ -9,7 +9,9 @@ pub mod Sound
 pub mod Visitable
 pub mod Static
 pub mod TailPosition
-pub mod Laws
 pub mod Scripts
+pub mod AndWhenUnless
+pub mod Laws
 pub mod Bare
 pub mod Recorded
+pub mod Expansion

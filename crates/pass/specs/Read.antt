@@ -5,7 +5,8 @@ use mathlib.Core.Bool.{Bool, true, false, cond, not, _&&_}
 use mathlib.Core.Option.{Option, none, some}
 use lib.ListN.{getD}
 use lib.Dec.{eqb, ltb}
-use Rattle.tree.specs.Tree.{Ident, Node, Tree, Trees, ident, const, if, letin, define, lambda, begin, call, set!, nil, cons}
+use Rattle.tree.specs.Tree.{Ident, Node, Tree, Trees, ident, const, if, letin, define, lambda, sequence, call, set!, nil, cons}
+use Rattle.tree.specs.Core.{core}
 use Rattle.scope_map.specs.ScopeMap.{ScopeMap, Live, get, hasAtTop}
 use Rattle.scope_map.specs.ScopeMap as map
 use Rattle.semantic.specs.Information.{NONE, new, shadows, withUsageCount, refersTo, aliasesTo, markBuiltin, markRequired, withOffset, withCaptureIndex, withReadCaptureOffset, withHeapOffset, withReadHeapOffset, withCapturedFromEnclosing, markSet, markShadowed}
@@ -41,13 +42,13 @@ module _ (classes : List ℕ) where
   isIdentOf k (letin n xs es b) = false
   isIdentOf k (define n x b) = false
   isIdentOf k (lambda n xs b) = false
-  isIdentOf k (begin n es) = false
+  isIdentOf k (sequence n es) = false
   isIdentOf k (call n h es) = false
   isIdentOf k (set! n x e) = false
 
   abbrev pub firstIsIdentOf : ℕ → Trees → Bool
   firstIsIdentOf k nil = false
-  firstIsIdentOf k (cons t ts) = isIdentOf k t
+  firstIsIdentOf k (cons t ts) = isIdentOf k (core t)
 
   -- `is_a_builtin_definition`, `is_a_require_definition`: what the body is
   abbrev pub isBuiltin : Tree → Bool
@@ -57,8 +58,8 @@ module _ (classes : List ℕ) where
   isBuiltin (letin n xs es b) = false
   isBuiltin (define n x b) = false
   isBuiltin (lambda n xs b) = false
-  isBuiltin (begin n es) = false
-  isBuiltin (call n h es) = isIdentOf 2 h && firstIsIdentOf 4 es
+  isBuiltin (sequence n es) = false
+  isBuiltin (call n h es) = isIdentOf 2 (core h) && firstIsIdentOf 4 es
   isBuiltin (set! n x e) = false
 
   abbrev pub isRequired : Tree → Bool
@@ -68,8 +69,8 @@ module _ (classes : List ℕ) where
   isRequired (letin n xs es b) = false
   isRequired (define n x b) = false
   isRequired (lambda n xs b) = false
-  isRequired (begin n es) = false
-  isRequired (call n h es) = isIdentOf 8 h
+  isRequired (sequence n es) = false
+  isRequired (call n h es) = isIdentOf 8 (core h)
   isRequired (set! n x e) = false
 
 -- `is_an_alias_definition`
@@ -80,7 +81,7 @@ alias (if n a b c) = NONE
 alias (letin n xs es b) = NONE
 alias (define n x b) = NONE
 alias (lambda n xs b) = NONE
-alias (begin n es) = NONE
+alias (sequence n es) = NONE
 alias (call n h es) = NONE
 alias (set! n x e) = NONE
 
@@ -106,7 +107,7 @@ module _ (classes : List ℕ) where
   defineFact k a x b s =
       aliasesTo a
       (shadows (idOf (newest s (x .name)))
-      (markIf (isBuiltin classes b) markBuiltin (markIf (isRequired classes b) markRequired (new (statusAt (depth s) k) (depth s) (span x)))))
+      (markIf (isBuiltin classes (core b)) markBuiltin (markIf (isRequired classes (core b)) markRequired (new (statusAt (depth s) k) (depth s) (span x)))))
 
   unfoldable pub enterDefine : IdentifierStatus → ℕ → Ident → Tree → State → State
   enterDefine k a x b s = insert (x .at) (Variable (defineFact k a x b s)) (enter x topLevelEntry s)
@@ -120,7 +121,7 @@ module _ (classes : List ℕ) where
   shadow (some b) s = amend shadowIfBuiltin (b .at) s
 
   unfoldable pub enterTopLevelValue : Ident → Tree → State → State
-  enterTopLevelValue x b s = enterDefine Global (alias b) x b (shadow (newest s (x .name)) s)
+  enterTopLevelValue x b s = enterDefine Global (alias (core b)) x b (shadow (newest s (x .name)) s)
 
 -- Which rule decides a read
 

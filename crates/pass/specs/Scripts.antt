@@ -8,11 +8,11 @@ use lib.ListN.{length, getD, replicate}
 use Rattle.table.specs.Layout.{layout}
 use Rattle.tree.specs.Record.{numbers, records}
 use Rattle.tree.specs.Form.{formOf, namesOf, othersOf, fits}
-use Rattle.tree.specs.Tree.{Ident, Node, Tree, Trees, ident, const, if, letin, define, lambda, begin, call, set!, nil, cons, flat, flats, size}
+use Rattle.tree.specs.Tree.{Ident, Node, Tree, Trees, ident, const, if, letin, define, lambda, sequence, call, set!, nil, cons, begins, flat, flats, size}
 use Rattle.tree.specs.Define.{topLevel, topOf, _⊕_}
 use Rattle.tree.specs.Place.{closed, after, placed, left}
 use Rattle.tree.specs.First.{first}
-use Rattle.tree.specs.Check.{Refusal, repeated, check1, check2, check3, check4, check5, check6, check7, check8, refusal}
+use Rattle.tree.specs.Check.{Refusal, repeated, check1, check2, check3, check4, check5, check6, check7, check16, check8, refusal}
 use Rattle.tree.specs.Accepted.{All, Accepted}
 use Rattle.scope_map.specs.ScopeMap.{getIn, hasIn, replaceIn, removeIn, layerIn, belowLayer}
 use Rattle.semantic.specs.Information.{NONE}
@@ -38,6 +38,10 @@ pub data Saying : Type 0 where
   depthAt : ℕ → ℕ → Saying
   slotAt : ℕ → ℕ → Saying
   usesAt : ℕ → ℕ → Saying
+  refersAt : ℕ → ℕ → Saying  -- the id
+  aliasAt : ℕ → ℕ → Saying  -- the id
+  lastAt : ℕ → Bool → Saying
+  escapesAt : ℕ → Bool → Saying
 
 pub record Script : Type 0 where
   pub names : ℕ
@@ -85,16 +89,34 @@ abbrev numberIn : (SemanticInformation → ℕ) → Option SemanticInformation �
 numberIn f none = NONE
 numberIn f (some v) = f v
 
+abbrev lastIn : Row → Bool
+lastIn Blank = false
+lastIn (Variable v) = v .«last_usage»
+lastIn (Function v) = false
+lastIn (CallSite v) = false
+lastIn (Let v) = false
+
+abbrev escapesIn : Row → Bool
+escapesIn Blank = false
+escapesIn (Variable v) = false
+escapesIn (Function v) = v .escapes
+escapesIn (CallSite v) = false
+escapesIn (Let v) = false
+
 abbrev pub defined : Script → Saying → Saying
 defined s (callAt i k) = callAt i (callIn (rowAt s i))
 defined s (kindAt i k) = kindAt i (kindIn (variableIn (rowAt s i)))
 defined s (depthAt i d) = depthAt i (numberIn (λ v. v .depth) (variableIn (rowAt s i)))
 defined s (slotAt i d) = slotAt i (numberIn (λ v. v .«stack_offset») (variableIn (rowAt s i)))
 defined s (usesAt i d) = usesAt i (numberIn (λ v. v .«usage_count») (variableIn (rowAt s i)))
+defined s (refersAt i d) = refersAt i (numberIn (λ v. v .«refers_to») (variableIn (rowAt s i)))
+defined s (aliasAt i d) = aliasAt i (numberIn (λ v. v .«aliases_to») (variableIn (rowAt s i)))
+defined s (lastAt i b) = lastAt i (lastIn (rowAt s i))
+defined s (escapesAt i b) = escapesAt i (escapesIn (rowAt s i))
 
 pub record Answer : Type 0 where
   pub numbered : Bool  -- is the tree numbered in preorder
-  pub checked : Option Refusal  -- by checks 1 to 8, of the tree's records
+  pub checked : Option Refusal  -- by checks 1 to 8 and 16, of the tree's records
   pub fresh : Option Refusal
   pub settled : Option Refusal
   pub says : List Saying
@@ -119,26 +141,26 @@ nodeOf i id = record { at = i; id = id; from = 0; to = 0 }
 abbrev identOf : ℕ → ℕ → ℕ → Ident
 identOf i id x = record { at = i; id = id; name = x; from = 0; to = 0 }
 
-abbrev at : ℕ → Node
+abbrev pub at : ℕ → Node
 at i = nodeOf i (suc i)
 
-abbrev bare : ℕ → Node
+abbrev pub bare : ℕ → Node
 bare i = nodeOf i 0
 
 -- the name x in a name's place, and read; a number
-abbrev named : ℕ → ℕ → Ident
+abbrev pub named : ℕ → ℕ → Ident
 named i x = identOf i (suc i) x
 
-abbrev reads : ℕ → ℕ → Tree
+abbrev pub reads : ℕ → ℕ → Tree
 reads i x = ident (named i x)
 
-abbrev number : ℕ → Tree
+abbrev pub number : ℕ → Tree
 number i = const (at i) false
 
-abbrev only : Tree → Trees
+abbrev pub only : Tree → Trees
 only t = cons t nil
 
-abbrev refused : ℕ → ℕ → Option Refusal
+abbrev pub refused : ℕ → ℕ → Option Refusal
 refused n i = some (record { number = n; at = i })
 
 -- The scripts in the document's order, each under the document's words. Names are numbered as they come.
@@ -215,7 +237,7 @@ scripts =
     -- "(lambda (x) (lambda () (begin (lambda () x) (set! x 1)))), settled: 12 at 5; fresh: accepted."
     ∷ record {
       names = 1;
-      tree = only (lambda (at 0) (named 1 0 ∷ []) (lambda (at 2) [] (begin (bare 3)
+      tree = only (lambda (at 0) (named 1 0 ∷ []) (lambda (at 2) [] (sequence (begins (bare 3))
           (cons (lambda (at 4) [] (reads 5 0)) (only (set! (bare 6) (named 7 0) (number 8)))))));
       fresh = none;
       settled = refused 12 5;
@@ -232,7 +254,7 @@ scripts =
     ∷ []
 
 pub scripts-hold : map computed scripts ≡ map expected scripts
-unfolding freshRun numbered namesNumbered flat size layout records fits formOf namesOf othersOf closed after placed left first repeated check1 check2 check3 check4 check5 check6 check7 check8 refusal settled freshOutcome settledOutcome zeros tablesOf
+unfolding freshRun numbered namesNumbered flat size layout records fits formOf namesOf othersOf closed after placed left first repeated check1 check2 check3 check4 check5 check6 check7 check16 check8 refusal settled freshOutcome settledOutcome zeros tablesOf
 scripts-hold = refl
 
 -- So each tree is the one that its records say, and both runs refuse or accept it as the document says
@@ -242,7 +264,7 @@ pub record AsSaid (s : Script) : Type 0 where
   pub fresh : freshOutcome (classes s) (s .tree) .refused ≡ s .fresh
   pub settled : settledOutcome (classes s) (s .tree) .refused ≡ s .settled
 
-as-said : (l : List Script) → map computed l ≡ map expected l → All AsSaid l
+pub as-said : (l : List Script) → map computed l ≡ map expected l → All AsSaid l
 as-said [] e = tt
 as-said (s ∷ l) e =
     let h : computed s ≡ expected s = head-eq-of-cons-eq e in (

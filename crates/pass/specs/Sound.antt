@@ -6,7 +6,8 @@ use mathlib.Core.Bool.{Bool, true, false}
 use mathlib.Core.Option.{Option, none, some}
 use mathlib.Core.Path.{_≡_}
 use lib.ListN.{length}
-use Rattle.tree.specs.Tree.{Ident, Tree, Trees, ident, const, if, letin, define, lambda, begin, call, set!, nil, cons, many}
+use Rattle.tree.specs.Tree.{Ident, Tree, Trees, ident, const, if, letin, define, lambda, sequence, call, set!, nil, cons, many, begins, ands, whens}
+use Rattle.tree.specs.Core.{cores}
 use Rattle.tree.specs.Accepted.{All}
 use Rattle.semantic.specs.Information.{NONE}
 use Rattle.scope_map.specs.ScopeMap.{Live}
@@ -18,7 +19,7 @@ use Rattle.pass.specs.State.{Entry, State, noEntry, withContext, itemAt,
 use Rattle.pass.specs.Read.{enterTopLevelValue}
 use Rattle.pass.specs.Lists.{capturedMost}
 use Rattle.pass.specs.Lambda.{functionIn, enterLambda, enterLet}
-use Rattle.pass.specs.Visit.{Flags, topFlags, notTail, sameTail, pushed, letBodyFlags, bodyFlags, argumentFlags, isLambda, headFlags, isNil, childFlags, defineFlags, clearContext, beforeDefine, enterChildren, visit, visitArguments, visitTop}
+use Rattle.pass.specs.Visit.{Flags, topFlags, notTail, sameTail, pushed, letBodyFlags, bodyFlags, argumentFlags, isLambda, headFlags, isNil, childFlags, defineFlags, clearContext, beforeDefine, enterChildren, visit, visitArguments, visitTop, inBegin, inAnd, isAlone}
 use Rattle.pass.specs.Run.{rowsMost}
 
 -- A property of what a state holds: identifiers, captured entries and captures
@@ -105,7 +106,7 @@ module _ (P : Ident → Type 0) where
     Holds (letin n xs es b) = All P xs × HoldsAll es × Holds b
     Holds (define n x b) = P x × Holds b
     Holds (lambda n xs b) = All P xs × Holds b
-    Holds (begin n es) = HoldsAll es
+    Holds (sequence n es) = HoldsAll es
     Holds (call n h es) = Holds h × HoldsAll es
     Holds (set! n x e) = P x × Holds e
 
@@ -143,7 +144,9 @@ module _ (L : Option FunctionInformation → Type 0) (classes : List ℕ) where
         (enterLet n xs (f .height) (f .function) (withContext (s .context) (visitArguments classes es (notTail f) (withContext NONE s))))
     Opens (define n x b) f s = Opens b (defineFlags f) (beforeDefine classes (f .direct) (isLambda b) x b s)
     Opens (lambda n xs b) f s = L (functionIn (rowAt s (n .at))) × Opens b (bodyFlags n (length xs) f) (enterLambda n xs s)
-    Opens (begin n es) f s = OpensChildren es f (enterChildren classes es s)
+    Opens (sequence (begins n) es) f s = OpensChildren es (inBegin f) (enterChildren classes (cores es) s)
+    Opens (sequence (ands n) es) f s = OpensChildren es (inAnd (isAlone es) f) s
+    Opens (sequence (whens b n) es) f s = OpensTested es f s
     Opens (call n h es) f s =
         OpensArguments es (argumentFlags f) s × Opens h (headFlags h (many es) f) (visitArguments classes es (argumentFlags f) s)
     Opens (set! n x e) f s = Opens e (notTail f) (clearContext x s)
@@ -157,6 +160,10 @@ module _ (L : Option FunctionInformation → Type 0) (classes : List ℕ) where
     OpensChildren (cons t ts) f s =
         Opens t (childFlags (isNil ts) f) s × OpensChildren ts f (visit classes t (childFlags (isNil ts) f) s)
 
+    pub OpensTested : Trees → Flags → State → Type 0
+    OpensTested nil f s = Unit {0}
+    OpensTested (cons t ts) f s = Opens t (notTail f) s × OpensChildren ts (inBegin f) (enterChildren classes (cores ts) (visit classes t (notTail f) s))
+
   -- at top level
   abbrev pub OpensDefine : Bool → Ident → Tree → State → Type 0
   OpensDefine true x b s = Opens b topFlags (withContext (x .id) s)
@@ -169,7 +176,7 @@ module _ (L : Option FunctionInformation → Type 0) (classes : List ℕ) where
   OpensTop (letin n xs es b) s = Opens (letin n xs es b) topFlags s
   OpensTop (define n x b) s = OpensDefine (isLambda b) x b s
   OpensTop (lambda n xs b) s = Opens (lambda n xs b) topFlags s
-  OpensTop (begin n es) s = Opens (begin n es) topFlags s
+  OpensTop (sequence n es) s = Opens (sequence n es) topFlags s
   OpensTop (call n h es) s = Opens (call n h es) topFlags s
   OpensTop (set! n x e) s = Opens (set! n x e) topFlags s
 

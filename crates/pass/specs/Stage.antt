@@ -6,7 +6,8 @@ use mathlib.Core.Bool.{Bool}
 use mathlib.Core.Option.{Option, none, some}
 use mathlib.Core.Path.{_≡_}
 use lib.ListN.{length}
-use Rattle.tree.specs.Tree.{Node, Tree, Trees, ident, const, if, letin, define, lambda, begin, call, set!, nil, cons, bit, size, sizes}
+use Rattle.tree.specs.Tree.{Node, Tree, Trees, ident, const, if, letin, define, lambda, sequence, call, set!, nil, cons, bit, size, sizes}
+use Rattle.tree.specs.Core.{core}
 use Rattle.tree.specs.Define.{topLevel}
 use Rattle.tree.specs.Accepted.{All}
 use Rattle.scope_map.specs.ScopeMap.{Live, newestLayer}
@@ -33,7 +34,7 @@ module _ (F L : ℕ → Type 0) where
     Blocks (letin n xs es b) = L (n .at) × BlocksAll es × Blocks b
     Blocks (define n x b) = Blocks b
     Blocks (lambda n xs b) = F (n .at) × Blocks b
-    Blocks (begin n es) = BlocksAll es
+    Blocks (sequence n es) = BlocksAll es
     Blocks (call n h es) = Blocks h × BlocksAll es
     Blocks (set! n x e) = Blocks e
 
@@ -46,16 +47,19 @@ abbrev pub due : State → ℕ
 due s = s .facts .argumentsTop + length (s .scope .names .live)
 
 -- does the tree enter a name before it is visited, in a begin or at top level
+abbrev pub enteringForm : Tree → ℕ
+enteringForm (ident x) = 0
+enteringForm (const n q) = 0
+enteringForm (if n a b c) = 0
+enteringForm (letin n xs es b) = 0
+enteringForm (define n x b) = bit (isLambda b)
+enteringForm (lambda n xs b) = 0
+enteringForm (sequence n es) = 0
+enteringForm (call n h es) = 0
+enteringForm (set! n x e) = 0
+
 abbrev pub entering : Tree → ℕ
-entering (ident x) = 0
-entering (const n q) = 0
-entering (if n a b c) = 0
-entering (letin n xs es b) = 0
-entering (define n x b) = bit (isLambda b)
-entering (lambda n xs b) = 0
-entering (begin n es) = 0
-entering (call n h es) = 0
-entering (set! n x e) = 0
+entering t = enteringForm (core t)
 
 abbrev pub enterings : Trees → ℕ
 enterings nil = 0

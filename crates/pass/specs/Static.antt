@@ -8,7 +8,7 @@ use mathlib.Core.Bool.{Bool, true, false, cond}
 use mathlib.Core.Option.{Option, none, some}
 use lib.ListN.{length, getD}
 use lib.Dec.{eqb}
-use Rattle.tree.specs.Tree.{Ident, Node, Tree, Trees, ident, const, if, letin, define, lambda, begin, call, set!, nil, cons, many}
+use Rattle.tree.specs.Tree.{Ident, Node, Tree, Trees, ident, const, if, letin, define, lambda, sequence, call, set!, nil, cons, many, begins, ands, whens}
 use Rattle.semantic.specs.Rows.{Row, Blank, Variable, Function, CallSite, Let}
 use Rattle.semantic.specs.declared.IdentifierStatus.{IdentifierStatus}
 use Rattle.semantic.specs.declared.IdentifierStatus.the-variants.{Global, Local, LocallyDefinedFunction, LetVar, Captured, Free, HeapAllocated}
@@ -125,7 +125,11 @@ module _ (T : List Row) where
         r-lambda : {Γ : Ctx} {d h : ℕ} {t : Bool} {n : Node} {xs : List Ident} {b : Tree} {v : _}
             → row (n .at) ≡ Function v → v .depth ≡ d → Noted (suc d) xs
             → Rec (enterAll xs (suc d) 0 Γ) (suc d) (length xs) true b → Rec Γ d h t (lambda n xs b)
-        r-begin : {Γ : Ctx} {d h : ℕ} {t : Bool} {n : Node} {es : Trees} → Seq Γ d h t es → Rec Γ d h t (begin n es)
+        r-begin : {Γ : Ctx} {d h : ℕ} {t : Bool} {n : Node} {es : Trees} → Seq Γ d h t es → Rec Γ d h t (sequence (begins n) es)
+        r-and : {Γ : Ctx} {d h : ℕ} {t : Bool} {n : Node} {es : Trees} → Seq Γ d h t es → Rec Γ d h t (sequence (ands n) es)
+        r-no-test : {Γ : Ctx} {d h : ℕ} {t q : Bool} {n : Node} → Rec Γ d h t (sequence (whens q n) nil)
+        r-when : {Γ : Ctx} {d h : ℕ} {t q : Bool} {n : Node} {e : Tree} {es : Trees}
+            → Rec Γ d h false e → Seq Γ d h t es → Rec Γ d h t (sequence (whens q n) (cons e es))
         r-call : {Γ : Ctx} {d h : ℕ} {t : Bool} {n : Node} {f : Tree} {es : Trees}
             → Args Γ d h es → Rec Γ d (h + many es) false f → (isTailRow (row (n .at)) ≡ true → t ≡ true) → Rec Γ d h t (call n f es)
         r-set : {Γ : Ctx} {d h : ℕ} {t : Bool} {n : Node} {x : Ident} {e : Tree} {v : SemanticInformation}

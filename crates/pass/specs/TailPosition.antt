@@ -7,23 +7,27 @@ use mathlib.Core.Bool.{Bool, true, false, not, _&&_, _||_}
 use mathlib.Core.Path.{_≡_}
 use lib.ListN.{getD}
 use lib.Dec.{eqb}
-use Rattle.tree.specs.Tree.{Tree, Trees, ident, const, if, letin, define, lambda, begin, call, set!, sizes, Nums}
+use Rattle.tree.specs.Tree.{Tree, Trees, ident, const, if, letin, define, lambda, sequence, call, set!, sizes, Nums}
+use Rattle.tree.specs.Core.{core}
 use Rattle.tree.specs.Accepted.{All}
 use Rattle.semantic.specs.Rows.{Row, Blank, Variable, Function, CallSite, Let}
 use Rattle.r7rs.specs.Tail.{Call, callsIn}
 use Rattle.pass.specs.Run.{rowsMost, fresh, settled}
 use Rattle.pass.specs.Static.{isTailRow}
 
+abbrev pub isConstantForm : Tree → Bool
+isConstantForm (ident x) = false
+isConstantForm (const n q) = true
+isConstantForm (if n a b c) = false
+isConstantForm (letin n xs es b) = false
+isConstantForm (define n x b) = false
+isConstantForm (lambda n xs b) = false
+isConstantForm (sequence n es) = false
+isConstantForm (call n h es) = false
+isConstantForm (set! n x e) = false
+
 abbrev pub isConstant : Tree → Bool
-isConstant (ident x) = false
-isConstant (const n q) = true
-isConstant (if n a b c) = false
-isConstant (letin n xs es b) = false
-isConstant (define n x b) = false
-isConstant (lambda n xs b) = false
-isConstant (begin n es) = false
-isConstant (call n h es) = false
-isConstant (set! n x e) = false
+isConstant t = isConstantForm (core t)
 
 abbrev pub isCallSite : Row → Bool
 isCallSite Blank = false

@@ -5,7 +5,8 @@ use mathlib.Core.Bool.{Bool, true, false, cond, not, _&&_}
 use mathlib.Core.Option.{Option, none, some}
 use lib.ListN.{length}
 use lib.Dec.{eqb, ltb}
-use Rattle.tree.specs.Tree.{Ident, Node, Tree, Trees, ident, const, if, letin, define, lambda, begin, call, set!, nil, cons, many}
+use Rattle.tree.specs.Tree.{Ident, Node, Tree, Trees, ident, const, if, letin, define, lambda, sequence, call, set!, nil, cons, begins, ands, whens, many}
+use Rattle.tree.specs.Core.{core, cores}
 use Rattle.semantic.specs.Information.{NONE}
 use Rattle.semantic.specs.Rows.{CallSite}
 use Rattle.semantic.specs.declared.IdentifierStatus.the-variants.{Global, Local, LocallyDefinedFunction}
@@ -48,16 +49,19 @@ bodyFlags n k f = record { tail = true; escape = f .escape; height = k; counter 
 abbrev pub argumentFlags : Flags → Flags
 argumentFlags f = record { tail = false; escape = true; height = f .height; counter = f .counter; function = f .function; direct = false }
 
+abbrev pub isLambdaForm : Tree → Bool
+isLambdaForm (ident x) = false
+isLambdaForm (const n q) = false
+isLambdaForm (if n a b c) = false
+isLambdaForm (letin n xs es b) = false
+isLambdaForm (define n x b) = false
+isLambdaForm (lambda n xs b) = true
+isLambdaForm (sequence n es) = false
+isLambdaForm (call n h es) = false
+isLambdaForm (set! n x e) = false
+
 abbrev pub isLambda : Tree → Bool
-isLambda (ident x) = false
-isLambda (const n q) = false
-isLambda (if n a b c) = false
-isLambda (letin n xs es b) = false
-isLambda (define n x b) = false
-isLambda (lambda n xs b) = true
-isLambda (begin n es) = false
-isLambda (call n h es) = false
-isLambda (set! n x e) = false
+isLambda t = isLambdaForm (core t)
 
 abbrev pub headFlags : Tree → ℕ → Flags → Flags
 headFlags h k f = record { tail = false; escape = f .tail && not (isLambda h); height = f .height + k; counter = f .counter; function = f .function; direct = false }
@@ -67,7 +71,19 @@ isNil nil = true
 isNil (cons t ts) = false
 
 abbrev pub childFlags : Bool → Flags → Flags
-childFlags last f = record { tail = f .tail && last; escape = f .escape; height = f .height; counter = f .counter; function = f .function; direct = true }
+childFlags last f = record { tail = last && f .tail; escape = f .escape; height = f .height; counter = f .counter; function = f .function; direct = f .direct }
+
+-- an inner begin's children; an and's, of which an only child stands where the and does, and more are the parts of an if
+abbrev pub inBegin : Flags → Flags
+inBegin f = record { tail = f .tail; escape = f .escape; height = f .height; counter = f .counter; function = f .function; direct = true }
+
+abbrev pub isAlone : Trees → Bool
+isAlone nil = false
+isAlone (cons t nil) = true
+isAlone (cons t (cons u us)) = false
+
+abbrev pub inAnd : Bool → Flags → Flags
+inAnd alone f = record { tail = f .tail; escape = f .escape; height = f .height; counter = f .counter; function = f .function; direct = alone && f .direct }
 
 abbrev pub defineFlags : Flags → Flags
 defineFlags f = record { tail = false; escape = f .escape; height = f .height; counter = cond (f .direct) 0 (f .counter); function = f .function; direct = false }
@@ -90,7 +106,7 @@ markArgument (if n a b c) s = s
 markArgument (letin n xs es b) s = s
 markArgument (define n x b) s = s
 markArgument (lambda n xs b) s = s
-markArgument (begin n es) s = s
+markArgument (sequence n es) s = s
 markArgument (call n h es) s = s
 markArgument (set! n x e) s = s
 
@@ -121,7 +137,7 @@ callFact (if m a b c) n tail k s = callSite n (callKind tail false k) (nodeSpan 
 callFact (letin m xs es b) n tail k s = callSite n (callKind tail false k) (nodeSpan n) s
 callFact (define m x b) n tail k s = callSite n (callKind tail false k) (nodeSpan n) s
 callFact (lambda m xs b) n tail k s = callSite n (callKind tail false k) (nodeSpan n) s
-callFact (begin m es) n tail k s = callSite n (callKind tail false k) (nodeSpan n) s
+callFact (sequence m es) n tail k s = callSite n (callKind tail false k) (nodeSpan n) s
 callFact (call m h es) n tail k s = callSite n (callKind tail false k) (nodeSpan n) s
 callFact (set! m x e) n tail k s = callSite n (callKind tail false k) (nodeSpan n) s
 
@@ -132,7 +148,7 @@ markIfTail false es s = s
 unfoldable pub endCall : Node → Tree → Trees → Flags → State → State
 endCall n h es f s =
     let tail = f .tail && ltb 1 (depth s) in
-    callFact h n tail (f .counter) (markIfTail tail es s)
+    callFact (core h) n tail (f .counter) (markIfTail tail (cores es) s)
 
 -- set!: on a second run the context ends where the target referred to it
 unfoldable pub clearContext : Ident → State → State
@@ -165,7 +181,7 @@ module _ (classes : List ℕ) where
   enterChild (letin n xs es b) s = s
   enterChild (define n x b) s = enterIfLambda (isLambda b) x b s
   enterChild (lambda n xs b) s = s
-  enterChild (begin n es) s = s
+  enterChild (sequence n es) s = s
   enterChild (call n h es) s = s
   enterChild (set! n x e) s = s
 
@@ -185,7 +201,9 @@ module _ (classes : List ℕ) where
     visit (define n x b) f s =
         afterDefine (f .direct) (isLambda b) (s .context) x b (visit b (defineFlags f) (beforeDefine (f .direct) (isLambda b) x b s))
     visit (lambda n xs b) f s = leaveLambda n xs b (f .escape) (visit b (bodyFlags n (length xs) f) (enterLambda n xs s))
-    visit (begin n es) f s = visitChildren es f (enterChildren es s)
+    visit (sequence (begins n) es) f s = visitChildren es (inBegin f) (enterChildren (cores es) s)
+    visit (sequence (ands n) es) f s = visitChildren es (inAnd (isAlone es) f) s
+    visit (sequence (whens b n) es) f s = visitTested es f s
     visit (call n h es) f s = endCall n h es f (visit h (headFlags h (many es) f) (visitArguments es (argumentFlags f) s))
     visit (set! n x e) f s = read classes x (mutate (x .name) (visit e (notTail f) (clearContext x s)))
 
@@ -194,10 +212,15 @@ module _ (classes : List ℕ) where
     visitArguments nil f s = s
     visitArguments (cons t ts) f s = visitArguments ts (pushed f) (visit t f s)
 
-    -- a begin's children
+    -- the children of a sequence, one after another
     pub visitChildren : Trees → Flags → State → State
     visitChildren nil f s = s
     visitChildren (cons t ts) f s = visitChildren ts f (visit t (childFlags (isNil ts) f) s)
+
+    -- a test and what follows it, which is as an inner begin
+    pub visitTested : Trees → Flags → State → State
+    visitTested nil f s = s
+    visitTested (cons t ts) f s = visitChildren ts (inBegin f) (enterChildren (cores ts) (visit t (notTail f) s))
 
   -- `run_with_scope`: the lambda defines at top level enter first
 
@@ -212,7 +235,7 @@ module _ (classes : List ℕ) where
   enterTop (letin n xs es b) s = s
   enterTop (define n x b) s = enterTopLambda (isLambda b) x b s
   enterTop (lambda n xs b) s = s
-  enterTop (begin n es) s = s
+  enterTop (sequence n es) s = s
   enterTop (call n h es) s = s
   enterTop (set! n x e) s = s
 
@@ -231,7 +254,7 @@ module _ (classes : List ℕ) where
   visitTop (letin n xs es b) s = visit (letin n xs es b) topFlags s
   visitTop (define n x b) s = visitTopDefine (isLambda b) x b s
   visitTop (lambda n xs b) s = visit (lambda n xs b) topFlags s
-  visitTop (begin n es) s = visit (begin n es) topFlags s
+  visitTop (sequence n es) s = visit (sequence n es) topFlags s
   visitTop (call n h es) s = visit (call n h es) topFlags s
   visitTop (set! n x e) s = visit (set! n x e) topFlags s
 

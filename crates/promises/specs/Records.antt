@@ -1,4 +1,4 @@
--- Records that differ only in their positions are refused alike by the checks 1 to 8, or are those of trees that differ only there.
+-- Records that differ only in their positions are refused alike by the checks 1 to 8 and 16, or are those of trees that differ only there.
 use Prim.Native.Nat.{ℕ, _+_, _%_}
 use mathlib.Core.List.{List, [], _∷_, map, map-append}
 use mathlib.Core.Bool.{Bool, not, _&&_, _||_}
@@ -10,8 +10,8 @@ use Rattle.tree.specs.Record.{Record, width, records}
 use Rattle.tree.specs.Form.{Form, formOf, fitsAs, fits}
 use Rattle.tree.specs.Place.{Open, after, Placed, placed, left}
 use Rattle.tree.specs.First.{first}
-use Rattle.tree.specs.Check.{when, repeated, check1, check2, check3, check4, check5, check6, check7, check8, refusal}
-use Rattle.tree.specs.Tree.{Ident, Tree, Trees, ident, const, if, letin, define, lambda, begin, call, set!, nil, cons, flat, flats, size, sizes, NumNames, Num, Nums, named}
+use Rattle.tree.specs.Check.{when, repeated, check1, check2, check3, check4, check5, check6, check7, check8, refusal, check16, testless}
+use Rattle.tree.specs.Tree.{Ident, Tree, Trees, ident, const, if, letin, define, lambda, sequence, call, set!, nil, cons, flat, flats, size, sizes, NumNames, Num, Nums, named, begins, ands, whens}
 use Rattle.tree.specs.TreeLaws.{length-flat, length-flats}
 use Rattle.tree.specs.Accepted.{Accepted}
 use Rattle.tree.specs.Acceptance.{holds}
@@ -97,13 +97,17 @@ module _ (N : ℕ) (rs qs : List ℕ) (r : length rs % width ≡ 0) (q : length 
   unfolding check7
   same7 = by-records (first (λ p. eqb (p .form) 8 && eqb (p .count) 0)) (first-same bareRecord (λ p. eqb (p .form) 8 && eqb (p .count) 0) (λ p. refl))
 
+  same16 : check16 N rs ≡ check16 N qs
+  unfolding check16
+  same16 = by-records (first testless) (first-same bareRecord testless (λ p. refl))
+
   same8 : check8 N rs ≡ check8 N qs
   unfolding check8
   same8 = by-records (repeated []) (bare-repeated [])
 
   pub same-refusal : refusal N rs ≡ refusal N qs
   unfolding refusal
-  same-refusal = rw (same1, same2, same3, same4, same5, same6, same7, same8)
+  same-refusal = rw (same1, same2, same3, same4, same5, same6, same7, same16, same8)
 
 -- The trees
 
@@ -121,7 +125,9 @@ mutual
   bare-flat (letin n xs es b) = simp (map-append, length-map, bare-names xs, bare-flats es, bare-flat b)
   bare-flat (define n x b) = simp (bare-flat b)
   bare-flat (lambda n xs b) = simp (map-append, length-map, bare-names xs, bare-flat b)
-  bare-flat (begin n es) = simp (bare-many es, bare-flats es)
+  bare-flat (sequence (begins n) es) = simp (bare-many es, bare-flats es)
+  bare-flat (sequence (ands n) es) = simp (bare-many es, bare-flats es)
+  bare-flat (sequence (whens q n) es) = simp (bare-many es, bare-flats es)
   bare-flat (call n h es) = simp (map-append, bare-many es, bare-flat h, bare-flats es)
   bare-flat (set! n x e) = simp (bare-flat e)
 
@@ -151,7 +157,9 @@ mutual
       simp (length-map, bare-many es, bare-sizes es) (n .0, n .1, num-names _ xs (n .2), bare-nums _ es (n .3), bare-num _ b (n .4))
   bare-num i (define m x b) n = (n .0, n .1, bare-num _ b (n .2))
   bare-num i (lambda m xs b) n = simp length-map (n .0, num-names _ xs (n .1), bare-num _ b (n .2))
-  bare-num i (begin m es) n = (n .0, bare-nums _ es (n .1))
+  bare-num i (sequence (begins m) es) n = (n .0, bare-nums _ es (n .1), tt)
+  bare-num i (sequence (ands m) es) n = (n .0, bare-nums _ es (n .1), tt)
+  bare-num i (sequence (whens q m) es) n = (n .0, bare-nums _ es (n .1), rw (bare-many es) (n .2))
   bare-num i (call m h es) n = simp (bare-size h) (n .0, bare-num _ h (n .1), bare-nums _ es (n .2))
   bare-num i (set! m x e) n = (n .0, n .1, bare-num _ e (n .2))
 

@@ -1,5 +1,5 @@
 -- Which of the refusals 9 to 12 `fresh` and `settled` answer, of every script without an inner define: exactly what R7RS's walk over the script says. "First,
--- a pass that refuses every script: the conditions above are exact both ways." What the checks 1 to 8 refuse is in `Fresh` and `Settled` themselves.
+-- a pass that refuses every script: the conditions above are exact both ways." What the checks 1 to 8 and 16 refuse is in `Fresh` and `Settled` themselves.
 use Prim.Native.Nat.{ℕ}
 use mathlib.Core.List.{List, []}
 use mathlib.Core.Bool.{true}

@@ -7,7 +7,7 @@ use mathlib.Core.Option.{Option, none, some}
 use mathlib.Core.Path.{_≡_}
 use lib.ListN.{length}
 use lib.Dec.{eqb, ltb}
-use Rattle.tree.specs.Tree.{Node, Ident, Tree, Trees, ident, const, if, letin, define, lambda, begin, call, set!, nil, cons, many}
+use Rattle.tree.specs.Tree.{Node, Ident, Tree, Trees, ident, const, if, letin, define, lambda, sequence, call, set!, nil, cons, many}
 
 -- a parameter or let name
 pub record Binder : Type 0 where
@@ -86,7 +86,7 @@ unfoldable mutual
   walk (lambda n xs b) p =
       let bs = parameters n xs p in
       entering bs (p .scope) ++ (walk b (within bs (lambdaBody n (length xs) p)) ++ (ends (n .at) xs (p .scope) ∷ []))
-  walk (begin n es) p = walkAll es p
+  walk (sequence n es) p = walkAll es p
   walk (call n h es) p = walkArguments es p ++ walk h (raised (many es) p)
   walk (set! n x e) p = walk e p ++ (mentions (record { ident = x; isSet = true; place = p }) ∷ [])
 
@@ -123,7 +123,7 @@ unfoldable mutual
   lambdas (letin n xs es b) d = lambdasIn es d ++ lambdas b (cond (eqb d 1) 2 d)
   lambdas (define n x b) d = lambdas b d
   lambdas (lambda n xs b) d = (n .at, d) ∷ lambdas b (suc d)
-  lambdas (begin n es) d = lambdasIn es d
+  lambdas (sequence n es) d = lambdasIn es d
   lambdas (call n h es) d = lambdas h d ++ lambdasIn es d
   lambdas (set! n x e) d = lambdas e d
 

@@ -5,7 +5,8 @@ use mathlib.Core.List.{List, [], _∷_, _++_}
 use mathlib.Core.Bool.{Bool, true, false, cond, not, _&&_}
 use mathlib.Core.Option.{Option, none, some}
 use lib.Dec.{eqb, ltb}
-use Rattle.tree.specs.Tree.{Ident, Tree, Trees, ident, const, if, letin, define, lambda, begin, call, set!, nil, cons}
+use Rattle.tree.specs.Tree.{Ident, Tree, Trees, ident, const, if, letin, define, lambda, sequence, call, set!, nil, cons}
+use Rattle.tree.specs.Core.{core}
 use Rattle.tree.specs.Define.{topLevel}
 
 -- a define at top level: its record, its name, and whether its body is a lambda
@@ -14,16 +15,19 @@ pub record Define : Type 0 where
   pub name : Ident
   pub isLambda : Bool
 
+abbrev pub isLambdaForm : Tree → Bool
+isLambdaForm (ident x) = false
+isLambdaForm (const n q) = false
+isLambdaForm (if n a b c) = false
+isLambdaForm (letin n xs es b) = false
+isLambdaForm (define n x b) = false
+isLambdaForm (lambda n xs b) = true
+isLambdaForm (sequence n es) = false
+isLambdaForm (call n h es) = false
+isLambdaForm (set! n x e) = false
+
 abbrev pub isLambda : Tree → Bool
-isLambda (ident x) = false
-isLambda (const n q) = false
-isLambda (if n a b c) = false
-isLambda (letin n xs es b) = false
-isLambda (define n x b) = false
-isLambda (lambda n xs b) = true
-isLambda (begin n es) = false
-isLambda (call n h es) = false
-isLambda (set! n x e) = false
+isLambda t = isLambdaForm (core t)
 
 abbrev pub defineOf : Tree → List Define
 defineOf (ident x) = []
@@ -32,7 +36,7 @@ defineOf (if n a b c) = []
 defineOf (letin n xs es b) = []
 defineOf (define n x b) = record { at = n .at; name = x; isLambda = isLambda b } ∷ []
 defineOf (lambda n xs b) = []
-defineOf (begin n es) = []
+defineOf (sequence n es) = []
 defineOf (call n h es) = []
 defineOf (set! n x e) = []
 

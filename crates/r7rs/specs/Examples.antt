@@ -1,28 +1,33 @@
 -- The plain machine run: the last value and the number of moments of some scripts.
 use Prim.Native.Nat.{ℕ, suc}
 use mathlib.Core.List.{[], _∷_}
-use mathlib.Core.Bool.{false}
+use mathlib.Core.Bool.{true, false}
 use mathlib.Core.Path.{_≡_, refl}
-use Rattle.tree.specs.Tree.{Ident, Node, Tree, Trees, ident, const, letin, define, lambda, begin, call, set!, nil, cons}
+use Rattle.tree.specs.Tree.{Ident, Node, Tree, Trees, ident, const, letin, define, lambda, sequence, call, set!, nil, cons, begins}
 use Rattle.r7rs.specs.Machine.{next, ended, stopped, outside}
-use Rattle.r7rs.specs.Plain.{pconst, punit, pclo, POut}
+use Rattle.r7rs.specs.Plain.{PVal, pconst, punit, pclo, POut}
 use Rattle.r7rs.specs.Steps
 use Rattle.r7rs.specs.Run.{run, plain}
 
 -- what a run has come to
 pub data Last : Type 0 where
   running : Last
-  constant : ℕ → Last  -- the constant with this id
+  constant : ℕ → Last  -- the constant with this id, not marked #f
+  falsity : ℕ → Last  -- the same, marked #f
   unspecified : Last
   procedure : ℕ → Last  -- of the lambda at this record
   stop : Last
   astray : Last  -- outside a frame
 
+abbrev pub valueP : PVal → Last
+valueP (pconst c false) = constant c
+valueP (pconst c true) = falsity c
+valueP punit = unspecified
+valueP (pclo i xs e ρ) = procedure i
+
 abbrev pub lastP : POut → Last
 lastP (next s) = running
-lastP (ended (pconst c q) m) = constant c
-lastP (ended punit m) = unspecified
-lastP (ended (pclo i xs e ρ) m) = procedure i
+lastP (ended v m) = valueP v
 lastP stopped = stop
 lastP outside = astray
 
@@ -55,12 +60,12 @@ scoped = one (call (nd 0) (lambda (nd 1) (x 2 1 ∷ []) (letin (nd 3) (x 4 0 ∷
 -- (define x 1) (begin (let ((x 2)) x) x): the let's x has ended
 abbrev dropped : Trees
 dropped = cons (define (bare 0) (x 1 0) (const (nd 2) false))
-    (one (begin (bare 3) (cons (letin (nd 4) (x 5 0 ∷ []) (one (const (nd 6) false)) (ident (x 7 0))) (one (ident (x 8 0))))))
+    (one (sequence (begins (bare 3)) (cons (letin (nd 4) (x 5 0 ∷ []) (one (const (nd 6) false)) (ident (x 7 0))) (one (ident (x 8 0))))))
 
 -- ((lambda (x) (let ((f (lambda () x))) (begin (set! x 2) (f)))) 1): both mean one location
 abbrev pub shared : Trees
 shared = one (call (nd 0) (lambda (nd 1) (x 2 0 ∷ []) (letin (nd 3) (x 4 1 ∷ []) (one (lambda (nd 5) [] (ident (x 6 0))))
-    (begin (bare 7) (cons (set! (bare 8) (x 9 0) (const (nd 10) false)) (one (call (nd 11) (ident (x 12 1)) nil)))))) (one (const (nd 13) false)))
+    (sequence (begins (bare 7)) (cons (set! (bare 8) (x 9 0) (const (nd 10) false)) (one (call (nd 11) (ident (x 12 1)) nil)))))) (one (const (nd 13) false)))
 
 examples : (seen scoped 40 ∷ seen dropped 40 ∷ seen shared 40 ∷ []) ≡ (
     record { moments = 16; last = constant 14 } ∷ record { moments = 10; last = constant 3 } ∷ record { moments = 15; last = constant 11 } ∷ [])

@@ -6,3 +6,6 @@ pub mod Steps
 pub mod Plain
 pub mod Run
 pub mod Examples
+pub mod Sequences
+pub mod Expansion
+pub mod Alike

@@ -1,11 +1,11 @@
 -- What the two machines share: where a run stands, what waits, and what one more moment comes to. Document 01, "The slot machine of demand 3".
 use Prim.Native.Nat.{ℕ, _-_}
 use mathlib.Core.List.{List, [], _∷_}
-use mathlib.Core.Bool.{Bool, cond}
+use mathlib.Core.Bool.{Bool, true, false, cond, not}
 use mathlib.Core.Option.{Option, none, some}
 use lib.ListN.{length, take, drop}
 use lib.Dec.{eqb}
-use Rattle.tree.specs.Tree.{Ident, Tree, Trees, ident, const, if, letin, define, lambda, begin, call, set! }
+use Rattle.tree.specs.Tree.{Ident, Tree, Trees, ident, const, if, letin, define, lambda, sequence, call, set!, nodeIn}
 
 -- an expression's record
 abbrev pub at : Tree → ℕ
@@ -15,7 +15,7 @@ at (if n a b c) = n .at
 at (letin n xs es b) = n .at
 at (define n x b) = n .at
 at (lambda n xs b) = n .at
-at (begin n es) = n .at
+at (sequence n es) = nodeIn n .at
 at (call n h es) = n .at
 at (set! n x e) = n .at
 
@@ -44,6 +44,8 @@ pub data Kont (B : Type 0) : Type 0 where
   kend : Trees → Kont B  -- the top-level expressions left
   kif : Tree → Tree → Kont B → Kont B  -- then, else
   kseq : Tree → Trees → Kont B → Kont B  -- a begin's children left
+  kand : Tree → Trees → Kont B → Kont B  -- an and's
+  kwhen : Bool → Trees → Kont B → Kont B  -- what follows a test, and what the test must be
   kpush : ℕ → After → ℕ → Trees → Kont B → Kont B  -- the expression's record, what for, how many are pushed before it, the expressions left
   khead : ℕ → ℕ → Kont B → Kont B  -- a call's record, and how many arguments are pushed
   kdrop : ℕ → Kont B → Kont B  -- how many names a let has
@@ -51,11 +53,18 @@ pub data Kont (B : Type 0) : Type 0 where
   kset : Ident → Kont B → Kont B
   kdef : Ident → Kont B → Kont B
 
+-- does what follows a test run: what the test must be, and whether it is false
+abbrev pub runs : Bool → Bool → Bool
+runs true f = not f
+runs false f = f
+
 -- the bodies that wait, the last caller first: of each the record of its call, and what it keeps
 abbrev pub waiting : {B : Type 0} → Kont B → List (ℕ × B)
 waiting (kend es) = []
 waiting (kif t e k) = waiting k
 waiting (kseq e es k) = waiting k
+waiting (kand e es k) = waiting k
+waiting (kwhen q es k) = waiting k
 waiting (kpush i w n es k) = waiting k
 waiting (khead i n k) = waiting k
 waiting (kdrop n k) = waiting k

@@ -1,7 +1,7 @@
 -- The plain machine: R7RS's environments, and no fact. Document 01, "The slot machine of demand 3", second paragraph.
 use Prim.Native.Nat.{ℕ, suc}
 use mathlib.Core.List.{List, [], _∷_, _++_}
-use mathlib.Core.Bool.{Bool, false, cond}
+use mathlib.Core.Bool.{Bool, false, cond, true}
 use mathlib.Core.Option.{Option, none, some}
 use lib.ListN.{length, drop, set, getElem?}
 use lib.Dec.{eqb}

@@ -2,7 +2,7 @@
 use Prim.Native.Nat.{ℕ, zero, suc}
 use mathlib.Core.List.{[]}
 use mathlib.Core.Option.{none}
-use Rattle.tree.specs.Tree.{Tree, Trees, begin, nil}
+use Rattle.tree.specs.Tree.{Tree, Trees, sequence, nil, begins}
 use Rattle.r7rs.specs.Machine.{start, kend, State, Out, next, ended, stopped, outside, state, unbound}
 use Rattle.r7rs.specs.Plain.{PVal, PBody, PMem, body, mem, plainly}
 use Rattle.r7rs.specs.Steps.{step}
@@ -35,7 +35,7 @@ module _ {W B M : Type 0} where
 
 -- before the first moment no body runs: an expression that mentions nothing stands for it
 abbrev pub noBody : Tree
-noBody = begin (record { at = 0; id = 0; from = 0; to = 0 }) nil
+noBody = sequence (begins (record { at = 0; id = 0; from = 0; to = 0 })) nil
 
 unfoldable pub plain : Trees → ℕ → Ran PVal PBody PMem
 plain ts n = run (step plainly) (state (start ts) none (body noBody [] []) (kend nil) (mem [] unbound)) n

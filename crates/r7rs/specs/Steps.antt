@@ -1,11 +1,11 @@
 -- The steps that both machines make, whatever they do with names, procedures and calls. Document 01, "The slot machine of demand 3".
 use Prim.Native.Nat.{ℕ, suc}
 use mathlib.Core.List.{List}
-use mathlib.Core.Bool.{Bool, cond}
+use mathlib.Core.Bool.{Bool, true, false, cond}
 use mathlib.Core.Option.{Option, none, some}
 use lib.ListN.{length}
-use Rattle.tree.specs.Tree.{Ident, Tree, Trees, ident, const, if, letin, define, lambda, begin, call, set!, nil, cons}
-use Rattle.r7rs.specs.Machine.{at, After, toHead, toBody, Moment, start, entered, read, pushed, Kont, kend, kif, kseq, kpush, khead, kdrop, kret, kset, kdef, State, Out, next, ended, stopped, Got, state, on, takes}
+use Rattle.tree.specs.Tree.{Ident, Tree, Trees, ident, const, if, letin, define, lambda, sequence, call, set!, nil, cons, begins, ands, whens}
+use Rattle.r7rs.specs.Machine.{at, After, toHead, toBody, Moment, start, entered, read, pushed, Kont, kend, kif, kseq, kand, kwhen, kpush, khead, kdrop, kret, kset, kdef, State, Out, next, ended, stopped, Got, state, on, takes, runs}
 
 -- a procedure: its parameters, its body, and what it keeps of where it was made
 pub record Procedure (E : Type 0) : Type 0 where
@@ -31,7 +31,7 @@ pub record Ops (W E B M : Type 0) : Type 0 where
   pub caller : ℕ → ℕ → B → Kont B → Kont B  -- what then waits: the call's record, and how many values it takes
 
 module _ {W E B M : Type 0} (O : Ops W E B M) where
-  -- An expression is entered: a moment. A constant, a lambda and an empty begin give their value in it; else the hand stays as it was.
+  -- An expression is entered: a moment. A constant, a lambda, an empty begin and an and of none give their value in it; else the hand stays as it was.
 
   abbrev pub gives : Tree → B → Option W → Option W
   gives (ident x) b h = h
@@ -40,8 +40,10 @@ module _ {W E B M : Type 0} (O : Ops W E B M) where
   gives (letin n xs es e) b h = h
   gives (define n x e) b h = h
   gives (lambda n xs e) b h = some (O .made (n .at) xs e b)
-  gives (begin n nil) b h = some (O .unit)
-  gives (begin n (cons e es)) b h = h
+  gives (sequence (begins n) nil) b h = some (O .unit)
+  gives (sequence (ands n) nil) b h = some (O .constant 0 false)
+  gives (sequence (whens q n) nil) b h = some (O .unit)
+  gives (sequence n (cons e es)) b h = h
   gives (call n f es) b h = h
   gives (set! n x e) b h = h
 
@@ -59,13 +61,20 @@ module _ {W E B M : Type 0} (O : Ops W E B M) where
   apply v i n k b m = applied (O .procedure v) v i n k b m
 
   -- A value is given to what waits, up to the next moment. "An if enters its test, then one branch, the else at false. A begin enters its children and
-  -- gives the last value." "A set! ... fills what a read would find; a define ... the cell"; both give the unspecified value.
+  -- gives the last value." "A set! ... fills what a read would find; a define ... the cell"; both give the unspecified value. Document 02, order 7:
+  -- where a child of an and that is not the last is false, the value is the #f that the expansion adds; where nothing follows a test, or what
+  -- follows is passed over, it is that of the empty begin. Records that the expansion adds make no moment.
   unfoldable pub give : W → Kont B → B → M → Out W B M
   give v (kend nil) b m = ended v m
   give v (kend (cons e es)) b m = enter e (some v) (O .top e) (kend es) m
   give v (kif t e k) b m = enter (cond (O .isFalse v) e t) (some v) b k m
   give v (kseq e nil k) b m = enter e (some v) b k m
   give v (kseq e (cons e′ es) k) b m = enter e (some v) b (kseq e′ es k) m
+  give v (kand e nil k) b m = cond (O .isFalse v) (give (O .constant 0 true) k b m) (enter e (some v) b k m)
+  give v (kand e (cons e′ es) k) b m = cond (O .isFalse v) (give (O .constant 0 true) k b m) (enter e (some v) b (kand e′ es k) m)
+  give v (kwhen q nil k) b m = give (O .unit) k b m
+  give v (kwhen q (cons e nil) k) b m = cond (runs q (O .isFalse v)) (enter e (some v) b k m) (give (O .unit) k b m)
+  give v (kwhen q (cons e (cons e′ es)) k) b m = cond (runs q (O .isFalse v)) (enter e (some v) b (kseq e′ es k) m) (give (O .unit) k b m)
   give v (kpush i w n es k) b m = next (state (pushed i w (suc n) es) (some v) (O .push v b) k m)
   give v (khead i n k) b m = apply v i n k b m
   give v (kdrop n k) b m = give v k (O .drop n b) m
@@ -97,9 +106,12 @@ module _ {W E B M : Type 0} (O : Ops W E B M) where
   goOn (letin n xs es e) h b k m = push (toBody xs e) 0 es h b k m
   goOn (define n x e) h b k m = enter e h b (kdef x k) m
   goOn (lambda n xs e) h b k m = given h k b m
-  goOn (begin n nil) h b k m = given h k b m
-  goOn (begin n (cons e nil)) h b k m = enter e h b k m
-  goOn (begin n (cons e (cons e′ es))) h b k m = enter e h b (kseq e′ es k) m
+  goOn (sequence n nil) h b k m = given h k b m
+  goOn (sequence (begins n) (cons e nil)) h b k m = enter e h b k m
+  goOn (sequence (begins n) (cons e (cons e′ es))) h b k m = enter e h b (kseq e′ es k) m
+  goOn (sequence (ands n) (cons e nil)) h b k m = enter e h b k m
+  goOn (sequence (ands n) (cons e (cons e′ es))) h b k m = enter e h b (kand e′ es k) m
+  goOn (sequence (whens q n) (cons e es)) h b k m = enter e h b (kwhen q es k) m
   goOn (call n f es) h b k m = push (toHead (n .at) f) 0 es h b k m
   goOn (set! n x e) h b k m = enter e h b (kset x k) m
 

@@ -2,7 +2,7 @@
 use Prim.Native.Nat.{ℕ}
 use mathlib.Core.List.{List, [], _∷_, _++_}
 use mathlib.Core.Bool.{Bool, true, false}
-use Rattle.tree.specs.Tree.{Tree, Trees, ident, const, if, letin, define, lambda, begin, call, set!, nil, cons}
+use Rattle.tree.specs.Tree.{Tree, Trees, ident, const, if, letin, define, lambda, sequence, call, set!, nil, cons, begins, ands, whens}
 
 -- a call: its record, its head, and whether it stands in tail position of the innermost lambda around it
 pub record Call : Type 0 where
@@ -11,8 +11,8 @@ pub record Call : Type 0 where
   pub tail : Bool
 
 -- The calls of an expression, which stands in tail position itself where `t` says so. "The last expression within the body of a lambda expression
--- occurs in a tail context." Of an expression in one, so do both branches of an if, the body of a let, and the last child of a begin if it is an
--- expression: a define is none.
+-- occurs in a tail context." Of an expression in one, so do both branches of an if, the body of a let, "(and ⟨expression⟩* ⟨tail expression⟩)", what
+-- ends "(when ⟨test⟩ ⟨tail sequence⟩)" and "(unless ⟨test⟩ ⟨tail sequence⟩)", and the last child of a begin, if it is an expression: a define is none.
 unfoldable mutual
   pub calls : Tree → Bool → List Call
   calls (ident x) t = []
@@ -21,7 +21,9 @@ unfoldable mutual
   calls (letin n xs es b) t = callsIn es ++ calls b t
   calls (define n x b) t = calls b false
   calls (lambda n xs b) t = calls b true
-  calls (begin n es) t = callsLast es t
+  calls (sequence (begins n) es) t = callsLast es t
+  calls (sequence (ands n) es) t = callsLast es t
+  calls (sequence (whens b n) es) t = callsTested es t
   calls (call n h es) t = record { at = n .at; head = h; tail = t } ∷ (calls h false ++ callsIn es)
   calls (set! n x e) t = calls e false
 
@@ -35,3 +37,8 @@ unfoldable mutual
   callsLast nil t = []
   callsLast (cons e nil) t = calls e t
   callsLast (cons e (cons e′ es)) t = calls e false ++ callsLast (cons e′ es) t
+
+  -- of a test and what follows it
+  pub callsTested : Trees → Bool → List Call
+  callsTested nil t = []
+  callsTested (cons e es) t = calls e false ++ callsLast es t

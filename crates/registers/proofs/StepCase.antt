@@ -5,6 +5,7 @@ use mathlib.Core.Bool.{Bool}
 use mathlib.Core.Option.{Option}
 use mathlib.Core.Path.{_≡_, refl, ap, sym, subst, _∙_}
 use Rattle.tree.specs.Tree.{Ident, Node, Tree}
+use Rattle.tree.specs.Core.{cores}
 use Rattle.scope_map.specs.MapLaws.{mapValues}
 use Rattle.semantic.specs.declared.IdentifierStatus.{IdentifierStatus}
 use Rattle.pass.specs.State.{State, withContext, depth}
@@ -151,7 +152,7 @@ module _ {p q : Pass} {rs F F′ w w′ : List ℕ} {at : ℕ} where
 
   pub children-named : {n : ℕ} {classes : List ℕ} {kind : IdentifierStatus} → EntersChildren classes rs at n kind p F w q F′ w′
       → EntersChildren classes rs at n kind p F w (named q p) F′ w′
-  children-named {classes = classes} {kind} k = record { is = λ C A s es e m f. named-tied (f .tied) (each-still classes kind es s) (k .is C A s es e m f) }
+  children-named {classes = classes} {kind} k = record { is = λ C A s es e m f. named-tied (f .tied) (each-still classes kind (cores es) s) (k .is C A s es e m f) }
 
 -- A set! changes the context alone
 

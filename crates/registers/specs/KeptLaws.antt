@@ -7,7 +7,7 @@ use mathlib.Core.Path.{_≡_, refl, ap, _∙_}
 use lib.ListN.{length}
 use lib.Dec.{ltb}
 use Rattle.tree.specs.Check.{Refusal}
-use Rattle.tree.specs.Tree.{Ident, Node, Tree, Trees, ident, const, if, letin, define, lambda, begin, call, set!, nil, cons}
+use Rattle.tree.specs.Tree.{Ident, Node, Tree, Trees, ident, const, if, letin, define, lambda, sequence, call, set!, nil, cons}
 use Rattle.scope_map.specs.ScopeMap.{ScopeMap, Live, newestLayer}
 use Rattle.semantic.specs.Information.{NONE}
 use Rattle.semantic.specs.Rows.{Row, Item}
@@ -189,7 +189,7 @@ module _ (classes : List ℕ) where
         go true = define-still kind NONE x b s
         go false = refl
     one-still (lambda n xs b) s = refl
-    one-still (begin n es) s = refl
+    one-still (sequence n es) s = refl
     one-still (call n h es) s = refl
     one-still (set! n x e) s = refl
 

@@ -1,12 +1,12 @@
 -- A refusal in two numbers, as C is told it.
 use Prim.Native.Nat.{ℕ}
+use mathlib.Core.Bool.{true, false, true≢false}
 use mathlib.Core.List.{List}
 use mathlib.Core.Option.{Option, none, some}
-use mathlib.Core.Path.{_≡_, refl, sym, _∙_}
-use native.Mathlib.Omega.{arith}
-use Rattle.tree.specs.Check.{Refusal}
+use mathlib.Core.Path.{_≡_, refl, ap, sym, _∙_}
+use Rattle.tree.specs.Check.{Refusal, member}
 use Rattle.pass.specs.Run.{Tables, Outcome, Fresh, Settled}
-use Rattle.pass.specs.Laws.Numbers.{Between, fresh-numbers, settled-numbers}
+use Rattle.pass.specs.Laws.Numbers.{Among, fresh-numbers, settled-numbers}
 
 -- 0 where nothing is refused
 abbrev pub numberTold : Option Refusal → ℕ
@@ -26,13 +26,13 @@ pub record Tells (Contract : List ℕ → List ℕ → Tables → Outcome → Ty
 
 -- 0 is told only there
 
-told-none : {b : ℕ} (o : Option Refusal) → Between 1 b o → 0 ≡ numberTold o → o ≡ none
-told-none none h e = refl
-told-none (some r) h e = absurd (omega (arith, h r refl .0, e))
+told-none : {l : List ℕ} → member 0 l ≡ false → (o : Option Refusal) → Among l o → 0 ≡ numberTold o → o ≡ none
+told-none z none h e = refl
+told-none {l} z (some r) h e = absurd (true≢false (sym (h .is r refl) ∙ ap (λ (n : ℕ). member n l) (sym e) ∙ z))
 
 module _ {classes rs : List ℕ} {t t′ : Tables} {i : ℕ} where
   pub fresh-zero : (x : Tells Fresh classes rs t 0 i t′) → x .refused ≡ none
-  fresh-zero x = told-none (x .refused) (fresh-numbers (x .answers)) (x .number)
+  fresh-zero x = told-none refl (x .refused) (fresh-numbers (x .answers)) (x .number)
 
   pub settled-zero : (x : Tells Settled classes rs t 0 i t′) → x .refused ≡ none
-  settled-zero x = told-none (x .refused) (settled-numbers (x .answers)) (x .number)
+  settled-zero x = told-none refl (x .refused) (settled-numbers (x .answers)) (x .number)

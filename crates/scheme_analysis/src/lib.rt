@@ -25,7 +25,7 @@ fn record_told(a: Answer) -> usize
 }
 
 #[no_mangle]
-pub extern "C" fn scheme_analysis_fresh_v1(
+pub extern "C" fn scheme_analysis_fresh_v2(
     records: &[u32],
     classes: &[u8],
     facts: &mut [u32],
@@ -42,7 +42,7 @@ pub extern "C" fn scheme_analysis_fresh_v1(
 }
 
 #[no_mangle]
-pub extern "C" fn scheme_analysis_settled_v1(
+pub extern "C" fn scheme_analysis_settled_v2(
     records: &[u32],
     classes: &[u8],
     facts: &mut [u32],

@@ -1,4 +1,4 @@
--- The rows of the table of forms, by the form's number. Each rule is computed at the forms 0 to 9; above them there is no form.
+-- The rows of the table of forms, by the form's number. Each rule is computed at the forms 0 to 12; above them there is no form.
 use Prim.Native.Nat.{ℕ, zero, suc, _+_, _*_, _≤_, _<_}
 use mathlib.Core.List.{List, [], _∷_}
 use mathlib.Core.Bool.{Bool, true, false, not, true≢false}
@@ -20,18 +20,18 @@ past [] n h = refl
 past (f ∷ l) zero h = absurd (omega arith)
 past (f ∷ l) (suc n) h = past l n (omega arith)
 
-pub unknown : (f : ℕ) → 9 < f → formOf f ≡ none
+pub unknown : (f : ℕ) → 12 < f → formOf f ≡ none
 unfolding formOf
 unknown zero h = absurd (omega arith)
 unknown (suc n) h = past forms n (omega arith)
 
-by : (P : ℕ → Type 0) → Each P 0 10 → ((f : ℕ) → 9 < f → P f) → (f : ℕ) → Dec (f < 10) → P f
-by P e g f (yes h) = each P 10 e f h
+by : (P : ℕ → Type 0) → Each P 0 13 → ((f : ℕ) → 12 < f → P f) → (f : ℕ) → Dec (f < 13) → P f
+by P e g f (yes h) = each P 13 e f h
 by P e g f (no h) = g f (omega arith)
 
--- what holds of the forms 0 to 9 and of those above holds of every form
-pub by-form : (P : ℕ → Type 0) → Each P 0 10 → ((f : ℕ) → 9 < f → P f) → (f : ℕ) → P f
-by-form P e g f = by P e g f (decLt f 10)
+-- what holds of the forms 0 to 12 and of those above holds of every form
+pub by-form : (P : ℕ → Type 0) → Each P 0 13 → ((f : ℕ) → 12 < f → P f) → (f : ℕ) → P f
+by-form P e g f = by P e g f (decLt f 13)
 
 true-of : (b : Bool) → T b → b ≡ true
 true-of true t = refl
@@ -41,17 +41,17 @@ false-of : (b : Bool) → T (not b) → b ≡ false
 false-of true t = absurd t
 false-of false t = refl
 
--- the forms are the numbers 1 to 9
-pub is-form : (f : ℕ) → 1 ≤ f → f ≤ 9 → isForm (formOf f) ≡ true
+-- the forms are the numbers 1 to 12
+pub is-form : (f : ℕ) → 1 ≤ f → f ≤ 12 → isForm (formOf f) ≡ true
 unfolding formOf
-is-form f h g = true-of _ (by-form (λ n. 1 ≤ n → n ≤ 9 → T (isForm (formOf n))) (omega arith) (λ n a b c. absurd (omega arith)) f h g)
+is-form f h g = true-of _ (by-form (λ n. 1 ≤ n → n ≤ 12 → T (isForm (formOf n))) (omega arith) (λ n a b c. absurd (omega arith)) f h g)
 
-at-most : (f : ℕ) → isForm (formOf f) ≡ true → Dec (f ≤ 9) → f ≤ 9
+at-most : (f : ℕ) → isForm (formOf f) ≡ true → Dec (f ≤ 12) → f ≤ 12
 at-most f e (yes g) = g
 at-most f e (no g) = absurd (true≢false (sym e ∙ ap isForm (unknown f (omega arith))))
 
-pub known-most : (f : ℕ) → isForm (formOf f) ≡ true → f ≤ 9
-known-most f e = at-most f e (decLe f 9)
+pub known-most : (f : ℕ) → isForm (formOf f) ≡ true → f ≤ 12
+known-most f e = at-most f e (decLe f 12)
 
 pub known-least : (f : ℕ) → isForm (formOf f) ≡ true → 1 ≤ f
 unfolding formOf

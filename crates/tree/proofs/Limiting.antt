@@ -1,7 +1,7 @@
 -- The limits by form are the rows of the table of forms: to be within them is to be sound.
 use Prim.Native.Nat.{ℕ, zero, suc, _+_, _*_, _≤_, _<_}
 use mathlib.Core.List.{List}
-use mathlib.Core.Bool.{Bool, true, false, cond, _&&_, true≢false}
+use mathlib.Core.Bool.{Bool, true, false, cond, _&&_, _||_, true≢false}
 use mathlib.Core.Option.{Option, none, some}
 use mathlib.Core.Path.{_≡_, refl, sym, ap, subst, _∙_}
 use native.Mathlib.Omega.{arith}
@@ -40,43 +40,49 @@ dueMost f = cond (eqb f 1) 255 0
 
 -- what the limits of form f are
 record Row (N f : ℕ) : Type 0 where
-  pub least : limitOf (limits N) f 2 ≡ cond (eqb f 8) 1 0
+  pub least : limitOf (limits N) f 2 ≡ cond (eqb f 8 || (eqb f 11 || eqb f 12)) 1 0
   pub most : limitOf (limits N) f 3 ≡ countMostIn (formOf f)
   pub below : limitOf (limits N) f 4 ≡ nameBelowIn (formOf f) N
   pub due : limitOf (limits N) f 5 ≡ dueMost f
 
-row-of : (N f : ℕ) → f ≤ 9 → Row N f
+row-of : (N f : ℕ) → f ≤ 12 → Row N f
 unfolding limits formOf dueMost
-row-of N f h = each (Row N) 10 (omega arith) f (omega arith)
+row-of N f h = record {
+  least = each (λ n. limitOf (limits N) n 2 ≡ cond (eqb n 8 || (eqb n 11 || eqb n 12)) 1 0) 13 (omega arith) f (omega arith);
+  most = each (λ n. limitOf (limits N) n 3 ≡ countMostIn (formOf n)) 13 (omega arith) f (omega arith);
+  below = each (λ n. limitOf (limits N) n 4 ≡ nameBelowIn (formOf n) N) 13 (omega arith) f (omega arith);
+  due = each (λ n. limitOf (limits N) n 5 ≡ dueMost n) 13 (omega arith) f (omega arith);
+}
 
 -- what those of the names and the children give together, with c counted
 record Parts (N c f : ℕ) : Type 0 where
   pub names : limitOf (limits N) f 6 + limitOf (limits N) f 7 * c ≡ namesOf f c
   pub children : limitOf (limits N) f 8 + limitOf (limits N) f 9 * c ≡ childrenOf f c
 
-parts-of : (N c f : ℕ) → f ≤ 9 → Parts N c f
+parts-of : (N c f : ℕ) → f ≤ 12 → Parts N c f
 unfolding limits formOf namesOf othersOf childrenOf
-parts-of N c f h = each (Parts N c) 10 (omega arith) f (omega arith)
+parts-of N c f h = each (Parts N c) 13 (omega arith) f (omega arith)
 
-count-few : (N f : ℕ) → f ≤ 9 → limitOf (limits N) f 3 ≤ 255
+count-few : (N f : ℕ) → f ≤ 12 → limitOf (limits N) f 3 ≤ 255
 unfolding limits
-count-few N f h = each (λ n. limitOf (limits N) n 3 ≤ 255) 10 (omega arith) f (omega arith)
+count-few N f h = each (λ n. limitOf (limits N) n 3 ≤ 255) 13 (omega arith) f (omega arith)
 
 -- an id is within those of a form alone
-id-form : (N i f : ℕ) → f ≤ 9 → Between (limits N) f 0 i → 1 ≤ f
+id-form : (N i f : ℕ) → f ≤ 12 → Between (limits N) f 0 i → 1 ≤ f
 unfolding limits
-id-form N i f h = each (λ n. Between (limits N) n 0 i → 1 ≤ n) 10 (omega arith) f (omega arith)
+id-form N i f h = each (λ n. Between (limits N) n 0 i → 1 ≤ n) 13 (omega arith) f (omega arith)
 
 abbrev bit : Bool → ℕ
 bit true = 1
 bit false = 0
 
 -- what those of the id are
-id-of : (N f : ℕ) → 1 ≤ f → f ≤ 9 → let b = bit (hasIdIn (formOf f)) in (limitOf (limits N) f 0 ≡ b) × (limitOf (limits N) f 1 ≡ b * 4294967294)
+id-of : (N f : ℕ) → 1 ≤ f → f ≤ 12 → let b = bit (hasIdIn (formOf f)) in (limitOf (limits N) f 0 ≡ b) × (limitOf (limits N) f 1 ≡ b * 4294967294)
 unfolding limits formOf
-id-of N f g h =
-    each (λ n. 1 ≤ n → (limitOf (limits N) n 0 ≡ bit (hasIdIn (formOf n))) × (limitOf (limits N) n 1 ≡ bit (hasIdIn (formOf n)) * 4294967294)) 10 (omega arith)
-    f (omega arith) g
+id-of N f g h = (
+  each (λ n. 1 ≤ n → limitOf (limits N) n 0 ≡ bit (hasIdIn (formOf n))) 13 (omega arith) f (omega arith) g,
+  each (λ n. 1 ≤ n → limitOf (limits N) n 1 ≡ bit (hasIdIn (formOf n)) * 4294967294) 13 (omega arith) f (omega arith) g,
+)
 
 zero-only : (i : ℕ) → leb i 0 ≡ eqb i 0
 zero-only zero = refl
@@ -86,7 +92,7 @@ as-bit : (b : Bool) (i : ℕ) → leb (bit b) i && leb i (bit b * 4294967294) �
 as-bit true i = refl
 as-bit false i = rw (le-leb 0 i (omega arith)) (zero-only i)
 
-tells-id : (N f i : ℕ) → 1 ≤ f → f ≤ 9 → Tells (idFits (hasIdIn (formOf f)) i) (Between (limits N) f 0 i)
+tells-id : (N f i : ℕ) → 1 ≤ f → f ≤ 12 → Tells (idFits (hasIdIn (formOf f)) i) (Between (limits N) f 0 i)
 tells-id N f i g h =
     let b = hasIdIn (formOf f) in
     let l = id-of N f g h in
@@ -96,7 +102,7 @@ tells-id N f i g h =
 
 -- a record fits if its form is known, and the fields are within the form's limits, but for the least count
 module _ (N : ℕ) (r : Record) where
-  tells-parts : let f = r .form in 1 ≤ f → f ≤ 9
+  tells-parts : let f = r .form in 1 ≤ f → f ≤ 12
       → Tells (fits N r) ((isForm (formOf f) ≡ true) × (Between (limits N) f 0 (r .id) × ((r .name < limitOf (limits N) f 4) × (r .count ≤ limitOf (limits N) f 3))))
   unfolding fits
   tells-parts g h =
@@ -117,7 +123,17 @@ module _ (N : ℕ) (r : Record) where
       let g = id-form N (r .id) (r .form) h (w .id) in
       tells-parts g h .all (is-form (r .form) g h, (w .id, (w .name, w .most)))
 
--- an empty call has fewer than its least
+-- an empty call, a when and an unless have fewer than their least
+
+both-out : (a b z : Bool) → ((a || b) && z) ≡ false → ((a && z) ≡ false) × ((b && z) ≡ false)
+both-out true true z e = (e, e)
+both-out true false z e = (e, refl)
+both-out false b z e = (refl, e)
+
+in-both : (a b z : Bool) → (a && z) ≡ false → (b && z) ≡ false → ((a || b) && z) ≡ false
+in-both true b z p q = p
+in-both false b z p q = q
+
 tells-called : (b : Bool) (c : ℕ) → Tells (leb (cond b 1 0) c) (b && eqb c 0 ≡ false)
 tells-called true zero = tells-no true≢false
 tells-called true (suc c) = tells-same (tells-le 1 (suc c)) (λ h. ne-eqb (suc c) 0 (λ e. omega arith)) (λ e. omega arith)
@@ -140,9 +156,13 @@ module _ (N : ℕ) (r : Record) (due : ℕ) (few : due ≤ 255) where
   within-sound : Within (limits N) r due → Sound N r due
   within-sound w =
       let o = row-of N (r .form) (w .fields .known) in
+      let f = r .form in
+      let full = both-out (eqb f 8) (eqb f 11 || eqb f 12) (eqb (r .count) 0)
+      (tells-called (eqb f 8 || (eqb f 11 || eqb f 12)) (r .count) .yes (le-leb _ _ (rw (o .least) at (w .least)))) in
       record {
         fit = fields-fit N r (w .fields);
-        called = tells-called (eqb (r .form) 8) (r .count) .yes (le-leb _ _ (rw (o .least) at (w .least)));
+        called = full .0;
+        tested = full .1;
         named = tells-named (r .form) due few .yes (le-leb _ _ (rw (o .due) at (w .few)));
       }
 
@@ -150,9 +170,10 @@ module _ (N : ℕ) (r : Record) (due : ℕ) (few : due ≤ 255) where
   sound-within s =
       let f = fit-fields N r (s .fit) in
       let o = row-of N (r .form) (f .known) in
+      let g = r .form in
       record {
         fields = f;
-        least = rw (o .least) (leb-true _ _ (tells-called (eqb (r .form) 8) (r .count) .all (s .called)));
+        least = rw (o .least) (leb-true _ _ (tells-called (eqb g 8 || (eqb g 11 || eqb g 12)) (r .count) .all (in-both (eqb g 8) (eqb g 11 || eqb g 12) (eqb (r .count) 0) (s .called) (s .tested))));
         few = rw (o .due) (leb-true _ _ (tells-named (r .form) due few .all (s .named)));
       }
 

@@ -7,7 +7,7 @@ use native.Mathlib.Omega.{arith}
 use borrow.Author.Tests.{eq-eqb, ne-eqb, lt-ltb, le-ltb}
 use lib.ListN.{length}
 use Rattle.tree.specs.Record.{width, records}
-use Rattle.tree.specs.Check.{Refusal, orElse, check1, check2, check3, check4, check5, check6, check7, check8, refusal}
+use Rattle.tree.specs.Check.{Refusal, orElse, check1, check2, check3, check4, check5, check6, check7, check16, check8, refusal}
 use Rattle.tree.specs.Order.{from3, from8}
 use Rattle.tree.specs.Acceptance.Passes.{silent}
 use Rattle.tree.specs.Clear.{Clear}
@@ -50,15 +50,16 @@ late N rs =
     (least 5 (check5 N rs) _ (omega arith)
     (least 6 (check6 N rs) _ (omega arith)
     (least 7 (check7 N rs) _ (omega arith)
-    (least 8 (check8 N rs) none (omega arith) (omega arith))))))
+    (least 16 (check16 N rs) _ (omega arith)
+    (least 8 (check8 N rs) none (omega arith) (omega arith)))))))
 
--- where none of the checks 3 to 7 applies, the last is left
+-- where none of the checks 3 to 7 and 16 applies, the last is left
 pub cleared : (N : ℕ) (rs : List ℕ) → Clear N rs → from3 N rs ≡ from8 N rs
-cleared N rs c = rw (c .fields, c .children, c .nesting, c .names, c .calls)
+cleared N rs c = rw (c .fields, c .children, c .nesting, c .names, c .calls, c .tests)
 
 -- where none refuses, none of them applies
 pub unrefused : (N : ℕ) (rs : List ℕ) → refusal N rs ≡ none → Clear N rs
-unrefused N rs e = let c = silent N rs e in record { fields = c .c3; children = c .c4; nesting = c .c5; names = c .c6; calls = c .c7 }
+unrefused N rs e = let c = silent N rs e in record { fields = c .c3; children = c .c4; nesting = c .c5; names = c .c6; calls = c .c7; tests = c .c16 }
 
 -- of the checks from 3 on, check n is next
 pub record Next (N : ℕ) (rs : List ℕ) (n : ℕ) (check : ℕ → List ℕ → Option ℕ) (later : ℕ → List ℕ → Option Refusal) : Type 0 where

@@ -13,7 +13,7 @@ use Rattle.tree.specs.Form.{fits}
 use Rattle.tree.specs.First.{on, first}
 use Rattle.tree.specs.FirstLaws.{on-zero, from-hit, from-next, from-none, from-end}
 
--- what the checks 3 and 7 look for
+-- what the checks 3, 7 and 16 look for
 abbrev pub outside : ℕ → Record → Bool
 outside N r = not (fits N r)
 

@@ -1,4 +1,4 @@
--- Checks 3 to 7 in one pass: none of them applies so far.
+-- Checks 3 to 7 and 16 in one pass: none of them applies so far.
 use Prim.Native.Nat.{ℕ, _+_, _-_, _*_, _%_, _≤_, _<_}
 use mathlib.Core.List.{List}
 use mathlib.Core.Bool.{not, cond}
@@ -13,7 +13,7 @@ use Rattle.tree.specs.RecordLaws.{nth}
 use Rattle.tree.specs.Form.{namesOf, childrenOf}
 use Rattle.tree.specs.declared.sweep.Innermost.{Innermost}
 use Rattle.tree.specs.Held.{Steps}
-use Rattle.tree.specs.Check.{check3, check7}
+use Rattle.tree.specs.Check.{check3, check7, check16, testless}
 use Rattle.tree.specs.Clear.{Sound, Clear}
 use Rattle.tree.proofs.Forms.{fit-names}
 use Rattle.tree.proofs.Search.{outside, emptyCall, At, begin, next, fails, end}
@@ -29,13 +29,14 @@ few-after N r due u h (no z) = omega (arith, fit-names N r (u .fit))
 pub record Sweeping (N : ℕ) (rs tops kept : List ℕ) (inner : Innermost) (due top i : ℕ) : Type 0 where
   pub fields : At (outside N) rs i
   pub calls : At emptyCall rs i
+  pub tests : At testless rs i
   pub names : Naming rs i due
   pub few : due ≤ 255
   pub places : Standing rs tops kept inner top i
 
 pub sweep-begin : (N : ℕ) (rs tops : List ℕ) → length (records rs) ≤ 4096 → length (records rs) < length tops → {n : ℕ} → n ≡ length (records rs) → Sweeping N rs tops (replicate 65 0) (record { word = 128 * (n + 1); under = 0 }) 0 0 0
 sweep-begin N rs tops h g e =
-    record { fields = begin (outside N) rs; calls = begin emptyCall rs; names = naming-begin rs; few = omega arith; places = stand-begin rs tops h g e }
+    record { fields = begin (outside N) rs; calls = begin emptyCall rs; tests = begin testless rs; names = naming-begin rs; few = omega arith; places = stand-begin rs tops h g e }
 
 module _ {N : ℕ} {rs tops kept : List ℕ} {b : Innermost} {due top i : ℕ} (a : Sweeping N rs tops kept b due top i) where
   module _ (h : i < length (records rs)) (u : Sound N (nth rs i) due) {due′ : ℕ} (ed : due′ ≡ due - 1 + namesOf (nth rs i .form) (nth rs i .count)) where
@@ -44,28 +45,31 @@ module _ {N : ℕ} {rs tops kept : List ℕ} {b : Innermost} {due top i : ℕ} (
     sweep-next small t ec = record {
       fields = next (outside N) rs (a .fields) h (ap not (u .fit));
       calls = next emptyCall rs (a .calls) h (u .called);
+      tests = next testless rs (a .tests) h (u .tested);
       names = naming-next (a .names) h due′ (u .named) ed;
       few = omega (arith, ed, few-after N (nth rs i) due u (a .few) (decLt 0 due));
       places = stand-next (a .places) h small t ec;
     }
 
   pub sweep-end : length (records rs) ≤ i → b .word % 128 ≡ 0 → Clear N rs
-  unfolding check3 check7
+  unfolding check3 check7 check16
   sweep-end h z = record {
     fields = sym (end (outside N) rs (a .fields) h);
     children = stand-whole (a .places) h N z;
     nesting = stand-shallow (a .places) h N;
     names = sym (none-misnamed (a .names) h N);
     calls = sym (end emptyCall rs (a .calls) h);
+    tests = sym (end testless rs (a .tests) h);
   }
 
   -- where none of them applies at all, the loop goes on to the end, and none is open there
   module _ (k : Clear N rs) where
     pub clear-sound : i < length (records rs) → Sound N (nth rs i) due
-    unfolding check3 check7
+    unfolding check3 check7 check16
     clear-sound h = record {
       fit = not-false _ (fails (outside N) rs (a .fields) h (k .fields));
       called = fails emptyCall rs (a .calls) h (k .calls);
+      tested = fails testless rs (a .tests) h (k .tests);
       named = λ z. none-due (a .names) h z N (k .names);
     }
 

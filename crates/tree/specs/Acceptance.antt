@@ -1,4 +1,4 @@
--- The checks 1 to 8 pass exactly if the records are those of trees within every limit, and those trees are unique.
+-- The checks 1 to 8 and 16 pass exactly if the records are those of trees within every limit, and those trees are unique.
 use Prim.Native.Nat.{ℕ, _%_}
 use mathlib.Core.List.{List, []}
 use mathlib.Core.Option.{none}

@@ -3,7 +3,7 @@ use mathlib.Core.Option.{Option, none, some}
 use Prim.Native.Nat.{ℕ}
 use Rattle.tree.specs.Check.{Refusal}
 use Rattle.tree.specs.declared.Checked.{Checked}
-use Rattle.tree.specs.declared.Checked.the-variants.{Fit, Ragged, TooMany, Field, Missing, Deep, NotAName, EmptyCall, Repeated}
+use Rattle.tree.specs.declared.Checked.the-variants.{Fit, Ragged, TooMany, Field, Missing, Deep, NotAName, EmptyCall, Untested, Repeated}
 
 abbrev refused : ℕ → ℕ → Option Refusal
 refused n i = some (record { number = n; at = i })
@@ -17,4 +17,5 @@ refusalOf (Missing i) = refused 4 i
 refusalOf (Deep i) = refused 5 i
 refusalOf (NotAName i) = refused 6 i
 refusalOf (EmptyCall i) = refused 7 i
+refusalOf (Untested i) = refused 16 i
 refusalOf (Repeated i) = refused 8 i

@@ -11,7 +11,8 @@ use lib.ListN.{length}
 use lib.Dec.{eqb, leb, ltb}
 use Rattle.tree.specs.Record.{Record}
 use Rattle.tree.specs.Form.{Form, formOf, namesOf, othersOf, idFits, fitsAs, fits}
-use Rattle.tree.specs.Tree.{Node, Ident, Tree, Trees, ident, const, if, letin, define, lambda, begin, call, set!, nil, cons, many, named, bit, flat, flats, size, sizes, nesting, nestings, NumNames, Num, Nums}
+use Rattle.tree.specs.Tree.{Node, Ident, Tree, Trees, ident, const, if, letin, define, lambda, sequence, call, set!, nil, cons, many, begins, ands, whens, named, bit, flat, flats, size, sizes, nesting, nestings, NumNames, Num, Nums}
+use Rattle.tree.specs.Check.{testless}
 use Rattle.tree.specs.Define.{_⊕_}
 use Rattle.tree.specs.Parts.{own, names, others, at, flat-own, size-own, nesting-own, own-num}
 
@@ -51,10 +52,13 @@ module _ (n : Node) (x : Ident) (q : Bool) (xs : List Ident) (ts : Trees) where
   make (suc (suc (suc (suc zero)))) = letin n xs (butLast ts) (lastOr (ident x) ts)
   make (suc (suc (suc (suc (suc zero))))) = define n (nameOr x xs) (firstOr (ident x) ts)
   make (suc (suc (suc (suc (suc (suc zero)))))) = lambda n xs (firstOr (ident x) ts)
-  make (suc (suc (suc (suc (suc (suc (suc zero))))))) = begin n ts
+  make (suc (suc (suc (suc (suc (suc (suc zero))))))) = sequence (begins n) ts
   make (suc (suc (suc (suc (suc (suc (suc (suc zero)))))))) = call n (firstOr (ident x) ts) (rest ts)
   make (suc (suc (suc (suc (suc (suc (suc (suc (suc zero))))))))) = set! n (nameOr x xs) (firstOr (ident x) ts)
-  make (suc (suc (suc (suc (suc (suc (suc (suc (suc (suc f)))))))))) = ident x
+  make (suc (suc (suc (suc (suc (suc (suc (suc (suc (suc zero)))))))))) = sequence (ands n) ts
+  make (suc (suc (suc (suc (suc (suc (suc (suc (suc (suc (suc zero))))))))))) = sequence (whens true n) ts
+  make (suc (suc (suc (suc (suc (suc (suc (suc (suc (suc (suc (suc zero)))))))))))) = sequence (whens false n) ts
+  make (suc (suc (suc (suc (suc (suc (suc (suc (suc (suc (suc (suc (suc f))))))))))))) = ident x
 
 -- the tree of the record r, which is record i, with these names and other children
 unfoldable pub build : ℕ → Record → List Ident → Trees → Tree
@@ -92,7 +96,10 @@ build-own (if n a b c) = refl
 build-own (letin n xs es b) = ap₂ (λ (ts : Trees) (t : Tree). letin n xs ts t) (butLast-⊕ b es) (last-⊕ _ b es)
 build-own (define n x b) = refl
 build-own (lambda n xs b) = refl
-build-own (begin n es) = refl
+build-own (sequence (begins n) es) = refl
+build-own (sequence (ands n) es) = refl
+build-own (sequence (whens true n) es) = refl
+build-own (sequence (whens false n) es) = refl
 build-own (call n h es) = refl
 build-own (set! n x b) = refl
 
@@ -206,7 +213,13 @@ module _ (N i j x c a b : ℕ) (xs : List Ident) (ts : Trees) where
       record { here = refl; isOwn = same 8 (omega arith) (m .1); isNames = no-name xs (p .nameCount); isOthers = m .0 }
   built-as (suc (suc (suc (suc (suc (suc (suc (suc (suc zero))))))))) p =
       record { here = refl; isOwn = same 9 (omega arith) (omega arith); isNames = one-name _ xs (p .nameCount); isOthers = one-tree absent ts (p .otherCount) }
-  built-as (suc (suc (suc (suc (suc (suc (suc (suc (suc (suc f)))))))))) p = absurd (omega arith)
+  built-as (suc (suc (suc (suc (suc (suc (suc (suc (suc (suc zero)))))))))) p =
+      record { here = refl; isOwn = same 10 (omega arith) (p .otherCount); isNames = no-name xs (p .nameCount); isOthers = refl }
+  built-as (suc (suc (suc (suc (suc (suc (suc (suc (suc (suc (suc zero))))))))))) p =
+      record { here = refl; isOwn = same 11 (omega arith) (p .otherCount); isNames = no-name xs (p .nameCount); isOthers = refl }
+  built-as (suc (suc (suc (suc (suc (suc (suc (suc (suc (suc (suc (suc zero)))))))))))) p =
+      record { here = refl; isOwn = same 12 (omega arith) (p .otherCount); isNames = no-name xs (p .nameCount); isOthers = refl }
+  built-as (suc (suc (suc (suc (suc (suc (suc (suc (suc (suc (suc (suc (suc f))))))))))))) p = absurd (omega arith)
 
 pub built : (N i : ℕ) (r : Record) (xs : List Ident) (ts : Trees) → fits N r ≡ true → (eqb (r .form) 8 && eqb (r .count) 0) ≡ false
     → length xs ≡ namesOf (r .form) (r .count) → many ts ≡ othersOf (r .form) (r .count) → Built i r xs ts (build i r xs ts)
@@ -230,14 +243,15 @@ module _ {i : ℕ} {r : Record} {xs : List Ident} {ts : Trees} {t : Tree} (b : B
   pub built-nesting : nesting t ≡ suc (nestings ts)
   built-nesting = nesting-own t ∙ (λ k. suc (nestings (b .isOthers k)))
 
-  pub built-num : length xs ≡ namesOf (r .form) (r .count) → many ts ≡ othersOf (r .form) (r .count) → NumNames (i + 1) xs
+  pub built-num : testless r ≡ false → length xs ≡ namesOf (r .form) (r .count) → many ts ≡ othersOf (r .form) (r .count) → NumNames (i + 1) xs
       → Nums (i + 1 + length xs) ts → Num i t
-  built-num n o ns os =
+  built-num e n o ns os =
       own-num i t
       (record {
         here = b .here;
         nameCount = ap length (b .isNames) ∙ n ∙ ap (λ (f : Record). namesOf (f .form) (f .count)) (sym (b .isOwn));
         otherCount = ap many (b .isOthers) ∙ o ∙ ap (λ (f : Record). othersOf (f .form) (f .count)) (sym (b .isOwn));
+        tested = ap testless (b .isOwn) ∙ e;
         nameNums = subst⁻¹ (λ (ys : List Ident). NumNames (i + 1) ys) (b .isNames) ns;
         otherNums = subst₂ (λ (ys : List Ident) (us : Trees). Nums (i + 1 + length ys) us) (sym (b .isNames)) (sym (b .isOthers)) os;
       })

@@ -1,4 +1,4 @@
--- Checks 1 to 8: each over the whole input before the next, each with the first record it applies to. Document 01, "What the operations answer".
+-- Checks 1 to 8 and 16: each over the whole input before the next, each with the first record it applies to. Document 01, "What the operations answer".
 use Prim.Native.Nat.{ℕ, zero, suc, _+_, _%_}
 use mathlib.Core.List.{List, [], _∷_}
 use mathlib.Core.Bool.{Bool, true, false, cond, not, _&&_, _||_}
@@ -33,6 +33,10 @@ abbrev pub orElse : ℕ → Option ℕ → Option Refusal → Option Refusal
 orElse n (some i) o = some (record { number = n; at = i })
 orElse n none o = o
 
+-- a when or an unless of nothing
+abbrev pub testless : Record → Bool
+testless r = (eqb (r .form) 11 || eqb (r .form) 12) && eqb (r .count) 0
+
 -- Each check as the record that it refuses, if any. N is the number of names.
 module _ (N : ℕ) (rs : List ℕ) where
   -- 1: the numbers are no whole records
@@ -63,6 +67,10 @@ module _ (N : ℕ) (rs : List ℕ) where
   unfoldable pub check7 : Option ℕ
   check7 = first (λ r. eqb (r .form) 8 && eqb (r .count) 0) (records rs)
 
+  -- 16: a when or an unless without a test
+  unfoldable pub check16 : Option ℕ
+  check16 = first testless (records rs)
+
   -- 8: an id used twice, at the record that repeats an earlier one
   unfoldable pub check8 : Option ℕ
   check8 = repeated [] (records rs)
@@ -77,4 +85,5 @@ module _ (N : ℕ) (rs : List ℕ) where
       (orElse 5 check5
       (orElse 6 check6
       (orElse 7 check7
-      (orElse 8 check8 none)))))))
+      (orElse 16 check16
+      (orElse 8 check8 none))))))))

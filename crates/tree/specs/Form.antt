@@ -1,4 +1,4 @@
--- The nine forms: what a record of each may hold, and how many children it has. Document 01, "The tree".
+-- The twelve forms: what a record of each may hold, and how many children it has. Document 01, "The tree".
 use Prim.Native.Nat.{ℕ, zero, suc, _+_}
 use mathlib.Core.List.{List, [], _∷_}
 use mathlib.Core.Bool.{Bool, true, false, cond, _&&_}
@@ -18,7 +18,7 @@ pub record Form : Type 0 where
 abbrev form : (ℕ → ℕ) → (ℕ → ℕ) → Bool → (ℕ → ℕ) → ℕ → Form
 form n o i b c = record { names = n; others = o; hasId = i; nameBelow = b; countMost = c }
 
--- forms 1 to 9
+-- forms 1 to 12
 abbrev pub forms : List Form
 forms =
     form (λ c. 0) (λ c. 0) true (λ N. N) 0  -- identifier
@@ -30,6 +30,9 @@ forms =
     ∷ form (λ c. 0) (λ c. c) false (λ N. 1) 255  -- begin: expressions
     ∷ form (λ c. 0) (λ c. c) true (λ N. 1) 255  -- call: head, arguments
     ∷ form (λ c. 1) (λ c. 1) false (λ N. 1) 0  -- set!: name, expression
+    ∷ form (λ c. 0) (λ c. c) false (λ N. 1) 255  -- and: expressions
+    ∷ form (λ c. 0) (λ c. c) false (λ N. 1) 255  -- when: test, expressions
+    ∷ form (λ c. 0) (λ c. c) false (λ N. 1) 255  -- unless: test, expressions
     ∷ []
 
 -- the form of a number

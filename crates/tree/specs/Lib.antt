@@ -3,8 +3,11 @@ pub mod RecordLaws
 pub mod Form
 pub mod Field
 pub mod Tree
+pub mod Core
 pub mod Define
 pub mod TreeLaws
+pub mod CoreLaws
+pub mod Expand
 pub mod Parts
 pub mod Build
 pub mod Unique
@@ -31,3 +34,4 @@ pub mod WithinLaws
 pub mod StandsLaws
 pub mod StandsParts
 pub mod StandsForms
+pub mod AndWhenUnless

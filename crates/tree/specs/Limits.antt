@@ -1,4 +1,4 @@
--- The limits by form as ten columns, each with an entry for the forms 0 to 9.
+-- The limits by form as ten columns, each with an entry for the forms 0 to 12.
 use Prim.Native.Nat.{ℕ, _+_, _-_, _*_, _≤_, _<_}
 use mathlib.Core.List.{List, [], _∷_}
 use mathlib.Core.Bool.{cond}
@@ -11,16 +11,16 @@ use Rattle.tree.specs.Field.{hasIdIn}
 -- N is the number of names
 unfoldable pub limits : ℕ → List (List ℕ)
 limits N =
-    (1 ∷ 1 ∷ 1 ∷ 0 ∷ 1 ∷ 0 ∷ 1 ∷ 0 ∷ 1 ∷ 0 ∷ [])  -- the least id
-    ∷ (0 ∷ 4294967294 ∷ 4294967294 ∷ 0 ∷ 4294967294 ∷ 0 ∷ 4294967294 ∷ 0 ∷ 4294967294 ∷ 0 ∷ [])  -- the most; no id is within the limits of form 0
-    ∷ (0 ∷ 0 ∷ 0 ∷ 0 ∷ 0 ∷ 0 ∷ 0 ∷ 0 ∷ 1 ∷ 0 ∷ [])  -- the least count
-    ∷ (0 ∷ 0 ∷ 0 ∷ 0 ∷ 255 ∷ 0 ∷ 255 ∷ 255 ∷ 255 ∷ 0 ∷ [])  -- the most
-    ∷ (1 ∷ N ∷ 2 ∷ 1 ∷ 1 ∷ 1 ∷ 1 ∷ 1 ∷ 1 ∷ 1 ∷ [])  -- what the name stays below
-    ∷ (0 ∷ 255 ∷ 0 ∷ 0 ∷ 0 ∷ 0 ∷ 0 ∷ 0 ∷ 0 ∷ 0 ∷ [])  -- how many names may be due
-    ∷ (0 ∷ 0 ∷ 0 ∷ 0 ∷ 0 ∷ 1 ∷ 0 ∷ 0 ∷ 0 ∷ 1 ∷ [])  -- the names among the children: of every record
-    ∷ (0 ∷ 0 ∷ 0 ∷ 0 ∷ 1 ∷ 0 ∷ 1 ∷ 0 ∷ 0 ∷ 0 ∷ [])  -- for each one counted
-    ∷ (0 ∷ 0 ∷ 0 ∷ 3 ∷ 1 ∷ 2 ∷ 1 ∷ 0 ∷ 0 ∷ 2 ∷ [])  -- the children: of every record
-    ∷ (0 ∷ 0 ∷ 0 ∷ 0 ∷ 2 ∷ 0 ∷ 1 ∷ 1 ∷ 1 ∷ 0 ∷ [])  -- for each one counted
+    (1 ∷ 1 ∷ 1 ∷ 0 ∷ 1 ∷ 0 ∷ 1 ∷ 0 ∷ 1 ∷ 0 ∷ 0 ∷ 0 ∷ 0 ∷ [])  -- the least id
+    ∷ (0 ∷ 4294967294 ∷ 4294967294 ∷ 0 ∷ 4294967294 ∷ 0 ∷ 4294967294 ∷ 0 ∷ 4294967294 ∷ 0 ∷ 0 ∷ 0 ∷ 0 ∷ [])  -- the most; no id is within the limits of form 0
+    ∷ (0 ∷ 0 ∷ 0 ∷ 0 ∷ 0 ∷ 0 ∷ 0 ∷ 0 ∷ 1 ∷ 0 ∷ 0 ∷ 1 ∷ 1 ∷ [])  -- the least count
+    ∷ (0 ∷ 0 ∷ 0 ∷ 0 ∷ 255 ∷ 0 ∷ 255 ∷ 255 ∷ 255 ∷ 0 ∷ 255 ∷ 255 ∷ 255 ∷ [])  -- the most
+    ∷ (1 ∷ N ∷ 2 ∷ 1 ∷ 1 ∷ 1 ∷ 1 ∷ 1 ∷ 1 ∷ 1 ∷ 1 ∷ 1 ∷ 1 ∷ [])  -- what the name stays below
+    ∷ (0 ∷ 255 ∷ 0 ∷ 0 ∷ 0 ∷ 0 ∷ 0 ∷ 0 ∷ 0 ∷ 0 ∷ 0 ∷ 0 ∷ 0 ∷ [])  -- how many names may be due
+    ∷ (0 ∷ 0 ∷ 0 ∷ 0 ∷ 0 ∷ 1 ∷ 0 ∷ 0 ∷ 0 ∷ 1 ∷ 0 ∷ 0 ∷ 0 ∷ [])  -- the names among the children: of every record
+    ∷ (0 ∷ 0 ∷ 0 ∷ 0 ∷ 1 ∷ 0 ∷ 1 ∷ 0 ∷ 0 ∷ 0 ∷ 0 ∷ 0 ∷ 0 ∷ [])  -- for each one counted
+    ∷ (0 ∷ 0 ∷ 0 ∷ 3 ∷ 1 ∷ 2 ∷ 1 ∷ 0 ∷ 0 ∷ 2 ∷ 0 ∷ 0 ∷ 0 ∷ [])  -- the children: of every record
+    ∷ (0 ∷ 0 ∷ 0 ∷ 0 ∷ 2 ∷ 0 ∷ 1 ∷ 1 ∷ 1 ∷ 0 ∷ 1 ∷ 1 ∷ 1 ∷ [])  -- for each one counted
     ∷ []
 
 -- the last four: the names at a count of 0, and how many more there are at 1; the children alike
@@ -29,7 +29,7 @@ partIn j f = cond (eqb j 6) (namesOf f 0) (cond (eqb j 7) (namesOf f 1 - namesOf
 
 -- a column
 abbrev pub byForm : (ℕ → ℕ) → List ℕ
-byForm g = g 0 ∷ g 1 ∷ g 2 ∷ g 3 ∷ g 4 ∷ g 5 ∷ g 6 ∷ g 7 ∷ g 8 ∷ g 9 ∷ []
+byForm g = g 0 ∷ g 1 ∷ g 2 ∷ g 3 ∷ g 4 ∷ g 5 ∷ g 6 ∷ g 7 ∷ g 8 ∷ g 9 ∷ g 10 ∷ g 11 ∷ g 12 ∷ []
 
 -- the first two: the limit given on a form that has an id, 0 on the others; that of form 0 is given too
 abbrev pub idLimit : ℕ → ℕ → ℕ
@@ -47,6 +47,9 @@ idColumn none limit =
     ∷ idLimit limit 7
     ∷ idLimit limit 8
     ∷ idLimit limit 9
+    ∷ idLimit limit 10
+    ∷ idLimit limit 11
+    ∷ idLimit limit 12
     ∷ []
 
 -- number j of form f
@@ -63,7 +66,7 @@ partsAt t r j = limitOf t (r .form) j + limitOf t (r .form) (j + 1) * r .count
 
 -- the fields of the record r are within its form's limits, but for the least count
 pub record Fields (t : List (List ℕ)) (r : Record) : Type 0 where
-  pub known : r .form ≤ 9
+  pub known : r .form ≤ 12
   pub id : Between t (r .form) 0 (r .id)
   pub most : r .count ≤ limitOf t (r .form) 3
   pub name : r .name < limitOf t (r .form) 4

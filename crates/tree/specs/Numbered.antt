@@ -4,12 +4,12 @@ use mathlib.Core.Bool.{Bool, true, _&&_, and-eq-true-iff}
 use mathlib.Core.List.{List, [], _∷_}
 use mathlib.Core.Option.{none}
 use mathlib.Core.Path.{_≡_, sym, subst, _∙_}
-use borrow.Author.Tests.{eqb-true}
-use lib.Dec.{eqb}
+use borrow.Author.Tests.{eqb-true, ltb-true}
+use lib.Dec.{eqb, ltb}
 use lib.ListN.{length}
 use Rattle.tree.specs.Record.{numbers}
 use Rattle.tree.specs.RecordLaws.{records-numbers}
-use Rattle.tree.specs.Tree.{Ident, Tree, Trees, ident, const, if, letin, define, lambda, begin, call, set!, nil, cons, many, flats, size, sizes, NumNames, Num, Nums}
+use Rattle.tree.specs.Tree.{Ident, Sequence, begins, ands, whens, nodeIn, Tested, Tree, Trees, ident, const, if, letin, define, lambda, sequence, call, set!, nil, cons, many, flats, size, sizes, NumNames, Num, Nums}
 use Rattle.tree.specs.Check.{refusal}
 use Rattle.tree.specs.Accepted.{Accepted}
 use Rattle.tree.specs.Acceptance.{accepted, holds}
@@ -20,6 +20,11 @@ use Rattle.tree.specs.Unique.{unique-trees}
 unfoldable pub namesNumbered : ℕ → List Ident → Bool
 namesNumbered i [] = true
 namesNumbered i (x ∷ xs) = eqb (x .at) i && namesNumbered (i + 1) xs
+
+abbrev hasTest : Sequence → ℕ → Bool
+hasTest (begins n) c = true
+hasTest (ands n) c = true
+hasTest (whens b n) c = ltb 0 c
 
 unfoldable mutual
   pub treeNumbered : ℕ → Tree → Bool
@@ -33,7 +38,7 @@ unfoldable mutual
       && (namesNumbered (i + 1) xs && (numbered (i + 1 + length xs) es && treeNumbered (i + 1 + length xs + sizes es) b)))
   treeNumbered i (define n x b) = eqb (n .at) i && (eqb (x .at) (i + 1) && treeNumbered (i + 2) b)
   treeNumbered i (lambda n xs b) = eqb (n .at) i && (namesNumbered (i + 1) xs && treeNumbered (i + 1 + length xs) b)
-  treeNumbered i (begin n es) = eqb (n .at) i && numbered (i + 1) es
+  treeNumbered i (sequence n es) = eqb (nodeIn n .at) i && (numbered (i + 1) es && hasTest n (many es))
   treeNumbered i (call n h es) = eqb (n .at) i && (treeNumbered (i + 1) h && numbered (i + 1 + size h) es)
   treeNumbered i (set! n x e) = eqb (n .at) i && (eqb (x .at) (i + 1) && treeNumbered (i + 2) e)
 
@@ -48,6 +53,11 @@ names-num : (i : ℕ) (xs : List Ident) → namesNumbered i xs ≡ true → NumN
 unfolding namesNumbered NumNames
 names-num i [] e = tt
 names-num i (x ∷ xs) e = let (p, q) = both e in (eqb-true _ _ p, names-num (i + 1) xs q)
+
+tested : (n : Sequence) (c : ℕ) → hasTest n c ≡ true → Tested n c
+tested (begins n) c e = tt
+tested (ands n) c e = tt
+tested (whens b n) c e = ltb-true _ _ e
 
 mutual
   unfolding treeNumbered Num
@@ -74,7 +84,10 @@ mutual
       let (p, f) = both e in
       let (q, g) = both f in
       (eqb-true _ _ p, names-num _ xs q, tree-num _ b g)
-  tree-num i (begin n es) e = let (p, f) = both e in (eqb-true _ _ p, nums _ es f)
+  tree-num i (sequence n es) e =
+      let (p, f) = both e in
+      let (q, g) = both f in
+      (eqb-true _ _ p, nums _ es q, tested n (many es) g)
   tree-num i (call n h es) e =
       let (p, f) = both e in
       let (q, g) = both f in

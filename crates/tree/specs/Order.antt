@@ -2,14 +2,17 @@
 use Prim.Native.Nat.{ℕ}
 use mathlib.Core.List.{List}
 use mathlib.Core.Option.{Option, none}
-use Rattle.tree.specs.Check.{Refusal, orElse, check3, check4, check5, check6, check7, check8}
+use Rattle.tree.specs.Check.{Refusal, orElse, check3, check4, check5, check6, check7, check16, check8}
 
 module _ (N : ℕ) (rs : List ℕ) where
   abbrev pub from8 : Option Refusal
   from8 = orElse 8 (check8 N rs) none
 
+  abbrev pub from16 : Option Refusal
+  from16 = orElse 16 (check16 N rs) from8
+
   abbrev pub from7 : Option Refusal
-  from7 = orElse 7 (check7 N rs) from8
+  from7 = orElse 7 (check7 N rs) from16
 
   abbrev pub from6 : Option Refusal
   from6 = orElse 6 (check6 N rs) from7

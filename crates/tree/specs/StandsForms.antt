@@ -1,11 +1,11 @@
 -- Which form a tree is that stands in its place: the form's number in its record says it.
 use Prim.Native.Nat.{ℕ, _≤_}
 use mathlib.Core.List.{List}
-use mathlib.Core.Bool.{Bool}
+use mathlib.Core.Bool.{Bool, true, false}
 use mathlib.Core.Path.{_≡_, refl, sym, subst, _∙_}
 use native.Mathlib.Omega.{arith}
 use Rattle.tree.specs.RecordLaws.{nth}
-use Rattle.tree.specs.Tree.{Ident, Node, Tree, Trees, ident, const, if, letin, define, lambda, begin, call, set!, head, named, bit, flat, Num}
+use Rattle.tree.specs.Tree.{Ident, Node, Tree, Trees, ident, const, if, letin, define, lambda, sequence, call, set!, Sequence, begins, ands, whens, head, named, bit, flat, Num}
 use Rattle.tree.specs.Parts.{own}
 use Rattle.tree.specs.Stands.{Stands}
 use Rattle.tree.specs.StandsLaws.{RecordAt, IdentAt, root, root-form, name-at}
@@ -18,7 +18,10 @@ data Formed : ℕ → Tree → Type 0 where
   a-let : (n : Node) (xs : List Ident) (es : Trees) (b : Tree) → Formed 4 (letin n xs es b)
   a-define : (n : Node) (x : Ident) (b : Tree) → Formed 5 (define n x b)
   a-lambda : (n : Node) (xs : List Ident) (b : Tree) → Formed 6 (lambda n xs b)
-  a-begin : (n : Node) (es : Trees) → Formed 7 (begin n es)
+  a-begin : (n : Node) (es : Trees) → Formed 7 (sequence (begins n) es)
+  an-and : (n : Node) (es : Trees) → Formed 10 (sequence (ands n) es)
+  a-when : (n : Node) (es : Trees) → Formed 11 (sequence (whens true n) es)
+  an-unless : (n : Node) (es : Trees) → Formed 12 (sequence (whens false n) es)
   a-call : (n : Node) (h : Tree) (es : Trees) → Formed 8 (call n h es)
   a-set : (n : Node) (x : Ident) (e : Tree) → Formed 9 (set! n x e)
 
@@ -30,12 +33,15 @@ formed (if n a b c) = an-if n a b c
 formed (letin n xs es b) = a-let n xs es b
 formed (define n x b) = a-define n x b
 formed (lambda n xs b) = a-lambda n xs b
-formed (begin n es) = a-begin n es
+formed (sequence (begins n) es) = a-begin n es
+formed (sequence (ands n) es) = an-and n es
+formed (sequence (whens true n) es) = a-when n es
+formed (sequence (whens false n) es) = an-unless n es
 formed (call n h es) = a-call n h es
 formed (set! n x e) = a-set n x e
 
--- there are nine forms
-range : {t : Tree} {f : ℕ} → Formed f t → (1 ≤ f) × (f ≤ 9)
+-- there are twelve forms
+range : {t : Tree} {f : ℕ} → Formed f t → (1 ≤ f) × (f ≤ 12)
 range (an-ident x) = (omega arith, omega arith)
 range (a-const n q) = (omega arith, omega arith)
 range (an-if n a b c) = (omega arith, omega arith)
@@ -43,6 +49,9 @@ range (a-let n xs es b) = (omega arith, omega arith)
 range (a-define n x b) = (omega arith, omega arith)
 range (a-lambda n xs b) = (omega arith, omega arith)
 range (a-begin n es) = (omega arith, omega arith)
+range (an-and n es) = (omega arith, omega arith)
+range (a-when n es) = (omega arith, omega arith)
+range (an-unless n es) = (omega arith, omega arith)
 range (a-call n h es) = (omega arith, omega arith)
 range (a-set n x e) = (omega arith, omega arith)
 
@@ -90,11 +99,12 @@ module _ (N : ℕ) (rs : List ℕ) (i : ℕ) (t : Tree) where
     pub is : t ≡ lambda n xs b
     pub parts : LambdaParts N rs i n xs b
 
-  pub record BeginOf : Type 0 where
+  -- a sequence, by the constructor of its node
+  pub record BeginOf (c : Node → Sequence) : Type 0 where
     pub n : Node
     pub es : Trees
-    pub is : t ≡ begin n es
-    pub parts : BeginParts N rs i n es
+    pub is : t ≡ sequence (c n) es
+    pub parts : BeginParts N rs i (c n) es
 
   pub record CallOf : Type 0 where
     pub n : Node
@@ -114,7 +124,7 @@ module _ {N : ℕ} {rs : List ℕ} {i : ℕ} where
   of-form : {t : Tree} {f : ℕ} → Stands N rs i t → nth rs i .form ≡ f → Formed f t
   of-form {t} s e = subst (λ (k : ℕ). Formed k t) (sym (root-form s) ∙ e) (formed t)
 
-  pub form-range : {t : Tree} → Stands N rs i t → (1 ≤ nth rs i .form) × (nth rs i .form ≤ 9)
+  pub form-range : {t : Tree} → Stands N rs i t → (1 ≤ nth rs i .form) × (nth rs i .form ≤ 12)
   form-range s = range (of-form s refl)
 
   ident-form : {t : Tree} → Formed 1 t → Stands N rs i t → IdentOf N rs i t
@@ -155,11 +165,29 @@ module _ {N : ℕ} {rs : List ℕ} {i : ℕ} where
   pub lambda-of : {t : Tree} → Stands N rs i t → nth rs i .form ≡ 6 → LambdaOf N rs i t
   lambda-of s e = lambda-form (of-form s e) s
 
-  begin-form : {t : Tree} → Formed 7 t → Stands N rs i t → BeginOf N rs i t
+  begin-form : {t : Tree} → Formed 7 t → Stands N rs i t → BeginOf N rs i t begins
   begin-form (a-begin n es) s = record { n = n; es = es; is = refl; parts = begin-parts s }
 
-  pub begin-of : {t : Tree} → Stands N rs i t → nth rs i .form ≡ 7 → BeginOf N rs i t
+  pub begin-of : {t : Tree} → Stands N rs i t → nth rs i .form ≡ 7 → BeginOf N rs i t begins
   begin-of s e = begin-form (of-form s e) s
+
+  and-form : {t : Tree} → Formed 10 t → Stands N rs i t → BeginOf N rs i t ands
+  and-form (an-and n es) s = record { n = n; es = es; is = refl; parts = begin-parts s }
+
+  pub and-of : {t : Tree} → Stands N rs i t → nth rs i .form ≡ 10 → BeginOf N rs i t ands
+  and-of s e = and-form (of-form s e) s
+
+  when-form : {t : Tree} → Formed 11 t → Stands N rs i t → BeginOf N rs i t (whens true)
+  when-form (a-when n es) s = record { n = n; es = es; is = refl; parts = begin-parts s }
+
+  pub when-of : {t : Tree} → Stands N rs i t → nth rs i .form ≡ 11 → BeginOf N rs i t (whens true)
+  when-of s e = when-form (of-form s e) s
+
+  unless-form : {t : Tree} → Formed 12 t → Stands N rs i t → BeginOf N rs i t (whens false)
+  unless-form (an-unless n es) s = record { n = n; es = es; is = refl; parts = begin-parts s }
+
+  pub unless-of : {t : Tree} → Stands N rs i t → nth rs i .form ≡ 12 → BeginOf N rs i t (whens false)
+  unless-of s e = unless-form (of-form s e) s
 
   call-form : {t : Tree} → Formed 8 t → Stands N rs i t → CallOf N rs i t
   call-form (a-call n h es) s = record { n = n; h = h; es = es; is = refl; parts = call-parts s }

@@ -6,7 +6,7 @@ use native.Mathlib.Omega.{arith}
 use lib.ListN.{length, length-map}
 use Rattle.tree.specs.Record.{Record}
 use Rattle.tree.specs.RecordLaws.{nth}
-use Rattle.tree.specs.Tree.{Ident, Node, Tree, Trees, if, letin, define, lambda, begin, call, set!, many, head, named, flat, flats, size, sizes, Num}
+use Rattle.tree.specs.Tree.{Ident, Node, Tree, Trees, if, letin, define, lambda, sequence, call, set!, Sequence, nodeIn, formIn, Tested, many, head, named, flat, flats, size, sizes, Num}
 use Rattle.tree.specs.TreeLaws.{length-flat, length-flats}
 use Rattle.tree.specs.Parts.{own}
 use Rattle.tree.specs.Stands.{Within, Stands, StandAll, NamesStand}
@@ -46,10 +46,11 @@ module _ (N : ℕ) (rs : List ℕ) (i : ℕ) where
     pub names : NamesStand N rs (i + 1) xs
     pub body : Stands N rs (i + 1 + length xs) b
 
-  pub record BeginParts (n : Node) (es : Trees) : Type 0 where
-    pub node : NodeAt n (head 7 n 0 (many es))
+  pub record BeginParts (n : Sequence) (es : Trees) : Type 0 where
+    pub node : NodeAt (nodeIn n) (head (formIn n) (nodeIn n) 0 (many es))
     pub count : nth rs i .count ≡ many es
     pub children : StandAll N rs (i + 1) es
+    pub tested : Tested n (many es)
 
   pub record CallParts (n : Node) (h : Tree) (es : Trees) : Type 0 where
     pub node : NodeAt n (head 8 n 0 (suc (many es)))
@@ -114,12 +115,13 @@ module _ {N : ℕ} {rs : List ℕ} {i : ℕ} where
         body = record { within = following (map named xs) (flat b) (length-map xs named) w; num = s .num .2 };
       }
 
-  pub begin-parts : {n : Node} {es : Trees} → Stands N rs i (begin n es) → BeginParts N rs i n es
+  pub begin-parts : {n : Sequence} {es : Trees} → Stands N rs i (sequence n es) → BeginParts N rs i n es
   unfolding flat Num own
   begin-parts s = record {
     node = record { here = s .num .0; own = root s };
     count = root-count s;
     children = record { within = later (s .within); num = s .num .1 };
+    tested = s .num .2;
   }
 
   pub call-parts : {n : Node} {h : Tree} {es : Trees} → Stands N rs i (call n h es) → CallParts N rs i n h es

@@ -44,7 +44,7 @@ pub record Stores (rs table table′ : List ℕ) : Type 0 where
   pub small : (k : ℕ) → (getD table′ k 0 ≡ getD table k 0) ⊎ (getD table′ k 0 ≤ length (records rs))
 
 -- What the checks leave of a table, whatever they answer. After 1 and 2, and where it has no room for a start at each record and the end, it is as
--- it was. Where none refuses, `TellsStarts` says what is stored; after 3 to 8 that is free.
+-- it was. Where none refuses, `TellsStarts` says what is stored; after any other refusal that is free.
 pub record Leaves (N : ℕ) (rs table table′ : List ℕ) : Type 0 where
   pub stored : Stores rs table table′
   pub early : (r : Refusal) → refusal N rs ≡ some r → r .number ≤ 2 → table′ ≡ table

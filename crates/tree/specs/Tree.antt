@@ -1,5 +1,5 @@
 -- Trees: every node holds its record's number, and what the facts take from the record. Document 01, "The tree".
-use Prim.Native.Nat.{ℕ, zero, suc, _+_, max}
+use Prim.Native.Nat.{ℕ, zero, suc, _+_, max, _<_}
 use mathlib.Core.List.{List, [], _∷_, _++_, map}
 use mathlib.Core.Bool.{Bool, true, false}
 use mathlib.Core.Path.{_≡_}
@@ -20,6 +20,17 @@ pub record Ident : Type 0 where
   pub from : ℕ
   pub to : ℕ
 
+-- a node whose children stand in a row: a begin; an and; a when or an unless, whose first child is the test
+pub data Sequence : Type 0 where
+  begins : Node → Sequence
+  ands : Node → Sequence
+  whens : Bool → Node → Sequence  -- what the test must be for what follows to run: true for when, false for unless
+
+abbrev pub nodeIn : Sequence → Node
+nodeIn (begins n) = n
+nodeIn (ands n) = n
+nodeIn (whens b n) = n
+
 mutual
   pub data Tree : Type 0 where
     ident : Ident → Tree
@@ -28,7 +39,7 @@ mutual
     letin : Node → List Ident → Trees → Tree → Tree  -- names, initial expressions, body
     define : Node → Ident → Tree → Tree  -- name, body
     lambda : Node → List Ident → Tree → Tree  -- parameters, body
-    begin : Node → Trees → Tree
+    sequence : Sequence → Trees → Tree
     call : Node → Tree → Trees → Tree  -- head, arguments: no call is empty
     set! : Node → Ident → Tree → Tree  -- target, expression
 
@@ -53,6 +64,12 @@ abbrev pub bit : Bool → ℕ
 bit true = 1
 bit false = 0
 
+abbrev pub formIn : Sequence → ℕ
+formIn (begins n) = 7
+formIn (ands n) = 10
+formIn (whens true n) = 11
+formIn (whens false n) = 12
+
 unfoldable mutual
   pub flat : Tree → List Record
   flat (ident x) = named x ∷ []
@@ -61,7 +78,7 @@ unfoldable mutual
   flat (letin n xs es b) = head 4 n 0 (length xs) ∷ (map named xs ++ (flats es ++ flat b))
   flat (define n x b) = head 5 n 0 0 ∷ named x ∷ flat b
   flat (lambda n xs b) = head 6 n 0 (length xs) ∷ (map named xs ++ flat b)
-  flat (begin n es) = head 7 n 0 (many es) ∷ flats es
+  flat (sequence n es) = head (formIn n) (nodeIn n) 0 (many es) ∷ flats es
   flat (call n h es) = head 8 n 0 (suc (many es)) ∷ (flat h ++ flats es)
   flat (set! n x e) = head 9 n 0 0 ∷ named x ∷ flat e
 
@@ -78,7 +95,7 @@ unfoldable mutual
   size (letin n xs es b) = 1 + (length xs + (sizes es + size b))
   size (define n x b) = 2 + size b
   size (lambda n xs b) = 1 + (length xs + size b)
-  size (begin n es) = 1 + sizes es
+  size (sequence n es) = 1 + sizes es
   size (call n h es) = 1 + (size h + sizes es)
   size (set! n x e) = 2 + size e
 
@@ -95,7 +112,7 @@ unfoldable mutual
   nesting (letin n xs es b) = 1 + max (nestings es) (nesting b)
   nesting (define n x b) = 1 + nesting b
   nesting (lambda n xs b) = 1 + nesting b
-  nesting (begin n es) = 1 + nestings es
+  nesting (sequence n es) = 1 + nestings es
   nesting (call n h es) = 1 + max (nesting h) (nestings es)
   nesting (set! n x e) = 1 + nesting e
 
@@ -103,11 +120,16 @@ unfoldable mutual
   nestings nil = 0
   nestings (cons t ts) = max (nesting t) (nestings ts)
 
--- Nodes are numbered in preorder, the first i; and a let has an initial expression for each name
+-- Nodes are numbered in preorder, the first i; and a let has an initial expression for each name, a when or an unless a test
 
 unfoldable pub NumNames : ℕ → List Ident → Type 0
 NumNames i [] = Unit {0}
 NumNames i (x ∷ xs) = (x .at ≡ i) × NumNames (i + 1) xs
+
+abbrev pub Tested : Sequence → ℕ → Type 0
+Tested (begins n) c = Unit {0}
+Tested (ands n) c = Unit {0}
+Tested (whens b n) c = 0 < c
 
 unfoldable mutual
   pub Num : ℕ → Tree → Type 0
@@ -122,7 +144,7 @@ unfoldable mutual
       × Num (i + 1 + length xs + sizes es) b
   Num i (define n x b) = (n .at ≡ i) × (x .at ≡ i + 1) × Num (i + 2) b
   Num i (lambda n xs b) = (n .at ≡ i) × NumNames (i + 1) xs × Num (i + 1 + length xs) b
-  Num i (begin n es) = (n .at ≡ i) × Nums (i + 1) es
+  Num i (sequence n es) = (nodeIn n .at ≡ i) × Nums (i + 1) es × Tested n (many es)
   Num i (call n h es) = (n .at ≡ i) × Num (i + 1) h × Nums (i + 1 + size h) es
   Num i (set! n x e) = (n .at ≡ i) × (x .at ≡ i + 1) × Num (i + 2) e
 

@@ -7,7 +7,7 @@ use native.Mathlib.Nat.{mul-mod-right}
 use lib.ListN.{length, length-append, length-map}
 use Rattle.table.specs.Layout.{layout-append, length-layout}
 use Rattle.tree.specs.Record.{Record, width, put, put-long, numbers}
-use Rattle.tree.specs.Tree.{Tree, Trees, ident, const, if, letin, define, lambda, begin, call, set!, nil, cons, many, named, flat, flats, size, sizes, nesting, nestings, Num, Nums}
+use Rattle.tree.specs.Tree.{Tree, Trees, ident, const, if, letin, define, lambda, sequence, call, set!, nil, cons, many, named, flat, flats, size, sizes, nesting, nestings, Num, Nums}
 use Rattle.tree.specs.Define.{_⊕_}
 
 -- Sizes
@@ -20,7 +20,7 @@ size-pos (if n a b c) = omega arith
 size-pos (letin n xs es b) = omega arith
 size-pos (define n x b) = omega arith
 size-pos (lambda n xs b) = omega arith
-size-pos (begin n es) = omega arith
+size-pos (sequence n es) = omega arith
 size-pos (call n h es) = omega arith
 size-pos (set! n x e) = omega arith
 
@@ -55,7 +55,7 @@ mutual
       )
   length-flat (define n x b) = omega (arith, length-flat b)
   length-flat (lambda n xs b) = omega (arith, length-append (map named xs) (flat b), length-map xs named, length-flat b)
-  length-flat (begin n es) = omega (arith, length-flats es)
+  length-flat (sequence n es) = omega (arith, length-flats es)
   length-flat (call n h es) = omega (arith, length-append (flat h) (flats es), length-flat h, length-flats es)
   length-flat (set! n x e) = omega (arith, length-flat e)
 

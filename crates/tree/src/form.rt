@@ -1,5 +1,5 @@
-// The nine forms of document 01: how many children a record has, how many of them are names, and whether it has an id. Tables are by form,
-// from 0 to 9, and 0 is no form.
+// The twelve forms: how many children a record has, how many of them are names, and whether it has an id. Tables are by form, from 0 to 12,
+// and 0 is no form.
 ghost use mathlib.Core.Path.{_≡_};
 ghost use mathlib.Core.Bool.{true};
 ghost use Prim.Native.Nat.{_+_, _*_, _≤_};
@@ -7,17 +7,17 @@ ghost use Rattle.tree.specs.Form.{formOf, namesOf, childrenOf};
 ghost use Rattle.tree.specs.Field.{isForm, hasIdIn};
 use table::wide;
 
-pub const FORMS: u32 = 9;
+pub const FORMS: u32 = 12;
 
 // The children that every record has, and those that it has for each one counted.
-const FIXED: [u8; 10] = [0, 0, 0, 3, 1, 2, 1, 0, 0, 2];
+const FIXED: [u8; 13] = [0, 0, 0, 3, 1, 2, 1, 0, 0, 2, 0, 0, 0];
 
-const COUNTED: [u8; 10] = [0, 0, 0, 0, 2, 0, 1, 1, 1, 0];
+const COUNTED: [u8; 13] = [0, 0, 0, 0, 2, 0, 1, 1, 1, 0, 1, 1, 1];
 
 // The names among them, alike. No `match` on the form here: forms come mixed, and a branch on one is often mispredicted.
-const FIXED_NAMES: [u8; 10] = [0, 0, 0, 0, 0, 1, 0, 0, 0, 1];
+const FIXED_NAMES: [u8; 13] = [0, 0, 0, 0, 0, 1, 0, 0, 0, 1, 0, 0, 0];
 
-const COUNTED_NAMES: [u8; 10] = [0, 0, 0, 0, 1, 0, 1, 0, 0, 0];
+const COUNTED_NAMES: [u8; 13] = [0, 0, 0, 0, 1, 0, 1, 0, 0, 0, 0, 0, 0];
 
 fn byte(x: u8) -> usize
     ensures { λ r. ⌜ r ≡ x ⌝ }
@@ -34,7 +34,7 @@ fn in_all(fixed: u8, counted: u8, count: u32) -> usize
 
 // The children by the two tables.
 fn looked_up(form: u32, count: u32) -> usize
-    requires { ⌜ form ≤ 9 ⌝ }
+    requires { ⌜ form ≤ 12 ⌝ }
     ensures { λ r. ⌜ r ≡ childrenOf form count ⌝ }
 {
     let f = wide(form);

@@ -1,4 +1,4 @@
-// Records and the checks 1 to 8.
+// Records and the checks 1 to 8 and 16.
 ghost use mathlib.Core.Path.{_≡_};
 ghost use mathlib.Core.Option.{none};
 ghost use Prim.Native.Nat.{ℕ, _≤_, _<_};
@@ -39,6 +39,8 @@ pub enum Checked {
     NotAName(usize),
     // 7: a call of nothing
     EmptyCall(usize),
+    // 16: a when or an unless without a test
+    Untested(usize),
     // 8: an id used twice
     Repeated(usize),
 }
@@ -55,7 +57,7 @@ fn last(rs: &[u32]) -> Checked
     Checked::Fit
 }
 
-// 3 to 8 in order, each over all the records before the next.
+// 3 to 7, 16 and 8 in order, each over all the records before the next.
 fn in_order(rs: &[u32], names: usize) -> Checked
     requires { ⌜ length (records (now rs)) ≤ 4096 ⌝ }
     ensures { λ r. ⌜ refusalOf r ≡ from3 names (now (rs .entry)) ⌝ }
@@ -80,12 +82,16 @@ fn in_order(rs: &[u32], names: usize) -> Checked
     if let Found::At(i) = empty {
         return Checked::EmptyCall(i);
     }
+    let untested = scan::untested(rs);
+    if let Found::At(i) = untested {
+        return Checked::Untested(i);
+    }
     last(rs)
 }
 
-// The first check that refuses. Most trees pass 3 to 7: one pass tells. A table of more numbers than there are records is told where the trees of
+// The first check that refuses. Most trees pass 3 to 7 and 16: one pass tells. A table of more numbers than there are records is told where the trees of
 // a script that is fit start and where they end; the numbers behind those are as they were. After 1 and 2, and where the table is too
-// short, all of it is as it was. After 3 to 8 its start is left free: at most as many numbers as there are records at top level and one more, each
+// short, all of it is as it was. After any other its start is left free: at most as many numbers as there are records at top level and one more, each
 // as it was or at most the record count.
 pub fn check(rs: &[u32], names: usize, tops: &mut [u16]) -> Checked
     ensures { λ r. ⌜ refusalOf r ≡ refusal names (now (rs .entry)) ⌝ }

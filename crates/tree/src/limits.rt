@@ -16,7 +16,7 @@ const LAST_ID: usize = 4294967294;
 const LARGEST: usize = 255;
 
 // A column for each limit, in it an entry for each form, form 0 included: an index by form then needs no multiplication.
-pub type Columns = [[usize; 10]; 10];
+pub type Columns = [[usize; 13]; 10];
 
 // The columns: the least id, then the most; the least count, then the most; what the name stays below; how many names may be due; the names
 // of every record, then those for each one counted; the children alike.
@@ -51,7 +51,7 @@ fn part(j: usize, form: u32) -> usize
 }
 
 // One of these columns.
-fn column(j: usize) -> [usize; 10]
+fn column(j: usize) -> [usize; 13]
     ensures { λ r. ⌜ r ≡ byForm (partIn j) ⌝ }
 {
     [
@@ -65,6 +65,9 @@ fn column(j: usize) -> [usize; 10]
         part(j, 7),
         part(j, 8),
         part(j, 9),
+        part(j, 10),
+        part(j, 11),
+        part(j, 12),
     ]
 }
 
@@ -76,7 +79,7 @@ fn id_limit(form: u32, limit: usize) -> usize
 }
 
 // A column of these. That of form 0 is given, since it is no form.
-fn id_column(none: usize, limit: usize) -> [usize; 10]
+fn id_column(none: usize, limit: usize) -> [usize; 13]
     ensures { λ r. ⌜ r ≡ idColumn none limit ⌝ }
 {
     [
@@ -90,20 +93,37 @@ fn id_column(none: usize, limit: usize) -> [usize; 10]
         id_limit(7, limit),
         id_limit(8, limit),
         id_limit(9, limit),
+        id_limit(10, limit),
+        id_limit(11, limit),
+        id_limit(12, limit),
     ]
 }
 
-// The fields' limits by form, from 0 to 9, then the numbers of names and of children. No id is within the limits of form 0.
+// The fields' limits by form, from 0 to 12, then the numbers of names and of children. No id is within the limits of form 0.
 pub fn all(names: usize) -> Columns
     ensures { λ r. ⌜ r ≡ limits names ⌝ }
 {
     [
         id_column(1, 1),
         id_column(0, LAST_ID),
-        [0, 0, 0, 0, 0, 0, 0, 0, 1, 0],
-        [0, 0, 0, 0, LARGEST, 0, LARGEST, LARGEST, LARGEST, 0],
-        [1, names, 2, 1, 1, 1, 1, 1, 1, 1],
-        [0, LARGEST, 0, 0, 0, 0, 0, 0, 0, 0],
+        [0, 0, 0, 0, 0, 0, 0, 0, 1, 0, 0, 1, 1],
+        [
+            0,
+            0,
+            0,
+            0,
+            LARGEST,
+            0,
+            LARGEST,
+            LARGEST,
+            LARGEST,
+            0,
+            LARGEST,
+            LARGEST,
+            LARGEST,
+        ],
+        [1, names, 2, 1, 1, 1, 1, 1, 1, 1, 1, 1, 1],
+        [0, LARGEST, 0, 0, 0, 0, 0, 0, 0, 0, 0, 0, 0],
         column(NAMES),
         column(NAMES + 1),
         column(CHILDREN),
@@ -113,7 +133,7 @@ pub fn all(names: usize) -> Columns
 
 // Number j of a form.
 fn limit(t: &Columns, form: u32, j: usize) -> usize
-    requires { ⌜ form ≤ 9 ⌝ }
+    requires { ⌜ form ≤ 12 ⌝ }
     requires { ⌜ j < 10 ⌝ }
     ensures { λ r. ⌜ r ≡ limitOf (now (t .entry)) form j ⌝ }
 {
@@ -122,7 +142,7 @@ fn limit(t: &Columns, form: u32, j: usize) -> usize
 
 // Whether x is between number j of a form and the next.
 fn between(t: &Columns, form: u32, j: usize, x: u32) -> bool
-    requires { ⌜ form ≤ 9 ⌝ }
+    requires { ⌜ form ≤ 12 ⌝ }
     requires { ⌜ j < 9 ⌝ }
     ensures { λ r. ⌜ Tells r (Between (now (t .entry)) form j x) ⌝ }
 {
@@ -165,7 +185,7 @@ pub fn within(t: &Columns, rs: &[u32], i: usize, due: usize) -> bool
 // Number j of record i's form, and the next for each one counted.
 pub fn parts(t: &Columns, rs: &[u32], i: usize, j: usize) -> usize
     requires { ⌜ i < length (records (now rs)) ⌝ }
-    requires { ⌜ nth (now rs) i .form ≤ 9 ⌝ }
+    requires { ⌜ nth (now rs) i .form ≤ 12 ⌝ }
     requires { ⌜ j < 9 ⌝ }
     requires { ⌜ partsAt (now t) (nth (now rs) i) j ≤ 18446744073709551615 ⌝ }
     ensures { λ r. ⌜ r ≡ partsAt (now (t .entry)) (nth (now (rs .entry)) i) j ⌝ }

@@ -1,4 +1,4 @@
-// Checks 3, 4, 6 and 7: loops over the records.
+// Checks 3, 4, 6, 7 and 16: loops over the records.
 ghost use mathlib.Core.Path.{_≡_};
 ghost use mathlib.Core.Bool.{_&&_};
 ghost use Prim.Native.Nat.{ℕ, _-_, _<_, _≤_};
@@ -6,7 +6,7 @@ ghost use lib.Dec.{eqb};
 ghost use lib.ListN.{length};
 ghost use Rattle.tree.specs.Record.{records};
 ghost use Rattle.tree.specs.RecordLaws.{nth};
-ghost use Rattle.tree.specs.Check.{check3, check4, check6, check7};
+ghost use Rattle.tree.specs.Check.{check3, check4, check6, check7, check16, testless};
 ghost use Rattle.tree.specs.Found.{foundOf};
 use crate::form;
 use crate::limits;
@@ -99,6 +99,32 @@ pub fn empty_call(rs: &[u32]) -> Found
     let mut i = 0;
     while i < n {
         if is_empty_call(rs, i) {
+            return Found::At(i);
+        }
+        i += 1;
+    }
+    Found::Nothing
+}
+
+pub fn is_untested(rs: &[u32], i: usize) -> bool
+    requires { ⌜ i < length (records (now rs)) ⌝ }
+    ensures { λ r. ⌜ r ≡ testless (nth (now (rs .entry)) i) ⌝ }
+{
+    let f = record::form(rs, i);
+    if f == 11 {
+        return record::count(rs, i) == 0;
+    }
+    f == 12 && record::count(rs, i) == 0
+}
+
+// 16: a when or an unless without a test.
+pub fn untested(rs: &[u32]) -> Found
+    ensures { λ r. ⌜ ((N : ℕ) → foundOf r ≡ check16 N (now (rs .entry))) ⌝ }
+{
+    let n = record::len(rs);
+    let mut i = 0;
+    while i < n {
+        if is_untested(rs, i) {
             return Found::At(i);
         }
         i += 1;

@@ -1,4 +1,4 @@
-// Checks 3 to 7 in one pass: whether none of them applies, and then where the trees start. Which one does apply, and where, the checks in
+// Checks 3 to 7 and 16 in one pass: whether none of them applies, and then where the trees start. Which one does apply, and where, the checks in
 // order say.
 ghost use mathlib.Core.Path.{_≡_};
 ghost use mathlib.Core.Bool.{true, cond};

@@ -66,7 +66,7 @@ fn binding(t: &mut Numbers) {
     put(t, 17, 1, 14, 1, 0);
 }
 
-// A good tree of 18 records over two names, with all nine forms.
+// A good tree of 18 records over two names, with document 01's nine forms.
 pub fn good(t: &mut Numbers) {
     function(t);
     binding(t);

@@ -22,6 +22,8 @@ pub fn limits() {
     counted(7, 0, 256);
     counted(8, 1, 255);
     counted(8, 1, 256);
+    counted(10, 0, 255);
+    counted(12, 0, 256);
 }
 
 // Nesting 64, 65 and 66, and 65 with a child missing.
@@ -32,10 +34,13 @@ pub fn nestings() {
     nested(65, 65);
 }
 
-// Trees one after another, a leaf last.
+// Trees one after another, a leaf last; the begin made an and, a when and an unless.
 pub fn rows() {
     between(3);
     good_and(19);
+    faulty(13, FORM, 10);
+    faulty(13, FORM, 11);
+    faulty(13, FORM, 12);
 }
 
 // All of the good tree, its first tree, all but its last number and record, and too many names.
@@ -52,7 +57,7 @@ pub fn parts() {
 // Unknown forms; ids missing, on an if, the last one and the one above it.
 pub fn forms_and_ids() {
     faulty(0, FORM, 0);
-    faulty(16, FORM, 10);
+    faulty(16, FORM, 13);
     faulty(8, ID, 0);
     faulty(7, ID, 0);
     faulty(4, ID, 15);
@@ -69,7 +74,8 @@ pub fn names_and_counts() {
     faulty(10, COUNT, 256);
 }
 
-// A child missing, nesting 65, a constant in place of a parameter, a let name and a set target, a call of nothing, an id again.
+// A child missing, nesting 65, a constant in place of a parameter, a let name and a set target, a call of nothing, an unless of nothing, an id
+// again.
 pub fn shapes() {
     faulty(13, COUNT, 3);
     faulty_deep(0, FORM, 5);
@@ -77,6 +83,7 @@ pub fn shapes() {
     faulty(11, FORM, 2);
     faulty(15, FORM, 2);
     faulty(7, COUNT, 0);
+    faulty_twice(13, FORM, 12, 13, COUNT, 0);
     faulty(17, ID, 1);
 }
 
@@ -96,8 +103,8 @@ pub fn early_pairs() {
     faulty_part(0, FORM, 5, 102, 1025);
     faulty_part(5, NAME, 2, 102, 2);
     faulty_deep(5, NAME, 2);
-    faulty_twice(16, FORM, 10, 3, FORM, 2);
-    faulty_twice(16, FORM, 10, 5, ID, 3);
+    faulty_twice(16, FORM, 13, 3, FORM, 2);
+    faulty_twice(16, FORM, 13, 5, ID, 3);
 }
 
 // 4 and 6, 4 and 7, 4 and 8, 5 and 6, 5 and 8, 6 and 7, 6 and 8, 7 and 8.

@@ -35,6 +35,7 @@ fn refusal(a: Checked) -> u64 {
         Checked::Deep(_) => 5,
         Checked::NotAName(_) => 6,
         Checked::EmptyCall(_) => 7,
+        Checked::Untested(_) => 16,
         Checked::Repeated(_) => 8,
     }
 }
@@ -46,6 +47,7 @@ fn at(a: Checked) -> usize {
         Checked::Deep(i) => i,
         Checked::NotAName(i) => i,
         Checked::EmptyCall(i) => i,
+        Checked::Untested(i) => i,
         Checked::Repeated(i) => i,
         _ => 0,
     }

@@ -11,7 +11,7 @@ use Rattle.tree.specs.TreeLaws.{size-pos}
 use Rattle.tree.specs.StandsLaws.{tree-inside, tree-few, trees-inside, trees-few}
 use Rattle.work.specs.Tied.{Raw}
 use Rattle.flags.specs.declared.Flags.{Flags as Coded}
-use Rattle.visits.specs.Contract.{Fit, Done, FitAll, DoneAll}
+use Rattle.visits.specs.Contract.{Fit, Done, FitAll, DoneAll, FitChildren}
 
 -- n records
 pub record Span (rs part : List ℕ) (at n : ℕ) : Type 0 where
@@ -42,3 +42,6 @@ all {rs = rs} x = spans rs (x .is) (trees-inside (x .stand)) (trees-few (x .stan
 
 pub used-all : {classes rs part : List ℕ} {k at n : ℕ} {g : Coded} {z z′ : Raw} (x : FitAll classes rs part k at g z) → DoneAll classes rs part k at g z n z′ → Span rs part at n
 used-all {rs = rs} x d = spans rs (x .is) (omega (arith, d .used x, trees-inside (x .stand))) (omega (arith, d .used x, trees-few (x .stand)))
+
+pub children : {classes rs part : List ℕ} {k at : ℕ} {g : Coded} {z : Raw} (x : FitChildren classes rs part k at g z) → Span rs part at (sizes (x .ts))
+children {rs = rs} x = spans rs (x .is) (trees-inside (x .stand)) (trees-few (x .stand))

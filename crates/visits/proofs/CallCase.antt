@@ -1,35 +1,37 @@
 -- Call: the arguments, the head, then what is left of it.
-use Prim.Native.Nat.{ℕ, suc, _+_, _*_, _≤_}
+use Prim.Native.Nat.{ℕ, suc, _+_, _*_, _≤_, _<_}
 use mathlib.Core.List.{List}
-use mathlib.Core.Bool.{Bool}
+use mathlib.Core.Bool.{Bool, true, false}
 use mathlib.Core.Path.{_≡_, refl, ap, sym, subst, _∙_}
 use native.Mathlib.Omega.{arith}
 use lib.ListN.{length, drop}
 use lib.Dec.{eqb}
-use Rattle.tree.specs.Record.{width}
+use Rattle.tree.specs.Record.{width, records}
 use Rattle.tree.specs.RecordLaws.{nth}
-use Rattle.tree.specs.Tree.{Node, Tree, Trees, ident, const, if, letin, define, lambda, begin, call, set!, many, size, sizes}
+use Rattle.tree.specs.Tree.{Node, Tree, Trees, ident, const, if, letin, define, lambda, sequence, call, set!, begins, ands, whens, many, size, sizes}
+use Rattle.tree.specs.Core.{peel}
+use Rattle.tree.specs.CoreLaws.{by-peel}
 use Rattle.tree.specs.Stands.{Stands}
 use Rattle.tree.specs.TreeLaws.{size-pos, many-sizes}
-use Rattle.tree.specs.StandsLaws.{root-form}
+use Rattle.tree.specs.StandsLaws.{root-form, tree-inside}
 use Rattle.tree.specs.Parts.{own}
 use Rattle.tree.specs.StandsParts.{CallParts}
 use Rattle.tree.specs.StandsForms.{call-of}
-use Rattle.pass.specs.Visit.{argumentFlags, headFlags, isLambda, visit, visitArguments}
+use Rattle.pass.specs.Visit.{argumentFlags, headFlags, isLambdaForm, isLambda, visit, visitArguments}
 use Rattle.pass.specs.Visitable.{Visitable}
 use Rattle.pass.specs.Laws.Visitable.Parts.{call-arguments, call-head}
 use Rattle.pass.specs.Laws.Visitable.Leaves.{call-ends}
 use Rattle.work.specs.Known.{Known}
 use Rattle.work.specs.Tied.{Raw, raw, Tied}
 use Rattle.work.specs.declared.Pass.{Pass}
-use Rattle.walk.specs.Contract.{SomeTree, Extends}
+use Rattle.walk.specs.Contract.{SomeTree, Extends, Reaches}
 use Rattle.flags.specs.Flags.{FlagsAre, Handed, HandsHead}
 use Rattle.forms.specs.Contract.{CallFits, EndsCall}
 use Rattle.flags.specs.declared.Flags.{Flags as Coded}
 use Rattle.visits.specs.Contract.{Fit, Done, FitAll, DoneAll}
 use Rattle.visits.proofs.Views.{part-on, small, stand-all-at, arguments-at}
 
-is-six : (t : Tree) → eqb (own t .form) 6 ≡ isLambda t
+is-six : (t : Tree) → eqb (own t .form) 6 ≡ isLambdaForm t
 unfolding own
 is-six (ident x) = refl
 is-six (const n q) = refl
@@ -37,13 +39,16 @@ is-six (if n a b c) = refl
 is-six (letin n xs es b) = refl
 is-six (define n x b) = refl
 is-six (lambda n xs b) = refl
-is-six (begin n es) = refl
+is-six (sequence (begins n) es) = refl
+is-six (sequence (ands n) es) = refl
+is-six (sequence (whens true n) es) = refl
+is-six (sequence (whens false n) es) = refl
 is-six (call n h es) = refl
 is-six (set! n x e) = refl
 
--- a lambda, by its form
-pub form-lambda : {N i f : ℕ} {rs : List ℕ} → f ≡ nth rs i .form → (t : Tree) → Stands N rs i t → eqb f 6 ≡ isLambda t
-form-lambda e t s = ap (λ (k : ℕ). eqb k 6) (e ∙ root-form s) ∙ is-six t
+-- a lambda, by the form of what it is
+pub form-lambda : {N i r f : ℕ} {rs : List ℕ} → Reaches rs i r → f ≡ nth rs r .form → (t : Tree) → Stands N rs i t → eqb f 6 ≡ isLambda t
+form-lambda {N} w e t s = ap (λ (k : ℕ). eqb k 6) (e ∙ root-form (w .is N t s)) ∙ is-six (peel t) ∙ sym (by-peel isLambdaForm (λ n. refl) t)
 
 module _ {classes rs part : List ℕ} {at : ℕ} {g : Coded} {z : Raw} where
   pub record CallView (x : Fit classes rs part at g z) : Type 0 where
@@ -77,6 +82,13 @@ module _ {classes rs part : List ℕ} {at : ℕ} {g : Coded} {z : Raw} where
 
   pub operator-stands : nth rs at .form ≡ 8 → Fit classes rs part at g z → SomeTree rs (at + 1)
   operator-stands e x = let v = view x e in record { names = length classes; tree = record { t = v .h; stands = v .parts .operator } }
+
+  -- what it is stands among the records
+  pub reached-inside : {r : ℕ} → nth rs at .form ≡ 8 → Reaches rs (at + 1) r → Fit classes rs part at g z → r < length (records rs)
+  reached-inside {r} e l x =
+      let v = view x e in
+      let s = l .is (length classes) (v .h) (v .parts .operator) in
+      omega (arith, tree-inside s, size-pos (peel (v .h)))
 
   pub operator-long : {m : ℕ} → nth rs at .form ≡ 8 → Extends rs (at + 1) m → (x : Fit classes rs part at g z) → 1 + m ≤ size (x .t)
   unfolding size

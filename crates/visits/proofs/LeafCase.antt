@@ -26,9 +26,6 @@ atom-size {i = i} {rs} {t} s h = go (nth rs i .form) refl (form-range s .0) h
     go (suc (suc zero)) e l u = rw (const-of s e .is) refl
     go (suc (suc (suc f))) e l u = absurd (omega arith)
 
-down : (f k : ℕ) → f ≤ suc k → (f ≡ suc k → ⊥) → f ≤ k
-down f k h n = omega arith
-
 module _ {classes rs part : List ℕ} {at f : ℕ} {g : Coded} {p : Pass} {F C A w : List ℕ} (e : f ≡ nth rs at .form) where
   pub atom-fits : f ≤ 2 → Fit classes rs part at g (raw p F C A w) → AtomFits (length classes) rs f at p F C w
   atom-fits h x = record {
@@ -51,14 +48,11 @@ module _ {classes rs part : List ℕ} {at f : ℕ} {g : Coded} {p : Pass} {F C A
 
   -- there are no other forms than those that are visited
 
-  range : Fit classes rs part at g (raw p F C A w) → (1 ≤ f) × (f ≤ 9)
-  range x = subst (λ (k : ℕ). (1 ≤ k) × (k ≤ 9)) (sym e) (form-range (x .stands))
+  range : Fit classes rs part at g (raw p F C A w) → (1 ≤ f) × (f ≤ 12)
+  range x = subst (λ (k : ℕ). (1 ≤ k) × (k ≤ 12)) (sym e) (form-range (x .stands))
 
   pub none-below : f < 1 → Fit classes rs part at g (raw p F C A w) → ⊥
   none-below h x = omega (arith, range x .0)
 
-  pub none-above : 3 ≤ f → (f ≡ 3 → ⊥) → (f ≡ 4 → ⊥) → (f ≡ 5 → ⊥) → (f ≡ 6 → ⊥) → (f ≡ 7 → ⊥) → (f ≡ 8 → ⊥) → (f ≡ 9 → ⊥)
-      → Fit classes rs part at g (raw p F C A w) → ⊥
-  none-above h a b c d i j k x =
-      let u = down f 2 (down f 3 (down f 4 (down f 5 (down f 6 (down f 7 (down f 8 (range x .1) k) j) i) d) c) b) a in
-      omega (arith, u, h)
+  pub none-above : 13 ≤ f → Fit classes rs part at g (raw p F C A w) → ⊥
+  none-above h x = omega (arith, range x .1)

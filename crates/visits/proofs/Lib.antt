@@ -5,12 +5,14 @@ mod IfCase
 mod SetCase
 mod ArgumentsCase
 mod CallCase
-mod BeginCase
-mod BeginLoop
+mod ChildrenCase
+mod SequenceCase
+mod WhenCase
 mod LambdaCase
 mod DefineCase
 mod LetCase
 mod LetCalls
+mod Peeled
 mod TopStarts
 mod TopsEnterCase
 mod TopDefineCase

@@ -7,7 +7,7 @@ use native.Mathlib.Omega.{arith}
 use lib.ListN.{length, drop, length-drop}
 use Rattle.tree.specs.Record.{Record, width, records}
 use Rattle.tree.specs.RecordLaws.{nth, length-records, records-drop}
-use Rattle.tree.specs.Tree.{Ident, Node, Tree, ident, const, if, letin, define, lambda, begin, call, set!, size}
+use Rattle.tree.specs.Tree.{Ident, Node, Tree, ident, const, if, letin, define, lambda, sequence, call, set!, size}
 use Rattle.tree.specs.Parts.{own}
 use Rattle.tree.specs.Stands.{Stands}
 use Rattle.tree.specs.StandsLaws.{root, root-form, tree-inside, tree-few}
@@ -199,7 +199,7 @@ same-visit classes (if n a b c) s h = refl
 same-visit classes (letin n xs es b) s h = refl
 same-visit classes (define n x b) s h = absurd (h refl)
 same-visit classes (lambda n xs b) s h = refl
-same-visit classes (begin n es) s h = refl
+same-visit classes (sequence n es) s h = refl
 same-visit classes (call n e es) s h = refl
 same-visit classes (set! n x e) s h = refl
 

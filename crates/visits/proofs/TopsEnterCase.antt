@@ -6,15 +6,16 @@ use native.Mathlib.Omega.{arith}
 use lib.ListN.{length, getD, drop}
 use Rattle.tree.specs.Record.{records}
 use Rattle.tree.specs.RecordLaws.{nth}
-use Rattle.tree.specs.Tree.{Tree, Trees, ident, const, if, letin, define, lambda, begin, call, set!, nil, cons, many, flat, flats, size, sizes, Nums}
+use Rattle.tree.specs.Tree.{Tree, Trees, ident, const, if, letin, define, lambda, sequence, call, set!, nil, cons, many, flat, flats, size, sizes, Nums}
 use Rattle.tree.specs.TreeLaws.{size-pos}
+use Rattle.tree.specs.Core.{core, cores, peel}
+use Rattle.tree.specs.CoreLaws.{many-cores, by-peel}
 use Rattle.tree.specs.Define.{topOf, topLevel}
 use Rattle.tree.specs.Parts.{own}
 use Rattle.tree.specs.Starts.{starts, StartsWith, TellsStarts}
 use Rattle.tree.specs.Acceptance.{many-records}
 use Rattle.tree.specs.Stands.{Within, Stands, StandAll}
-use Rattle.tree.specs.StandsLaws.{root, root-form, first-tree, later-trees, accepted-stand}
-use Rattle.tree.specs.StandsForms.{begin-of}
+use Rattle.tree.specs.StandsLaws.{root-form, first-tree, later-trees, accepted-stand}
 use Rattle.semantic.specs.declared.IdentifierStatus.the-variants.{Global}
 use Rattle.pass.specs.State.{State}
 use Rattle.pass.specs.Visit.{enterTops}
@@ -23,30 +24,16 @@ use Rattle.pass.specs.Laws.Visitable.Runs.{enter-⊕, first-enter, next-enter}
 use Rattle.work.specs.Known.{Known}
 use Rattle.work.specs.Tied.{raw, Tied}
 use Rattle.work.specs.declared.Pass.{Pass}
+use Rattle.walk.specs.Contract.{SomeTree, Reaches}
 use Rattle.forms.specs.Contract.{Fits, NamesRoom, ChildrenFit, EntersChildren}
 use Rattle.forms.specs.Defines.{tops-entered}
 use Rattle.visits.specs.Tops.{TopEnters, EntersTop, TopsEnter, EntersTops}
 use Rattle.visits.proofs.Views.{small, names-room}
+use Rattle.tree.specs.CoreLaws.{peeled, core-peel}
+use Rattle.visits.proofs.Peeled.{begin-core, lone-core}
 use Rattle.visits.proofs.TopStarts.{first-start, later-starts}
 
--- a tree that is no begin stands at top level itself
-
-lone : (t : Tree) → (own t .form ≡ 7 → ⊥) → topOf t ≡ cons t nil
-unfolding topOf own
-lone (ident x) h = refl
-lone (const n q) h = refl
-lone (if n a b c) h = refl
-lone (letin n xs es b) h = refl
-lone (define n x b) h = refl
-lone (lambda n xs b) h = refl
-lone (begin n es) h = absurd (h refl)
-lone (call n f es) h = refl
-lone (set! n x e) h = refl
-
-pub lone-top : {N : ℕ} {rs : List ℕ} {at : ℕ} {t : Tree} → Stands N rs at t → (nth rs at .form ≡ 7 → ⊥) → topOf t ≡ cons t nil
-lone-top {t = t} s h = lone t (λ e. h (root-form s ∙ e))
-
--- and one tree stands as one of many do
+-- one tree stands as one of many do
 lone-stands : {N : ℕ} {rs : List ℕ} {at : ℕ} {t : Tree} → Stands N rs at t → StandAll N rs at (cons t nil)
 unfolding flats Nums
 lone-stands {N} {rs} {at} {t} s = record { within = subst (Within N rs at) (sym (append-nil (flat t))) (s .within); num = (s .num, tt) }
@@ -54,56 +41,62 @@ lone-stands {N} {rs} {at} {t} s = record { within = subst (Within N rs at) (sym 
 -- Of one tree
 
 module _ {N : ℕ} {rs : List ℕ} {at : ℕ} {p : Pass} {F w : List ℕ} (x : TopEnters N rs at p F w) where
-  pub inside : at < length (records rs)
-  inside = root (x .stands) .inside
+  pub some-tree : SomeTree rs at
+  some-tree = record { names = N; tree = record { t = x .t; stands = x .stands } }
 
-  -- a begin: its children
-  pub children-fit : {k : ℕ} → nth rs at .form ≡ 7 → k ≡ nth rs at .count → ChildrenFit N rs (at + 1) k p F w
-  unfolding topOf
-  children-fit {k} e c =
-      let v = begin-of (x .stands) e in
-      let m : k ≡ many (v .es) = c ∙ v .parts .count in
-      record {
-        captured = x .captured;
-        arguments = x .arguments;
-        s = x .s;
-        es = v .es;
-        stand = v .parts .children;
-        count = m;
-        fits = x .fits;
-        room = subst (λ (j : ℕ). NamesRoom p j) (ap (λ (t : Tree). many (topOf t)) (v .is) ∙ sym m) (x .room);
-      }
+  module _ {top : ℕ} (r : Reaches rs at top) where
+    stands : Stands N rs top (peel (x .t))
+    stands = r .is N (x .t) (x .stands)
 
-  -- any other tree, as one child
-  pub child-fits : (nth rs at .form ≡ 7 → ⊥) → ChildrenFit N rs at 1 p F w
-  child-fits h = record {
-    captured = x .captured;
-    arguments = x .arguments;
-    s = x .s;
-    es = cons (x .t) nil;
-    stand = lone-stands (x .stands);
-    count = refl;
-    fits = x .fits;
-    room = subst (λ (j : ℕ). NamesRoom p j) (ap many (lone-top (x .stands) h)) (x .room);
-  }
+    -- a begin: its children
+    pub children-fit : {k : ℕ} → nth rs top .form ≡ 7 → k ≡ nth rs top .count → ChildrenFit N rs (top + 1) k p F w
+    unfolding topOf
+    children-fit {k} e c =
+        let v = begin-core (peeled (x .t)) stands e in
+        let m : k ≡ many (v .es) = c ∙ v .parts .count in
+        record {
+          captured = x .captured;
+          arguments = x .arguments;
+          s = x .s;
+          es = v .es;
+          stand = v .parts .children;
+          count = m;
+          fits = x .fits;
+          room = subst (λ (j : ℕ). NamesRoom p j) (ap (λ (t : Tree). many (topOf t)) (v .is) ∙ many-cores (v .es) ∙ sym m) (x .room);
+        }
 
-module _ {classes rs : List ℕ} {at : ℕ} {p p′ : Pass} {F w F′ w′ : List ℕ} where
-  pub children-enter : {k : ℕ} → nth rs at .form ≡ 7 → k ≡ nth rs at .count → EntersChildren classes rs (at + 1) k Global p F w p′ F′ w′
+    -- any other tree, as one child
+    pub child-fits : (nth rs top .form ≡ 7 → ⊥) → ChildrenFit N rs top 1 p F w
+    child-fits h = record {
+      captured = x .captured;
+      arguments = x .arguments;
+      s = x .s;
+      es = cons (peel (x .t)) nil;
+      stand = lone-stands stands;
+      count = refl;
+      fits = x .fits;
+      room = subst (λ (j : ℕ). NamesRoom p j) (ap many (lone-core (peeled (x .t)) stands h)) (x .room);
+    }
+
+module _ {classes rs : List ℕ} {at top : ℕ} {p p′ : Pass} {F w F′ w′ : List ℕ} (r : Reaches rs at top) where
+  pub children-enter : {k : ℕ} → nth rs top .form ≡ 7 → k ≡ nth rs top .count → EntersChildren classes rs (top + 1) k Global p F w p′ F′ w′
       → EntersTop classes rs at p F w p′ F′ w′
   unfolding topOf
   children-enter e c o = record {
     is = λ C A s t u f.
-        let v = begin-of u e in
+        let v = begin-core (peeled t) (r .is (length classes) t u) e in
         let i = o .is C A s (v .es) (v .parts .children) (c ∙ v .parts .count) f in
         subst (λ (b : Tree). Tied (raw p′ F′ C A w′) (enterTops classes (topOf b) s)) (sym (v .is))
-        (subst (Tied (raw p′ F′ C A w′)) (tops-entered classes (v .es) s) i);
+        (subst (Tied (raw p′ F′ C A w′)) (tops-entered classes (cores (v .es)) s) i);
   }
 
-  pub child-enters : (nth rs at .form ≡ 7 → ⊥) → EntersChildren classes rs at 1 Global p F w p′ F′ w′ → EntersTop classes rs at p F w p′ F′ w′
+  pub child-enters : (nth rs top .form ≡ 7 → ⊥) → EntersChildren classes rs top 1 Global p F w p′ F′ w′ → EntersTop classes rs at p F w p′ F′ w′
   child-enters h o = record {
     is = λ C A s t u f.
-        subst (λ (us : Trees). Tied (raw p′ F′ C A w′) (enterTops classes us s)) (sym (lone-top u h))
-        (subst (Tied (raw p′ F′ C A w′)) (tops-entered classes (cons t nil) s) (o .is C A s (cons t nil) (lone-stands u) refl f));
+        let v = r .is (length classes) t u in
+        let e : cons (core (peel t)) nil ≡ topOf (core t) = ap (λ (b : Tree). cons b nil) (core-peel t) ∙ sym (lone-core (peeled t) v h) in
+        let i = o .is C A s (cons (peel t) nil) (lone-stands v) refl f in
+        subst (Tied (raw p′ F′ C A w′)) (tops-entered classes (cons (core (peel t)) nil) s ∙ ap (λ (us : Trees). enterTops classes us s) e) i;
   }
 
 -- no define is in it
@@ -116,15 +109,18 @@ no-name classes (if n a b c) s h = refl
 no-name classes (letin n xs es b) s h = refl
 no-name classes (define n x b) s h = absurd (h refl)
 no-name classes (lambda n xs b) s h = refl
-no-name classes (begin n es) s h = refl
+no-name classes (sequence n es) s h = refl
 no-name classes (call n f es) s h = refl
 no-name classes (set! n x e) s h = refl
 
-pub none-enters : {classes rs : List ℕ} {at : ℕ} {p : Pass} {F w : List ℕ} → (nth rs at .form ≡ 7 → ⊥) → (nth rs at .form ≡ 5 → ⊥)
+pub none-enters : {classes rs : List ℕ} {at top : ℕ} {p : Pass} {F w : List ℕ} → Reaches rs at top → (nth rs top .form ≡ 7 → ⊥) → (nth rs top .form ≡ 5 → ⊥)
     → EntersTop classes rs at p F w p F w
-none-enters {classes} {p = p} {F} {w} h d = record {
+unfolding enterTops
+none-enters {classes} {p = p} {F} {w} r h d = record {
   is = λ C A s t u f.
-      subst (Tied (raw p F C A w)) (sym (ap (λ (us : Trees). enterTops classes us s) (lone-top u h) ∙ no-name classes t s (λ e. d (root-form u ∙ e)))) (f .tied);
+      let v = r .is (length classes) t u in
+      let e = by-peel (λ (b : Tree). enterTops classes (cons b nil) s) (λ n. refl) t ∙ no-name classes (peel t) s (λ i. d (root-form v ∙ i)) in
+      subst (Tied (raw p F C A w)) (sym (ap (λ (us : Trees). enterTops classes us s) (lone-core (peeled t) v h) ∙ e)) (f .tied);
 }
 
 -- Of all trees
@@ -197,7 +193,7 @@ module _ {classes rs : List ℕ} {p : Pass} {F w : List ℕ} where
       s = n .s;
       stands = first-tree (n .stand);
       fits = held;
-      room = names-room (n .tied) refl (first-enter small classes (topOf (n .t)) (topLevel (n .rest)) (n .fits) .room .live);
+      room = names-room (n .tied) refl (first-enter small classes (topOf (core (n .t))) (topLevel (n .rest)) (n .fits) .room .live);
     }
 
     -- the table has a place after this one, and there a later record
@@ -210,13 +206,13 @@ module _ {classes rs : List ℕ} {p : Pass} {F w : List ℕ} where
     unfolding size topLevel
     one-less o = record {
       us = n .rest;
-      s = enterTops classes (topOf (n .t)) (n .s);
+      s = enterTops classes (topOf (core (n .t))) (n .s);
       told = later-starts tops i at (n .t) (n .rest) (n .told);
       span = omega (arith, n .span);
       stand = later-trees (n .stand);
       tied = o .is (x .captured) (x .arguments) (n .s) (n .t) (first-tree (n .stand)) held;
-      fits = next-enter small classes (topOf (n .t)) (topLevel (n .rest)) (n .fits);
-      state = sym (enter-⊕ classes (topOf (n .t)) (topLevel (n .rest)) (n .s)) ∙ n .state;
+      fits = next-enter small classes (topOf (core (n .t))) (topLevel (n .rest)) (n .fits);
+      state = sym (enter-⊕ classes (topOf (core (n .t))) (topLevel (n .rest)) (n .s)) ∙ n .state;
     }
 
   -- none is left

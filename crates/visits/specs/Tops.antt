@@ -6,6 +6,7 @@ use mathlib.Core.Path.{_≡_}
 use lib.ListN.{length, drop}
 use Rattle.tree.specs.Record.{width}
 use Rattle.tree.specs.Tree.{Ident, Node, Tree, Trees, define, many, size, sizes}
+use Rattle.tree.specs.Core.{core}
 use Rattle.tree.specs.Define.{topOf, topLevel}
 use Rattle.tree.specs.Stands.{Stands}
 use Rattle.tree.specs.Accepted.{Accepted}
@@ -32,11 +33,11 @@ pub record TopEnters (N : ℕ) (rs : List ℕ) (at : ℕ) (p : Pass) (F w : List
   pub s : State
   pub stands : Stands N rs at t
   pub fits : Fits rs (raw p F captured arguments w) s
-  pub room : NamesRoom p (many (topOf t))
+  pub room : NamesRoom p (many (topOf (core t)))
 
 pub record EntersTop (classes rs : List ℕ) (at : ℕ) (p : Pass) (F w : List ℕ) (p′ : Pass) (F′ w′ : List ℕ) : Type 0 where
   pub is : (C A : List ℕ) (s : State) (t : Tree) → Stands (length classes) rs at t → Fits rs (raw p F C A w) s
-      → Tied (raw p′ F′ C A w′) (enterTops classes (topOf t) s)
+      → Tied (raw p′ F′ C A w′) (enterTops classes (topOf (core t)) s)
 
 -- accepted trees, whose lambda defines at top level are still to enter
 pub record TopsEnter (classes rs : List ℕ) (p : Pass) (F w : List ℕ) : Type 0 where

@@ -13,6 +13,7 @@ use semantic::NONE;
 use table::wide;
 use walk::body::Body;
 use walk::body::body_at;
+use walk::body::core_at;
 use work::Pass;
 ghost use mathlib.Core.Path.{_≡_};
 ghost use Prim.Native.Nat.{_-_, _<_};
@@ -38,13 +39,14 @@ fn enter_top(
     requires { ⌜ TopEnters (length (now classes)) (now all) at (passIn (now r)) (now facts) (now work) ⌝ }
     ensures { λ _. ⌜ EntersTop (now (classes .entry)) (now (all .entry)) at (passIn (now (r .entry))) (now (facts .entry)) (now (work .entry)) (passIn (now (r .exit))) (now (facts .exit)) (now (work .exit)) ⌝ }
 {
-    let form = tree::record::form(all, at);
+    let top = core_at(all, at);
+    let form = tree::record::form(all, top);
     if form == 7 {
-        let count = wide(tree::record::count(all, at));
+        let count = wide(tree::record::count(all, top));
         enter_defines(
             classes,
             all,
-            at + 1,
+            top + 1,
             count,
             IdentifierStatus::Global,
             r,
@@ -57,7 +59,7 @@ fn enter_top(
         enter_defines(
             classes,
             all,
-            at,
+            top,
             1,
             IdentifierStatus::Global,
             r,
@@ -224,23 +226,25 @@ fn visit_tops(
     let mut at = 0;
     let mut inside = 0;
     while at < n {
-        if inside == 0 && tree::record::form(rs, at) == 7 {
-            inside = wide(tree::record::count(rs, at));
-            at += 1;
+        let top = core_at(rs, at);
+        if inside == 0 && tree::record::form(rs, top) == 7 {
+            inside = wide(tree::record::count(rs, top));
+            at = top + 1;
             continue;
         }
-        let start = 6 * at;
-        at += visit_top(
+        let start = 6 * top;
+        let used = visit_top(
             classes,
             all,
             &rs[start..],
-            at,
+            top,
             r,
             facts,
             captured,
             arguments,
             work,
         );
+        at = top + used;
         inside = one_less(inside);
     }
 }

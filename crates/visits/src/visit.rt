@@ -1,6 +1,13 @@
 // The visits. Each is given the part of the records that starts at its expression, reads its own record there, and tells how many records it used. What it does beside
 // visiting parts goes by the number of the record among `all`. The pass's own numbers stand in the table r: by value every visit would copy them. The other tables are
 // lent by a reference to their reference, one word that a visit hands on as it is; one that is only read is first lent to a local.
+
+// A short name: the prover keeps what it checked of the cycle in files named after all of its functions, and a name has 255 bytes at most.
+mod seq;
+
+use crate::visit::seq::visit_and;
+use crate::visit::seq::visit_begin;
+use crate::visit::seq::visit_when;
 use flags::Flags;
 use flags::Part;
 use flags::by_value::part;
@@ -14,17 +21,16 @@ use registers::steps::close_let;
 use registers::steps::close_set;
 use registers::steps::context;
 use registers::steps::depth;
-use registers::steps::enter_defines;
 use registers::steps::open_define;
 use registers::steps::open_lambda;
 use registers::steps::open_let;
 use registers::steps::open_set;
 use registers::steps::set_context;
 use registers::steps::visit_atom;
-use semantic::IdentifierStatus;
 use semantic::NONE;
 use table::wide;
 use walk::body::body_at;
+use walk::body::core_at;
 use walk::extent::extent_at;
 use walk::uses::Names;
 use work::narrow;
@@ -74,13 +80,15 @@ pub fn visit(
         7 => visit_begin(classes, all, rs, at, f, r, facts, captured, arguments, work),
         8 => visit_list(classes, all, rs, at, f, r, facts, captured, arguments, work),
         9 => visit_set(classes, all, rs, at, f, r, facts, captured, arguments, work),
+        10 => visit_and(classes, all, rs, at, f, r, facts, captured, arguments, work),
+        11..=12 => visit_when(classes, all, rs, at, f, r, facts, captured, arguments, work),
         _ => 1,
     }
 }
 
 // A part of an expression. Many parts are identifiers and constants: they need no call of `visit`, and flags are stored for that call alone, as
 // it is handed a copy.
-fn visit_part(
+pub fn visit_part(
     classes: &&[u8],
     all: &&[u32],
     rs: &[u32],
@@ -416,55 +424,6 @@ fn visit_lambda_function(
     1 + count + o
 }
 
-fn visit_begin(
-    classes: &&[u8],
-    all: &&[u32],
-    rs: &[u32],
-    at: usize,
-    f: Flags,
-    r: &mut [usize; REGISTERS],
-    facts: &mut &mut [u32],
-    captured: &mut &mut [u32],
-    arguments: &mut &mut [u32],
-    work: &mut &mut [u32],
-) -> usize
-    requires { ⌜ Fit (now (now classes)) (now (now all)) (now rs) at f (held (now r) (now (now facts)) (now (now captured)) (now (now arguments)) (now (now work))) × (nth (now (now all)) at .form ≡ 7) ⌝ }
-    ensures { λ n. ⌜ Done (now (now (classes .entry))) (now (now (all .entry))) (now (rs .entry)) at f (held (now (r .entry)) (now (now (facts .entry))) (now (now (captured .entry))) (now (now (arguments .entry))) (now (now (work .entry)))) n (held (now (r .exit)) (now (now (facts .exit))) (now (now (captured .exit))) (now (now (arguments .exit))) (now (now (work .exit)))) ⌝ }
-    ensures { λ _. ⌜ tables (now (facts .exit)) (now (captured .exit)) (now (arguments .exit)) (now (work .exit)) ≡ tables (now (facts .entry)) (now (captured .entry)) (now (arguments .entry)) (now (work .entry)) ⌝ }
-{
-    let count = wide(tree::record::count(rs, 0));
-    enter_defines(
-        *classes,
-        *all,
-        at + 1,
-        count,
-        IdentifierStatus::LocallyDefinedFunction,
-        r,
-        *facts,
-        *work,
-    );
-    let mut used = 1;
-    let mut i = 0;
-    while i < count {
-        let start = 6 * used;
-        let last = i + 1 == count;
-        used += visit_part(
-            classes,
-            all,
-            &rs[start..],
-            at + used,
-            part(f, Part::Child(last)),
-            r,
-            facts,
-            captured,
-            arguments,
-            work,
-        );
-        i += 1;
-    }
-    used
-}
-
 fn visit_list(
     classes: &&[u8],
     all: &&[u32],
@@ -484,7 +443,7 @@ fn visit_list(
     let k = wide(tree::record::count(rs, 0)) - 1;
     let head = extent_at(*all, at + 1);
     let first = at + 1 + head;
-    let lambda = tree::record::form(rs, 1) == 6;
+    let lambda = tree::record::form(*all, core_at(*all, at + 1)) == 6;
     let start = 6 + 6 * head;
     let a = visit_arguments(
         classes,

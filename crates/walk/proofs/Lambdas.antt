@@ -8,7 +8,7 @@ use borrow.Author.Tests.{eq-eqb, ne-eqb}
 use lib.Dec.{eqb}
 use Rattle.tree.specs.Record.{Record}
 use Rattle.tree.specs.RecordLaws.{nth}
-use Rattle.tree.specs.Tree.{Ident, Tree, Trees, ident, const, if, letin, define, lambda, begin, call, set!, nil, cons, named, flat, flats}
+use Rattle.tree.specs.Tree.{Ident, Tree, Trees, ident, const, if, letin, define, lambda, sequence, call, set!, nil, cons, named, flat, flats, begins, ands, whens}
 use Rattle.pass.specs.Lambda.{holdsLambda, holdsLambdaIn}
 use Rattle.walk.specs.Contract.{SomeBody, HoldsLambda}
 use Rattle.walk.proofs.Slice.{slice-tree}
@@ -44,7 +44,10 @@ mutual
       any-names xs (flats es ++ flat b) ∙ any-append (flats es) (flat b) ∙ ap₂ _||_ (any-flats es) (any-flat b)
   any-flat (define n x b) = any-flat b
   any-flat (lambda n xs b) = refl
-  any-flat (begin n es) = any-flats es
+  any-flat (sequence (begins n) es) = any-flats es
+  any-flat (sequence (ands n) es) = any-flats es
+  any-flat (sequence (whens true n) es) = any-flats es
+  any-flat (sequence (whens false n) es) = any-flats es
   any-flat (call n h es) = any-append (flat h) (flats es) ∙ ap₂ _||_ (any-flat h) (any-flats es)
   any-flat (set! n x e) = any-flat e
 

@@ -1,3 +1,4 @@
+pub mod Peeling
 pub mod Bodies
 pub mod Slice
 pub mod Search

@@ -9,7 +9,7 @@ use lib.Dec.{eqb}
 use Rattle.tree.specs.Record.{Record}
 use Rattle.tree.specs.RecordLaws.{nth}
 use Rattle.tree.specs.Form.{formOf, namesOf}
-use Rattle.tree.specs.Tree.{Ident, Tree, Trees, ident, const, if, letin, define, lambda, begin, call, set!, nil, cons, named, flat, flats}
+use Rattle.tree.specs.Tree.{Ident, Tree, Trees, ident, const, if, letin, define, lambda, sequence, call, set!, nil, cons, named, flat, flats, begins, ands, whens}
 use Rattle.tree.specs.Check.{member}
 use Rattle.pass.specs.Lambda.{namesUsed, namesUsedIn}
 use Rattle.walk.specs.Bound.{isNamed, boundBy}
@@ -61,7 +61,10 @@ module _ (x : ℕ) where
     uses-flat (define n y b) l = uses-flat b l
     uses-flat (lambda n xs b) l =
         ap (uses (length xs)) (append-assoc (map named xs) (flat b) l) ∙ uses-names xs (flat b ++ l) ∙ uses-flat b l
-    uses-flat (begin n es) l = uses-flats es l
+    uses-flat (sequence (begins n) es) l = uses-flats es l
+    uses-flat (sequence (ands n) es) l = uses-flats es l
+    uses-flat (sequence (whens true n) es) l = uses-flats es l
+    uses-flat (sequence (whens false n) es) l = uses-flats es l
     uses-flat (call n h es) l =
         ap (uses 0) (append-assoc (flat h) (flats es) l) ∙ both (namesUsed h) (namesUsedIn es) (uses 0 l) (uses-flat h (flats es ++ l)) (uses-flats es l)
     uses-flat (set! n y e) l =

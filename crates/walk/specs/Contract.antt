@@ -5,11 +5,12 @@ use mathlib.Core.Bool.{Bool}
 use mathlib.Core.Path.{_≡_}
 use lib.ListN.{length}
 use Rattle.tree.specs.Tree.{Ident, Tree, size}
+use Rattle.tree.specs.Core.{core, peel}
 use Rattle.tree.specs.Check.{member}
 use Rattle.tree.specs.Stands.{Stands, NamesStand}
 use Rattle.pass.specs.Read.{isIdentOf, isBuiltin, isRequired, alias}
 use Rattle.pass.specs.Lambda.{namesUsed, holdsLambda, nameIn}
-use Rattle.pass.specs.Visit.{isLambda}
+use Rattle.pass.specs.Visit.{isLambdaForm}
 use Rattle.walk.specs.declared.body.Body.{Body}
 use Rattle.walk.specs.declared.uses.Names.{Names}
 
@@ -53,14 +54,26 @@ pub record SomeNames (rs : List ℕ) (n : Names) : Type 0 where
 pub record HoldsName (rs : List ℕ) (n : Names) (x : ℕ) (r : Bool) : Type 0 where
   pub is : (N : ℕ) (xs : List Ident) → NamesStand N rs (n .first) xs → length xs ≡ n .count → r ≡ member x (map nameIn xs)
 
+-- from the record at, r is reached by stepping over ands of one child
+pub record Reaches (rs : List ℕ) (at r : ℕ) : Type 0 where
+  pub is : (N : ℕ) (t : Tree) → Stands N rs at t → Stands N rs r (peel t)
+  pub ends : (N : ℕ) (t : Tree) → Stands N rs at t → r + size (peel t) ≡ at + size t
+
 pub record TellsIdent (classes : List ℕ) (k : ℕ) (rs : List ℕ) (at : ℕ) (r : Bool) : Type 0 where
   pub is : (t : Tree) → Stands (length classes) rs at t → r ≡ isIdentOf classes k t
 
 pub record TellsBuiltin (classes : List ℕ) (rs : List ℕ) (at : ℕ) (r : Bool) : Type 0 where
   pub is : (t : Tree) → Stands (length classes) rs at t → r ≡ isBuiltin classes t
 
+-- a tree by its form
+abbrev pub bodyForm : List ℕ → Tree → Body
+bodyForm classes t = record { builtin = isBuiltin classes t; required = isRequired classes t; alias = alias t; lambda = isLambdaForm t }
+
 abbrev pub bodyOf : List ℕ → Tree → Body
-bodyOf classes t = record { builtin = isBuiltin classes t; required = isRequired classes t; alias = alias t; lambda = isLambda t }
+bodyOf classes t = bodyForm classes (core t)
+
+pub record TellsForm (classes : List ℕ) (rs : List ℕ) (at : ℕ) (r : Body) : Type 0 where
+  pub is : (t : Tree) → Stands (length classes) rs at t → r ≡ bodyForm classes t
 
 pub record TellsBody (classes : List ℕ) (rs : List ℕ) (at : ℕ) (r : Body) : Type 0 where
   pub is : (t : Tree) → Stands (length classes) rs at t → r ≡ bodyOf classes t

@@ -1,7 +1,7 @@
 -- Every identifier of a tree that stands in its place, read, set or bound, stands at its own record; and its name is one of the N.
 use Prim.Native.Nat.{ℕ, _<_}
 use mathlib.Core.List.{List}
-use Rattle.tree.specs.Tree.{Ident, Tree, Trees, ident, const, if, letin, define, lambda, begin, call, set!, nil, cons, flat, Num}
+use Rattle.tree.specs.Tree.{Ident, Tree, Trees, ident, const, if, letin, define, lambda, sequence, call, set!, nil, cons, flat, Num}
 use Rattle.tree.specs.Accepted.{All}
 use Rattle.tree.specs.Stands.{Stands, StandAll, NamesStand}
 use Rattle.tree.specs.StandsLaws.{IdentAt, ident-name, name-at, names-at, first-tree, later-trees}
@@ -23,7 +23,7 @@ module _ {N : ℕ} {rs : List ℕ} (P : Ident → Type 0) (p : (x : Ident) → I
     tree-holds (letin n xs es b) s = let v = let-parts s in (names-hold xs (v .names), trees-hold es (v .inits), tree-holds b (v .body))
     tree-holds (define n x b) s = let v = define-parts s in (p x (v .name), tree-holds b (v .body))
     tree-holds (lambda n xs b) s = let v = lambda-parts s in (names-hold xs (v .names), tree-holds b (v .body))
-    tree-holds (begin n es) s = trees-hold es (begin-parts s .children)
+    tree-holds (sequence n es) s = trees-hold es (begin-parts s .children)
     tree-holds (call n h es) s = let v = call-parts s in (tree-holds h (v .operator), trees-hold es (v .operands))
     tree-holds (set! n x e) s = let v = set-parts s in (p x (v .name), tree-holds e (v .body))
 

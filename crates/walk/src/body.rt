@@ -3,12 +3,14 @@ use semantic::NONE;
 use table::wide;
 ghost use mathlib.Core.Path.{_≡_};
 ghost use mathlib.Core.List.{List};
-ghost use mathlib.Core.Bool.{false};
+ghost use mathlib.Core.Bool.{false, _&&_};
 ghost use Prim.Native.Nat.{ℕ, _<_};
 ghost use lib.ListN.{length, getD};
+ghost use lib.Dec.{eqb};
+ghost use Rattle.tree.specs.Record.{records};
 ghost use Rattle.pass.specs.Read.{isClass};
 ghost use Rattle.tree.specs.RecordLaws.{nth};
-ghost use Rattle.walk.specs.Contract.{SomeTreeOf, TellsIdent, TellsBuiltin, TellsBody};
+ghost use Rattle.walk.specs.Contract.{SomeTree, SomeTreeOf, Reaches, TellsIdent, TellsBuiltin, TellsForm, TellsBody};
 
 pub struct Body {
     pub builtin: bool,
@@ -23,6 +25,25 @@ pub fn is_class(classes: &[u8], name: u32, k: u8) -> bool
 {
     let c = classes[wide(name)];
     c / k % 2 == 1
+}
+
+fn is_and_of_one(all: &[u32], i: usize) -> bool
+    requires { ⌜ i < length (records (now all)) ⌝ }
+    ensures { λ r. ⌜ r ≡ eqb (nth (now (all .entry)) i .form) 10 && eqb (nth (now (all .entry)) i .count) 1 ⌝ }
+{
+    tree::record::form(all, i) == 10 && tree::record::count(all, i) == 1
+}
+
+// Where the tree stands that an expression is: an and of one child is that child.
+pub fn core_at(all: &[u32], at: usize) -> usize
+    requires { ⌜ SomeTree (now all) at ⌝ }
+    ensures { λ r. ⌜ Reaches (now (all .entry)) at r ⌝ }
+{
+    let mut i = at;
+    while is_and_of_one(all, i) {
+        i += 1;
+    }
+    i
 }
 
 // Whether the tree at the record is an identifier of the class k.
@@ -41,7 +62,11 @@ fn is_builtin(classes: &[u8], all: &[u32], at: usize) -> bool
     if tree::record::count(all, at) <= 1 {
         return false;
     }
-    is_ident_of(classes, all, at + 1, 2) && is_ident_of(classes, all, at + 2, 4)
+    let h = core_at(all, at + 1);
+    if !is_ident_of(classes, all, h, 2) {
+        return false;
+    }
+    is_ident_of(classes, all, core_at(all, h + 1), 4)
 }
 
 fn plain_body(alias: u32, lambda: bool) -> Body
@@ -55,10 +80,10 @@ fn plain_body(alias: u32, lambda: bool) -> Body
     }
 }
 
-// The body at the record. `is_a_require_definition` is of a call's head.
-pub fn body_at(classes: &[u8], all: &[u32], at: usize) -> Body
+// What the form of the tree at the record says. `is_a_require_definition` is of a call's head.
+fn form_at(classes: &[u8], all: &[u32], at: usize) -> Body
     requires { ⌜ SomeTreeOf (length (now classes)) (now all) at ⌝ }
-    ensures { λ r. ⌜ TellsBody (now (classes .entry)) (now (all .entry)) at r ⌝ }
+    ensures { λ r. ⌜ TellsForm (now (classes .entry)) (now (all .entry)) at r ⌝ }
 {
     let form = tree::record::form(all, at);
     match form {
@@ -66,10 +91,18 @@ pub fn body_at(classes: &[u8], all: &[u32], at: usize) -> Body
         6 => plain_body(NONE, true),
         8 => Body {
             builtin: is_builtin(classes, all, at),
-            required: is_ident_of(classes, all, at + 1, 8),
+            required: is_ident_of(classes, all, core_at(all, at + 1), 8),
             alias: NONE,
             lambda: false,
         },
         _ => plain_body(NONE, false),
     }
+}
+
+// The body at the record.
+pub fn body_at(classes: &[u8], all: &[u32], at: usize) -> Body
+    requires { ⌜ SomeTreeOf (length (now classes)) (now all) at ⌝ }
+    ensures { λ r. ⌜ TellsBody (now (classes .entry)) (now (all .entry)) at r ⌝ }
+{
+    form_at(classes, all, core_at(all, at))
 }

@@ -32,6 +32,9 @@ enum-known-c-5 c = search needs
 enum-known-c-6 : tie.Need-enum-known-c-6
 enum-known-c-6 c = search needs
 
+enum-known-c-7 : tie.Need-enum-known-c-7
+enum-known-c-7 c = search needs
+
 returns : tie.Need-returns
 returns c = search needs
 
@@ -59,6 +62,9 @@ returns-8 c = ap refusalOf (sym (c .before .c5 .given .1))
 returns-9 : tie.Need-returns-9
 returns-9 c = ap refusalOf (sym (c .before .c6 .given .1))
 
+returns-10 : tie.Need-returns-10
+returns-10 c = ap refusalOf (sym (c .before .c7 .given .1))
+
 pub answer-of-spec : {M : Type 1} → statement M
 answer-of-spec =
     tie.close
@@ -72,6 +78,7 @@ answer-of-spec =
     enum-known-c-4
     enum-known-c-5
     enum-known-c-6
+    enum-known-c-7
     returns
     returns-2
     returns-3
@@ -80,4 +87,5 @@ answer-of-spec =
     returns-6
     returns-7
     returns-8
-    returns-9)
+    returns-9
+    returns-10)

@@ -5,7 +5,7 @@ use mathlib.Core.Bool.{Bool, true, false, cond}
 use mathlib.Core.Option.{none}
 use mathlib.Core.Path.{_≡_, refl, ap, sym, subst, _∙_}
 use native.Mathlib.Omega.{arith}
-use Rattle.tree.specs.Tree.{Ident, Tree, Trees, ident, const, if, letin, define, lambda, begin, call, set!, nil, cons}
+use Rattle.tree.specs.Tree.{Ident, Tree, Trees, ident, const, if, letin, define, lambda, sequence, call, set!, nil, cons}
 use Rattle.tree.specs.Define.{topLevel, defines, below, belowAll, innerDefines}
 use Rattle.scope_map.specs.ScopeMap.{ScopeMap, Live, isAt, hasIn, replaceIn}
 use Rattle.scope_map.specs.ScopeMap as map
@@ -26,6 +26,7 @@ use Rattle.pass.specs.Laws.Leaves.{names, quiet-names}
 use Rattle.pass.specs.Laws.Live.{none-left, none-right}
 use Rattle.pass.specs.Laws.Script.{walk-top}
 use Rattle.r7rs.specs.Binding.{Event, top, walk, walkAll, events}
+use Rattle.tree.specs.Core.{core}
 use Rattle.execution.specs.Acceptance.{nineIn}
 use Rattle.execution.specs.Claims.{NineExact}
 use Rattle.execution.specs.Exact.Scope.{first, Scoped}
@@ -75,7 +76,7 @@ module _ (classes : List ℕ) where
   unfolding enterTopLevelValue
   value-enters x t s b =
       let c = shadow-changes {free = ⊥} {own = Any} classes (newest s (x .name)) s in
-      let p = define-enters Global (alias t) x t _ (subst Bottom (sym (quiet-names c)) b) in
+      let p = define-enters Global (alias (core t)) x t _ (subst Bottom (sym (quiet-names c)) b) in
       record { nine = p .nine ∙ quiet c .nine; bottom = p .bottom }
 
   -- lambda defines enter first
@@ -91,7 +92,7 @@ module _ (classes : List ℕ) where
       go true = define-enters Global NONE x d s b
       go false = record { nine = refl; bottom = b }
   top-enters (lambda n xs d) s b = record { nine = refl; bottom = b }
-  top-enters (begin n es) s b = record { nine = refl; bottom = b }
+  top-enters (sequence n es) s b = record { nine = refl; bottom = b }
   top-enters (call n h es) s b = record { nine = refl; bottom = b }
   top-enters (set! n x e) s b = record { nine = refl; bottom = b }
 
@@ -127,7 +128,7 @@ module _ (classes : List ℕ) where
   one-top (letin m xs es d) s e b n = tree-top (letin m xs es d) s e b n
   one-top (define m x d) s e b n = define-top (isLambda d) x d s e b n
   one-top (lambda m xs d) s e b n = tree-top (lambda m xs d) s e b n
-  one-top (begin m es) s e b n = tree-top (begin m es) s e b n
+  one-top (sequence m es) s e b n = tree-top (sequence m es) s e b n
   one-top (call m h es) s e b n = tree-top (call m h es) s e b n
   one-top (set! m x d) s e b n = tree-top (set! m x d) s e b n
 

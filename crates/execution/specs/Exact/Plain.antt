@@ -5,7 +5,8 @@ use mathlib.Core.Bool.{Bool, true, false, cond, _&&_}
 use mathlib.Core.Option.{Option, none, some, Option·some-ne-none}
 use mathlib.Core.Path.{_≡_, refl, ap, _∙_}
 use lib.Dec.{eqb, ltb}
-use Rattle.tree.specs.Tree.{Ident, Node, Tree, Trees, ident, const, if, letin, define, lambda, begin, call, set!, nil, cons}
+use Rattle.tree.specs.Tree.{Ident, Node, Tree, Trees, ident, const, if, letin, define, lambda, sequence, call, set!, nil, cons}
+use Rattle.tree.specs.Core.{core, cores}
 use Rattle.scope_map.specs.ScopeMap.{Live, hasAtTop}
 use Rattle.scope_map.specs.ScopeMap as map
 use Rattle.semantic.specs.Information.{NONE}
@@ -163,7 +164,7 @@ argument-plain (if n a b c) s = plain
 argument-plain (letin n xs es b) s = plain
 argument-plain (define n x b) s = plain
 argument-plain (lambda n xs b) s = plain
-argument-plain (begin n es) s = plain
+argument-plain (sequence n es) s = plain
 argument-plain (call n h es) s = plain
 argument-plain (set! n x e) s = plain
 
@@ -183,13 +184,13 @@ fact-plain (if m a b c) n tail k s = insert-plain (n .at) _ s
 fact-plain (letin m xs es b) n tail k s = insert-plain (n .at) _ s
 fact-plain (define m x b) n tail k s = insert-plain (n .at) _ s
 fact-plain (lambda m xs b) n tail k s = insert-plain (n .at) _ s
-fact-plain (begin m es) n tail k s = insert-plain (n .at) _ s
+fact-plain (sequence m es) n tail k s = insert-plain (n .at) _ s
 fact-plain (call m h es) n tail k s = insert-plain (n .at) _ s
 fact-plain (set! m x e) n tail k s = insert-plain (n .at) _ s
 
 pub call-plain : (n : Node) (h : Tree) (es : Trees) (f : Flags) (s : State) → Plain s (endCall n h es f s)
 unfolding endCall
-call-plain n h es f s = tail-plain (f .tail && ltb 1 (depth s)) es s then fact-plain h n _ (f .counter) _
+call-plain n h es f s = tail-plain (f .tail && ltb 1 (depth s)) (cores es) s then fact-plain (core h) n _ (f .counter) _
 
 pub clear-plain : (x : Ident) (s : State) → Plain s (clearContext x s)
 unfolding clearContext

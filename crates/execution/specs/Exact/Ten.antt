@@ -5,7 +5,7 @@ use mathlib.Core.Bool.{Bool, true, false, true≢false}
 use mathlib.Core.Option.{Option, none, some}
 use mathlib.Core.Path.{_≡_, refl, ap, sym, subst, _∙_}
 use native.Mathlib.Omega.{arith}
-use Rattle.tree.specs.Tree.{Ident, Node, Tree, Trees, ident, const, if, letin, define, lambda, begin, call, set!, nil, cons, size, sizes, Num, Nums}
+use Rattle.tree.specs.Tree.{Ident, Node, Tree, Trees, ident, const, if, letin, define, lambda, sequence, call, set!, nil, cons, size, sizes, Num, Nums}
 use Rattle.tree.specs.Define.{defines, below, belowAll, topLevel, innerDefines}
 use Rattle.scope_map.specs.ScopeMap.{Live}
 use Rattle.semantic.specs.declared.IdentifierStatus.{IdentifierStatus}
@@ -64,7 +64,7 @@ module _ (classes : List ℕ) where
       go true = define-plain _ _ x b s
       go false = plain
   top-plain (lambda n xs b) s = plain
-  top-plain (begin n es) s = plain
+  top-plain (sequence n es) s = plain
   top-plain (call n h es) s = plain
   top-plain (set! n x e) s = plain
 
@@ -102,7 +102,7 @@ module _ (classes : List ℕ) where
     top-tens k (letin m xs es b) n d o e = tens classes bottom k (letin m xs es b) n d topFlags refl (λ y l u. o y l u tt) f w e
     top-tens k (define m x b) n d o e = define-tens k m x b (isLambda b) refl n d o e
     top-tens k (lambda m xs b) n d o e = tens classes bottom k (lambda m xs b) n d topFlags refl (λ y l u. o y l u tt) f w e
-    top-tens k (begin m es) n d o e = tens classes bottom k (begin m es) n d topFlags refl (λ y l u. o y l u tt) f w e
+    top-tens k (sequence m es) n d o e = tens classes bottom k (sequence m es) n d topFlags refl (λ y l u. o y l u tt) f w e
     top-tens k (call m h es) n d o e = tens classes bottom k (call m h es) n d topFlags refl (λ y l u. o y l u tt) f w e
     top-tens k (set! m x b) n d o e = tens classes bottom k (set! m x b) n d topFlags refl (λ y l u. o y l u tt) f w e
 

@@ -6,7 +6,7 @@ use mathlib.Core.Option.{none}
 use mathlib.Core.Path.{_≡_, refl, sym, subst}
 use native.Mathlib.Omega.{arith}
 use lib.ListN.{length}
-use Rattle.tree.specs.Tree.{Ident, Tree, Trees, ident, const, if, letin, define, lambda, begin, call, set!, nil, cons, many, size, sizes, Num, Nums}
+use Rattle.tree.specs.Tree.{Ident, Tree, Trees, ident, const, if, letin, define, lambda, sequence, call, set!, nil, cons, many, size, sizes, Num, Nums, begins, ands, whens}
 use Rattle.tree.specs.Define.{defines, definesIn}
 use Rattle.scope_map.specs.ScopeMap.{Live}
 use Rattle.semantic.specs.Information.{NONE}
@@ -14,7 +14,7 @@ use Rattle.r7rs.specs.Binding.{Place, Mention, Use, lambdaBody, letBody, parame
 use Rattle.pass.specs.State.{State, withContext, depth}
 use Rattle.pass.specs.Lambda.{enterLambda, atBottom, enterLet}
 use Rattle.pass.specs.Static.{Premises}
-use Rattle.pass.specs.Visit.{Flags, notTail, sameTail, pushed, letBodyFlags, bodyFlags, argumentFlags, headFlags, isNil, childFlags, clearContext, visit, visitArguments, visitChildren}
+use Rattle.pass.specs.Visit.{Flags, notTail, sameTail, pushed, letBodyFlags, bodyFlags, argumentFlags, headFlags, isNil, childFlags, clearContext, visit, visitArguments, visitChildren, inBegin, inAnd, isAlone, visitTested}
 use Rattle.pass.specs.Laws.Changes.{_⨾_, context, no-later, keeps-noted}
 use Rattle.pass.specs.Laws.Moves.{moves-noted, into-let, into-lambda, out-of-let, out-of-lambda}
 use Rattle.pass.specs.Laws.Scopes.{Any, names-any, lambda-depth, let-stays}
@@ -22,7 +22,7 @@ use Rattle.pass.specs.Laws.Names.{read-changes, mutate-changes}
 use Rattle.pass.specs.Laws.Visits.{stays, call-changes, clear-changes}
 use Rattle.pass.specs.Laws.Ranges.{Covers, names-writes}
 use Rattle.pass.specs.Laws.Keeps.{visited, visited-arguments, visited-children}
-use Rattle.pass.specs.Laws.Live.{none-left, none-right, none-enters}
+use Rattle.pass.specs.Laws.Live.{none-left, none-right, none-entered}
 use Rattle.pass.specs.Laws.Says.{usesIn, uses-entering}
 use Rattle.pass.specs.Laws.Finds.{Finds, layered}
 use Rattle.pass.specs.Laws.Onward.{calmly}
@@ -146,10 +146,15 @@ module _ (classes : List ℕ) (bottom : List (Live Ident)) where
         (λ x z. ((z .0, λ l u. z .1 (omega arith) (omega arith)), λ l u. z .1 (omega arith) (omega arith)))
         (g₂ .tables .blank (m .at) ((here, λ l u. omega arith), λ l u. omega arith)) g₂ (C .met) in
         both E (both C X)
-    tens i (begin m es) n d f {own} {before} {seen} {p} {s} h o g w e =
-        subst (λ (u : State). visitChildren classes es f u .noted .nine ≡ none → Counts (Minus own i (i + size (begin m es))) before seen (walkAll es p) (p .scope) s (visitChildren classes es f u))
-        (sym (none-enters classes es s d))
-        (λ q. fewer (λ x z. (z .0, λ l u. z .1 (omega arith) (omega arith))) (tens-all (i + 1) es (n .1) d f h (λ x l u. o x (omega arith) (omega arith)) g w q)) e
+    tens i (sequence (begins m) es) n d f {own} {before} {seen} {p} {s} h o g w e =
+        subst (λ (u : State). visitChildren classes es (inBegin f) u .noted .nine ≡ none
+        → Counts (Minus own i (i + size (sequence (begins m) es))) before seen (walkAll es p) (p .scope) s (visitChildren classes es (inBegin f) u))
+        (sym (none-entered classes es s d))
+        (λ q. fewer (λ x z. (z .0, λ l u. z .1 (omega arith) (omega arith))) (tens-all (i + 1) es (n .1) d (inBegin f) h (λ x l u. o x (omega arith) (omega arith)) g w q)) e
+    tens i (sequence (ands m) es) n d f h o g w e =
+        fewer (λ x z. (z .0, λ l u. z .1 (omega arith) (omega arith))) (tens-all (i + 1) es (n .1) d (inAnd (isAlone es) f) h (λ x l u. o x (omega arith) (omega arith)) g w e)
+    tens i (sequence (whens b m) es) n d f h o g w e =
+        fewer (λ x z. (z .0, λ l u. z .1 (omega arith) (omega arith))) (tens-tested (i + 1) es (n .1) d f h (λ x l u. o x (omega arith) (omega arith)) g w e)
     tens i (call m c es) n d f {own} {before} {seen} {p} {s} h o g w e =
         let k = headFlags c (many es) f in
         let s₁ = visitArguments classes es (argumentFlags f) s in
@@ -198,6 +203,29 @@ module _ (classes : List ℕ) (bottom : List (Live Ident)) where
         let g₁ = at-height (p .height + 1) (found i f h c (n .0) c-none o₁ g e₁) in
         let R = tens-in k ts (n .1) (none-right (defines c) (definesIn ts) d) (pushed f) b (omega arith) (λ x l u. (o x (omega arith) (omega arith), λ y z. omega arith)) g₁ (A .met) e in
         fewer (λ x z. ((z .0, λ l u. z .1 (omega arith) (omega arith)), λ l u. z .1 (omega arith) (omega arith))) (both A R)
+
+    tens-tested : (i : ℕ) (ts : Trees) → Nums i ts → definesIn ts ≡ [] → (f : Flags) {own : ℕ → Type 0} {before : List Use} {seen : List Mention} {p : Place} {s : State}
+        → f .height ≡ p .height → Covers own i (i + sizes ts) → Finds own bottom before p s → Seen own before seen (p .scope) → visitTested classes ts f s .noted .nine ≡ none
+        → Counts (Minus own i (i + sizes ts)) before seen (walkAll ts p) (p .scope) s (visitTested classes ts f s)
+    tens-tested i nil n d f h o g w e = fewer (λ y z. z .0) (nothing plain no-later w)
+    tens-tested i (cons c ts) n d f {own} {before} {seen} {p} {s} h o g w e =
+        let l = notTail f in
+        let s₁ = visit classes c l s in
+        let h₀ = layered g .one in
+        let h₁ = stays (visited classes c l s h₀) h₀ in
+        let k = i + size c in
+        let c-none = none-left (defines c) (definesIn ts) d in
+        let rest-none = none-right (defines c) (definesIn ts) d in
+        let o₁ : Covers own i k = λ x l u. o x (omega arith) (omega arith) in
+        subst (λ (u : State). visitChildren classes ts (inBegin f) u .noted .nine ≡ none
+        → Counts (Minus own i (i + sizes (cons c ts))) before seen (walkAll (cons c ts) p) (p .scope) s (visitChildren classes ts (inBegin f) u))
+        (sym (none-entered classes ts s₁ rest-none))
+        (λ e.
+        let e₁ = keeps-noted (visited-children classes ts (inBegin f) s₁ h₁) .nine e in
+        let A = tens i c (n .0) c-none l h o₁ g w e₁ in
+        let g₁ = found i l h c (n .0) c-none o₁ g e₁ in
+        let R = tens-all k ts (n .1) rest-none (inBegin f) h (λ x l u. (o x (omega arith) (omega arith), λ y z. omega arith)) g₁ (A .met) e in
+        fewer (λ x z. ((z .0, λ l u. z .1 (omega arith) (omega arith)), λ l u. z .1 (omega arith) (omega arith))) (both A R)) e
 
     pub tens-all : (i : ℕ) (ts : Trees) → Nums i ts → definesIn ts ≡ [] → (f : Flags) {own : ℕ → Type 0} {before : List Use} {seen : List Mention} {p : Place} {s : State}
         → f .height ≡ p .height → Covers own i (i + sizes ts) → Finds own bottom before p s → Seen own before seen (p .scope) → visitChildren classes ts f s .noted .nine ≡ none

@@ -8,7 +8,7 @@ use native.Mathlib.Omega.{arith}
 use borrow.Author.Tests.{eqb-true}
 use lib.ListN.{length}
 use lib.Dec.{eqb}
-use Rattle.tree.specs.Tree.{Ident, Node, Tree, Trees, ident, const, if, letin, define, lambda, begin, call, set!, nil, cons, many}
+use Rattle.tree.specs.Tree.{Ident, Node, Tree, Trees, ident, const, if, letin, define, lambda, sequence, call, set!, nil, cons, many, begins, ands, whens}
 use Rattle.tree.specs.Define.{defines, definesIn}
 use Rattle.scope_map.specs.ScopeMap.{ScopeMap, pushLayer}
 use Rattle.scope_map.specs.ScopeMap as map
@@ -17,7 +17,7 @@ use Rattle.semantic.specs.declared.FunctionInformation.{FunctionInformation}
 use Rattle.pass.specs.State.{Scope, Noted, State, infoAt, insert, amend, putEntry, withNames, rowAt, entryAt, newest, depth}
 use Rattle.pass.specs.Read.{hasNumber, Rule, noEntry, depthOne, currentLayer, takenCapture, homeSlot, readBy, read, ruleOf, mutateAt, mutate}
 use Rattle.pass.specs.Lambda.{functionIn, openCaptures, openScope, enterParameters, enterLambda, closeScope, closeCaptures, leaveLambda, openLet, closeLet, atBottom, enterLet, leaveNames, entered, leaveLet}
-use Rattle.pass.specs.Visit.{Flags, notTail, sameTail, pushed, letBodyFlags, bodyFlags, argumentFlags, headFlags, isNil, childFlags, visit, visitArguments, visitChildren}
+use Rattle.pass.specs.Visit.{Flags, notTail, sameTail, pushed, letBodyFlags, bodyFlags, argumentFlags, headFlags, isNil, childFlags, visit, visitArguments, visitChildren, inBegin, inAnd, isAlone, visitTested}
 use Rattle.pass.specs.Laws.Changes.{Steps, Later, later-trans, keeps-depth, keeps-noted, same, context, quiet}
 use Rattle.pass.specs.Laws.Scopes.{Any, last-changes, make-changes, lambda-ends, leave-changes, let-deep, lambda-depth, let-stays}
 use Rattle.pass.specs.Laws.Visits.{stays, call-changes, clear-changes}
@@ -25,7 +25,7 @@ use Rattle.pass.specs.Laws.Layers.{enteredIn}
 use Rattle.pass.specs.Laws.Leaves.{names, inLayer, openedTo, Beside, captures-beside, enter-let, enter-lambda}
 use Rattle.pass.specs.Laws.Finds.{livesOf}
 use Rattle.pass.specs.Laws.Bodies.{two-deep}
-use Rattle.pass.specs.Laws.Live.{Restores, none-left, none-right, none-enters, calm, read-restores, mutate-restores, entered-layered, lambda-restores, let-restores}
+use Rattle.pass.specs.Laws.Live.{Restores, none-left, none-right, none-entered, calm, read-restores, mutate-restores, entered-layered, lambda-restores, let-restores}
 use Rattle.pass.specs.Laws.Live as live
 use Rattle.r7rs.specs.Binding.{Binder, Place, Event, ends, lambdaBody, letBody, binders, parameters, letNames, raised, within, entering, walk, walkArguments, walkAll}
 use Rattle.execution.specs.Acceptance.{nineIn}
@@ -245,8 +245,11 @@ module _ (classes : List ℕ) where
         (λ j. notes b (letBodyFlags (many es) f) (within (letNames xs p) (letBody (length xs) p)) _ (none-right (definesIn es) (defines b) e) j))
     notes (define n x b) f p s e h = absurd (cons-ne-nil (n .at) (defines b) e)
     notes (lambda n xs b) f p s e h = lambda-notes n xs b (f .escape) p s h (λ k. notes b (bodyFlags n (length xs) f) (within (parameters n xs p) (lambdaBody n (length xs) p)) _ e k)
-    notes (begin n es) f p s e h =
-        subst (λ (u : State). Notes (p .layer) (p .scope) (walkAll es p) s (visitChildren classes es f u)) (sym (none-enters classes es s e)) (notes-children es f p s e h)
+    notes (sequence (begins n) es) f p s e h =
+        subst (λ (u : State). Notes (p .layer) (p .scope) (walkAll es p) s (visitChildren classes es (inBegin f) u)) (sym (none-entered classes es s e))
+        (notes-children es (inBegin f) p s e h)
+    notes (sequence (ands n) es) f p s e h = notes-children es (inAnd (isAlone es) f) p s e h
+    notes (sequence (whens b n) es) f p s e h = notes-tested es f p s e h
     notes (call n g es) f p s e h =
         let q = notes-arguments es (argumentFlags f) p s (none-right (defines g) (definesIn es) e) h in
         then h q (λ k. after k (notes g (headFlags g (many es) f) (raised (many es) p) _ (none-left (defines g) (definesIn es) e) k) (λ free. call-changes n g es f _ (λ c. tt)))
@@ -265,3 +268,12 @@ module _ (classes : List ℕ) where
     notes-children nil f p s e h = none-noted refl (calm (λ free. same)) refl
     notes-children (cons t ts) f p s e h =
         then h (notes t (childFlags (isNil ts) f) p s (none-left (defines t) (definesIn ts) e) h) (λ k. notes-children ts f p _ (none-right (defines t) (definesIn ts) e) k)
+
+    notes-tested : (ts : Trees) (f : Flags) (p : Place) (s : State) → definesIn ts ≡ [] → 1 ≤ depth s
+        → Notes (p .layer) (p .scope) (walkAll ts p) s (visitTested classes ts f s)
+    notes-tested nil f p s e h = none-noted refl (calm (λ free. same)) refl
+    notes-tested (cons t ts) f p s e h =
+        let g = none-right (defines t) (definesIn ts) e in
+        let s₁ = visit classes t (notTail f) s in
+        subst (λ (u : State). Notes (p .layer) (p .scope) (walkAll (cons t ts) p) s (visitChildren classes ts (inBegin f) u)) (sym (none-entered classes ts s₁ g))
+        (then h (notes t (notTail f) p s (none-left (defines t) (definesIn ts) e) h) (λ k. notes-children ts (inBegin f) p s₁ g k))

@@ -10,7 +10,7 @@ use borrow.Author.Tests.{ltb-true, lt-ltb, eqb-true, eqb-false, eq-eqb, ne-eqb}
 use lib.ListN.{length}
 use lib.Dec.{eqb, ltb}
 use Rattle.tree.specs.Tree as tree
-use Rattle.tree.specs.Tree.{Ident, Node, Tree, Trees, ident, const, if, letin, define, lambda, begin, call, set!, nil, cons}
+use Rattle.tree.specs.Tree.{Ident, Node, Tree, Trees, ident, const, if, letin, define, lambda, sequence, call, set!, nil, cons}
 use Rattle.semantic.specs.Rows.{Row, Item}
 use Rattle.pass.specs.Laws.Layers.{or-false}
 use Rattle.tree.specs.Accepted.{All}
@@ -47,7 +47,7 @@ module _ (U : List Use) (G : ℕ → List Use) where
     Bounded before p (lambda n xs b) =
         let q = within (parameters n xs p) (lambdaBody n (length xs) p) in
         Bounded before q b × (G (n .at) ≡ before ++ usesIn (walk b q)) × Closed U (before ++ usesIn (walk b q)) xs
-    Bounded before p (begin n es) = BoundedAll before p es
+    Bounded before p (sequence n es) = BoundedAll before p es
     Bounded before p (call n h es) = BoundedIn before p es × Bounded (before ++ usesIn (walkArguments es p)) (raised (tree.many es) p) h
     Bounded before p (set! n x e) = Bounded before p e × Early (record { ident = x; isSet = true; place = p })
 

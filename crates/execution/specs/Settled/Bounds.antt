@@ -8,7 +8,7 @@ use native.Mathlib.Omega.{arith}
 use borrow.Author.Tests.{eq-eqb, ne-eqb}
 use lib.ListN.{length}
 use lib.Dec.{eqb}
-use Rattle.tree.specs.Tree.{Ident, Node, Tree, Trees, ident, const, if, letin, define, lambda, begin, call, set!, nil, cons, many, size, sizes, NumNames, Num, Nums}
+use Rattle.tree.specs.Tree.{Ident, Node, Tree, Trees, ident, const, if, letin, define, lambda, sequence, call, set!, nil, cons, many, size, sizes, NumNames, Num, Nums}
 use Rattle.tree.specs.Check.{member}
 use Rattle.tree.specs.Accepted.{All}
 use Rattle.r7rs.specs.Binding.{Binder, Place, Mention, Event, enters, mentions, ends, meant, isInner, Use, lambdaBody, letBody, binders, parameters, letNames, raised, within, entering, walk, walkArguments, walkAll}
@@ -318,7 +318,7 @@ module _ (E : List Event) where
           );
           zoned = all-++ Zoned ent (walk c body ++ end) (zoned-entering (parameters m xs p) (p .scope)) (all-++ Zoned (walk c body) end (Y .zoned) (tt, tt));
         }
-    bounds i (begin m es) n p o z before pre post e s u =
+    bounds i (sequence m es) n p o z before pre post e s u =
         let X = bounds-all (i + 1) es (n .1) p (outside-narrow (i + 1) (i + 1 + sizes es) p (omega arith) (omega arith) o) z before pre post e
         (record {
           is = s .is;

@@ -5,7 +5,7 @@ use mathlib.Core.Bool.{false}
 use mathlib.Core.Path.{_≡_, refl, sym, subst, _∙_}
 use native.Mathlib.Omega.{arith}
 use lib.ListN.{length}
-use Rattle.tree.specs.Tree.{Ident, Tree, Trees, ident, const, if, letin, define, lambda, begin, call, set!, nil, cons, many, size, sizes, Num, Nums}
+use Rattle.tree.specs.Tree.{Ident, Tree, Trees, ident, const, if, letin, define, lambda, sequence, call, set!, nil, cons, many, size, sizes, Num, Nums, begins, ands, whens}
 use Rattle.tree.specs.Define.{defines, definesIn}
 use Rattle.scope_map.specs.ScopeMap.{Live}
 use Rattle.semantic.specs.Information.{NONE}
@@ -13,7 +13,7 @@ use Rattle.semantic.specs.Rows.{Row, Item}
 use Rattle.r7rs.specs.Binding.{Place, Use, lambdaBody, letBody, parameters, letNames, raised, within, walk, walkArguments}
 use Rattle.pass.specs.State.{State, withContext, depth}
 use Rattle.pass.specs.Lambda.{enterLambda, leaveLambda, atBottom, enterLet, leaveLet}
-use Rattle.pass.specs.Visit.{Flags, notTail, sameTail, pushed, letBodyFlags, bodyFlags, argumentFlags, headFlags, isNil, childFlags, clearContext, endCall, visit, visitArguments, visitChildren}
+use Rattle.pass.specs.Visit.{Flags, notTail, sameTail, pushed, letBodyFlags, bodyFlags, argumentFlags, headFlags, isNil, childFlags, clearContext, endCall, visit, visitArguments, visitChildren, inBegin, inAnd, isAlone, visitTested}
 use Rattle.pass.specs.Read.{read, mutate}
 use Rattle.pass.specs.Laws.Changes.{Changes, _⨾_, context, keeps-noted, keeps-lengths}
 use Rattle.pass.specs.Laws.Moves.{by, _⨟_, moves-noted, moves-lengths, into-let, into-lambda, out-of-let, out-of-lambda}
@@ -22,7 +22,7 @@ use Rattle.pass.specs.Laws.Names.{read-changes, mutate-changes}
 use Rattle.pass.specs.Laws.Visits.{stays, call-changes, clear-changes, visit-changes, arguments-visited, children-visited}
 use Rattle.pass.specs.Laws.Ranges.{Covers, names-writes, tree-writes, trees-writes}
 use Rattle.pass.specs.Laws.Keeps.{visited, visited-arguments, visited-children}
-use Rattle.pass.specs.Laws.Live.{none-left, none-right, none-enters}
+use Rattle.pass.specs.Laws.Live.{none-left, none-right, none-entered}
 use Rattle.pass.specs.Laws.Says.{usesIn}
 use Rattle.pass.specs.Laws.Finds.{Finds, layered}
 use Rattle.pass.specs.Laws.Onward.{calmly}
@@ -171,17 +171,31 @@ module _ (classes : List ℕ) (bottom : List (Live Ident)) (T : List Row) (C A :
         let Z = lambda-leaves {T = T} {C = C} {A = A} i m xs c (f .escape) p s₂ (n .0) ((here, λ y z. omega arith), λ y z. omega arith) (g .one) (g .around) g₂
         r₂ (e .ten) in
         lambda-kept T C A i before p m xs c s s₁ s₂ s₃ idle Y (out-of-lambda m xs c (f .escape) s₂ (λ l u. omega arith)) Z
-    keeping i (begin m es) n d f {own} {before} {p} {s} h o g r e =
-        subst (λ (u : State). Unnoted (visitChildren classes es f u .noted)
-        → Leaves T C A i (i + size (begin m es)) (size (begin m es)) s (visitChildren classes es f u)
-        (KeptAll T C A (topOf s) (topOf (visitChildren classes es f u)) before p es))
-        (sym (none-enters classes es s d))
-        (λ q. closed i (i + size (begin m es)) (size (begin m es)) (omega arith) (omega arith) (omega arith)
-        (keeping-all (i + 1) es (n .1) d f h (λ x l u. o x (omega arith) (omega arith)) g (record {
+    keeping i (sequence (begins m) es) n d f {own} {before} {p} {s} h o g r e =
+        subst (λ (u : State). Unnoted (visitChildren classes es (inBegin f) u .noted)
+        → Leaves T C A i (i + size (sequence (begins m) es)) (size (sequence (begins m) es)) s (visitChildren classes es (inBegin f) u)
+        (KeptAll T C A (topOf s) (topOf (visitChildren classes es (inBegin f) u)) before p es))
+        (sym (none-entered classes es s d))
+        (λ q. closed i (i + size (sequence (begins m) es)) (size (sequence (begins m) es)) (omega arith) (omega arith) (omega arith)
+        (keeping-all (i + 1) es (n .1) d (inBegin f) h (λ x l u. o x (omega arith) (omega arith)) g (record {
           captured = r .captured;
           arguments = r .arguments;
           few = omega (arith, r .few);
         }) q) (λ k. k)) e
+    keeping i (sequence (ands m) es) n d f h o g r e =
+        closed i (i + size (sequence (ands m) es)) (size (sequence (ands m) es)) (omega arith) (omega arith) (omega arith)
+        (keeping-all (i + 1) es (n .1) d (inAnd (isAlone es) f) h (λ x l u. o x (omega arith) (omega arith)) g (record {
+          captured = r .captured;
+          arguments = r .arguments;
+          few = omega (arith, r .few);
+        }) e) (λ k. k)
+    keeping i (sequence (whens b m) es) n d f h o g r e =
+        closed i (i + size (sequence (whens b m) es)) (size (sequence (whens b m) es)) (omega arith) (omega arith) (omega arith)
+        (keeping-tested (i + 1) es (n .1) d f h (λ x l u. o x (omega arith) (omega arith)) g (record {
+          captured = r .captured;
+          arguments = r .arguments;
+          few = omega (arith, r .few);
+        }) e) (λ k. k)
     keeping i (call m c es) n d f {own} {before} {p} {s} h o g r e =
         let k = headFlags c (many es) f in
         let s₁ = visitArguments classes es (argumentFlags f) s in
@@ -245,6 +259,34 @@ module _ (classes : List ℕ) (bottom : List (Live Ident)) (T : List Row) (C A :
         (λ x l u. (o x (omega arith) (omega arith), λ y z. omega arith)) g₁ r₁ e in
         in-kept T C A i before p c ts s s₁ (visitArguments classes ts (pushed f) s₁) X
         (by (arguments-visited classes ts (pushed f) s₁ (trees-writes _ k ts (n .1) (λ x l u y z. omega arith)) h₁)) Y
+
+    keeping-tested : (i : ℕ) (ts : Trees) → Nums i ts → definesIn ts ≡ [] → (f : Flags) {own : ℕ → Type 0} {before : List Use} {p : Place} {s : State}
+        → f .height ≡ p .height → Covers own i (i + sizes ts) → Finds own bottom before p s → Room (sizes ts) s → Unnoted (visitTested classes ts f s .noted)
+        → Leaves T C A i (i + sizes ts) (sizes ts) s (visitTested classes ts f s) (KeptAll T C A (topOf s) (topOf (visitTested classes ts f s)) before p ts)
+    keeping-tested i nil n d f {s = s} h o g r e = let w = idle-grown 0 s s refl in record { grown = w; kept = λ q. w .top }
+    keeping-tested i (cons c ts) n d f {own} {before} {p} {s} h o g r e =
+        let l = notTail f in
+        let s₁ = visit classes c l s in
+        let h₀ = layered g .one in
+        let v₁ = visited classes c l s h₀ in
+        let h₁ = stays v₁ h₀ in
+        let k = i + size c in
+        let j = k + sizes ts in
+        let c-none = none-left (defines c) (definesIn ts) d in
+        let rest-none = none-right (defines c) (definesIn ts) d in
+        let o₁ : Covers own i k = λ x l u. o x (omega arith) (omega arith) in
+        subst (λ (u : State). Unnoted (visitChildren classes ts (inBegin f) u .noted)
+        → Leaves T C A i (i + sizes (cons c ts)) (sizes (cons c ts)) s (visitChildren classes ts (inBegin f) u)
+        (KeptAll T C A (topOf s) (topOf (visitChildren classes ts (inBegin f) u)) before p (cons c ts)))
+        (sym (none-entered classes ts s₁ rest-none))
+        (λ e.
+        let e₁ = unnoted (keeps-noted (visited-children classes ts (inBegin f) s₁ h₁)) e in
+        let X = keeping i c (n .0) c-none l h o₁ g (record { captured = r .captured; arguments = r .arguments; few = omega (arith, r .few) }) e₁ in
+        let g₁ = found classes bottom i l h c (n .0) c-none o₁ g (e₁ .nine) in
+        let r₁ = room-after (sizes ts) r (X .grown) (keeps-lengths v₁) (omega arith) in
+        let Y = keeping-all k ts (n .1) rest-none (inBegin f) h (λ x l u. (o x (omega arith) (omega arith), λ y z. omega arith)) g₁ r₁ e in
+        all-kept T C A i before p c ts s s₁ (visitChildren classes ts (inBegin f) s₁) X
+        (by (children-visited classes ts (inBegin f) s₁ (trees-writes _ k ts (n .1) (λ x l u y z. omega arith)) h₁)) Y) e
 
     pub keeping-all : (i : ℕ) (ts : Trees) → Nums i ts → definesIn ts ≡ [] → (f : Flags) {own : ℕ → Type 0} {before : List Use} {p : Place} {s : State}
         → f .height ≡ p .height → Covers own i (i + sizes ts) → Finds own bottom before p s → Room (sizes ts) s → Unnoted (visitChildren classes ts f s .noted)

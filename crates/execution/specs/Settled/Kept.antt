@@ -9,7 +9,7 @@ use native.Mathlib.Omega.{arith}
 use lib.ListN.{length, getD}
 use lib.Dec.{eqb}
 use Rattle.tree.specs.Tree as tree
-use Rattle.tree.specs.Tree.{Ident, Node, Tree, Trees, ident, const, if, letin, define, lambda, begin, call, set!, nil, cons, many}
+use Rattle.tree.specs.Tree.{Ident, Node, Tree, Trees, ident, const, if, letin, define, lambda, sequence, call, set!, nil, cons, many}
 use Rattle.tree.specs.Accepted.{All}
 use Rattle.semantic.specs.Rows.{Row, Blank, Function, Let, Item, noItem}
 use Rattle.semantic.specs.declared.FunctionInformation.{FunctionInformation}
@@ -75,7 +75,7 @@ module _ (T : List Row) (C A : List Item) where
     Kept lo hi before p (lambda n xs b) =
         let q = within (parameters n xs p) (lambdaBody n (length xs) p) in
         (k : ℕ) × (lo ≤ k) × (k ≤ hi) × Kept lo k before q b × LambdaKept k hi (before ++ usesIn (walk b q)) n xs (p .scope)
-    Kept lo hi before p (begin n es) = KeptAll lo hi before p es
+    Kept lo hi before p (sequence n es) = KeptAll lo hi before p es
     Kept lo hi before p (call n h es) =
         (k : ℕ) × (lo ≤ k) × (k ≤ hi) × KeptIn lo k before p es × Kept k hi (before ++ usesIn (walkArguments es p)) (raised (tree.many es) p) h
     Kept lo hi before p (set! n x e) = Kept lo hi before p e

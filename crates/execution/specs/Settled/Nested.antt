@@ -9,7 +9,7 @@ use native.Mathlib.Decide.{ℕ-discrete}
 use borrow.Author.Tests.{eqb-true, eq-eqb, ne-eqb, lt-ltb, le-ltb}
 use lib.ListN.{length}
 use lib.Dec.{eqb, ltb}
-use Rattle.tree.specs.Tree.{Ident, Tree, Trees, ident, const, if, letin, define, lambda, begin, call, set!, nil, cons, many, size, sizes, Num, Nums}
+use Rattle.tree.specs.Tree.{Ident, Tree, Trees, ident, const, if, letin, define, lambda, sequence, call, set!, nil, cons, many, size, sizes, Num, Nums}
 use Rattle.tree.specs.Check.{member}
 use Rattle.tree.specs.Accepted.{All}
 use Rattle.r7rs.specs.Binding.{Binder, Place, Event, enters, mentions, ends, find, lambdaBody, letBody, binders, parameters, letNames, raised, within, entering, walk, walkArguments, walkAll}
@@ -126,7 +126,7 @@ mutual
       (all-++ NestedAt (walk b body) end
       (nested (k + 1 + length xs) b (n .2) body (λ i l. rw (ne-eqb i (m .at) (λ z. omega arith)) (o i (omega arith))) inside (all-left NotLive (walk b body) end r))
       (tt, tt))
-  nested k (begin m es) n p o w a = nested-all (k + 1) es (n .1) p (λ i l. o i (omega arith)) w a
+  nested k (sequence m es) n p o w a = nested-all (k + 1) es (n .1) p (λ i l. o i (omega arith)) w a
   nested k (call m h es) n p o w a =
       let head : Place = raised (many es) p in
       all-++ NestedAt (walkArguments es p) (walk h head) (nested-in (k + 1 + size h) es (n .2) p (λ i l. o i (omega arith)) w

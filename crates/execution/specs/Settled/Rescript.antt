@@ -7,7 +7,7 @@ use mathlib.Core.Path.{_≡_, refl, ap, sym, subst, _∙_}
 use native.Mathlib.Omega.{arith}
 use lib.ListN.{getD}
 use lib.Seq.{getD-set-same}
-use Rattle.tree.specs.Tree.{Ident, Node, Tree, Trees, ident, const, if, letin, define, lambda, begin, call, set!, nil, cons, size, Num}
+use Rattle.tree.specs.Tree.{Ident, Node, Tree, Trees, ident, const, if, letin, define, lambda, sequence, call, set!, nil, cons, size, Num}
 use Rattle.tree.specs.Define.{defines, below, belowAll}
 use Rattle.scope_map.specs.ScopeMap.{ScopeMap, Live}
 use Rattle.scope_map.specs.ScopeMap as map
@@ -107,7 +107,7 @@ module _ (classes : List ℕ) (S : Script) {bottom : List (Live Ident)} {s : Sta
   enter-top k (letin m xs es b) n o l a f = fewer-again S l f
   enter-top k (define m x b) n o l a f = enter-define x b (isLambda b) refl (o (x .at) (omega arith) (omega arith)) l (λ y z. a y z .0) f
   enter-top k (lambda m xs b) n o l a f = fewer-again S l f
-  enter-top k (begin m es) n o l a f = fewer-again S l f
+  enter-top k (sequence m es) n o l a f = fewer-again S l f
   enter-top k (call m h es) n o l a f = fewer-again S l f
   enter-top k (set! m x e) n o l a f = fewer-again S l f
 
@@ -182,7 +182,7 @@ module _ (classes : List ℕ) (S : Script) where
     top-again k (define m x y) n d o q b c e = define-top k m x y (isLambda y) refl n d o q b c e
     top-again k (lambda m xs x) n d o q b c e = again classes S bottom k (lambda m xs x) n d topFlags own none 1 [] top s lo hi before refl
         (λ y l u. o y l u tt) q b c refl refl tt f r e
-    top-again k (begin m es) n d o q b c e = again classes S bottom k (begin m es) n d topFlags own none 1 [] top s lo hi before refl (λ y l u. o y l u tt) q b
+    top-again k (sequence m es) n d o q b c e = again classes S bottom k (sequence m es) n d topFlags own none 1 [] top s lo hi before refl (λ y l u. o y l u tt) q b
         c refl refl tt f r e
     top-again k (call m h es) n d o q b c e = again classes S bottom k (call m h es) n d topFlags own none 1 [] top s lo hi before refl (λ y l u. o y l u tt) q
         b c refl refl tt f r e

@@ -5,7 +5,7 @@ use mathlib.Core.Bool.{Bool, true, false, true≢false}
 use mathlib.Core.Path.{_≡_, refl, ap, sym, subst, _∙_}
 use native.Mathlib.Omega.{arith}
 use lib.ListN.{length-replicate}
-use Rattle.tree.specs.Tree.{Ident, Node, Tree, Trees, ident, const, if, letin, define, lambda, begin, call, set!, nil, cons, size, sizes, Num, Nums}
+use Rattle.tree.specs.Tree.{Ident, Node, Tree, Trees, ident, const, if, letin, define, lambda, sequence, call, set!, nil, cons, size, sizes, Num, Nums}
 use Rattle.tree.specs.Define.{defines, below, belowAll, topLevel, innerDefines}
 use Rattle.scope_map.specs.ScopeMap.{Live}
 use Rattle.semantic.specs.Information.{NONE}
@@ -76,7 +76,7 @@ module _ (classes : List ℕ) (T : List Row) (C A : List Item) where
     top-keeps k (letin m xs es b) n d o r e = keeping classes bottom T C A k (letin m xs es b) n d topFlags refl (λ y l u. o y l u tt) f r e
     top-keeps k (define m x b) n d o r e = define-keeps k m x b (isLambda b) refl n d o r e
     top-keeps k (lambda m xs b) n d o r e = keeping classes bottom T C A k (lambda m xs b) n d topFlags refl (λ y l u. o y l u tt) f r e
-    top-keeps k (begin m es) n d o r e = keeping classes bottom T C A k (begin m es) n d topFlags refl (λ y l u. o y l u tt) f r e
+    top-keeps k (sequence m es) n d o r e = keeping classes bottom T C A k (sequence m es) n d topFlags refl (λ y l u. o y l u tt) f r e
     top-keeps k (call m h es) n d o r e = keeping classes bottom T C A k (call m h es) n d topFlags refl (λ y l u. o y l u tt) f r e
     top-keeps k (set! m x b) n d o r e = keeping classes bottom T C A k (set! m x b) n d topFlags refl (λ y l u. o y l u tt) f r e
 

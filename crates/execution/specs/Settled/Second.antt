@@ -6,13 +6,13 @@ use mathlib.Core.Path.{_≡_, refl, ap, sym, subst}
 use native.Mathlib.Omega.{arith}
 use lib.ListN.{length}
 use lib.Dec.{eqb}
-use Rattle.tree.specs.Tree.{Ident, Tree, Trees, ident, const, if, letin, define, lambda, begin, call, set!, nil, cons, many, size, sizes, Num, Nums}
+use Rattle.tree.specs.Tree.{Ident, Tree, Trees, ident, const, if, letin, define, lambda, sequence, call, set!, nil, cons, many, size, sizes, Num, Nums, begins, ands, whens}
 use Rattle.tree.specs.Define.{defines, definesIn}
 use Rattle.scope_map.specs.ScopeMap.{Live}
 use Rattle.semantic.specs.Information.{NONE}
 use Rattle.pass.specs.State.{State, withContext, depth}
 use Rattle.pass.specs.Lambda.{enterLambda, atBottom, enterLet, leaveLet}
-use Rattle.pass.specs.Visit.{Flags, notTail, sameTail, pushed, letBodyFlags, bodyFlags, argumentFlags, headFlags, isNil, childFlags, clearContext, endCall, visit, visitArguments, visitChildren}
+use Rattle.pass.specs.Visit.{Flags, notTail, sameTail, pushed, letBodyFlags, bodyFlags, argumentFlags, headFlags, isNil, childFlags, clearContext, endCall, visit, visitArguments, visitChildren, inBegin, inAnd, isAlone, visitTested}
 use Rattle.pass.specs.Read.{read, mutate}
 use Rattle.pass.specs.Laws.Changes.{Changes, _⨾_, context, keeps-noted, keeps-depth}
 use Rattle.pass.specs.Laws.Moves.{by, moves-noted, into-let, out-of-let, out-of-lambda}
@@ -21,7 +21,7 @@ use Rattle.pass.specs.Laws.Names.{read-changes, mutate-changes}
 use Rattle.pass.specs.Laws.Visits.{stays, call-changes, clear-changes, visit-changes, arguments-visited, children-visited}
 use Rattle.pass.specs.Laws.Ranges.{Covers, tree-writes, trees-writes}
 use Rattle.pass.specs.Laws.Keeps.{visited, visited-arguments, visited-children}
-use Rattle.pass.specs.Laws.Live.{none-left, none-right, none-enters}
+use Rattle.pass.specs.Laws.Live.{none-left, none-right, none-entered}
 use Rattle.pass.specs.Laws.Says.{cellOf, usesIn, Says}
 use Rattle.pass.specs.Laws.Finds.{all-map}
 use Rattle.pass.specs.Laws.Bodies.{no-part}
@@ -70,7 +70,7 @@ module _ (classes : List ℕ) (S : Script) (bottom : List (Live Ident)) where
     kept-order lo hi before p (letin n xs es b) k = let l₁ = k .1 in let l₂ = k .2 in omega arith
     kept-order lo hi before p (define n x b) k = kept-order lo hi before p b k
     kept-order lo hi before p (lambda n xs b) k = let l₁ = k .1 in let l₂ = k .2 in omega arith
-    kept-order lo hi before p (begin n es) k = kept-all-order lo hi before p es k
+    kept-order lo hi before p (sequence n es) k = kept-all-order lo hi before p es k
     kept-order lo hi before p (call n h es) k = let l₁ = k .1 in let l₂ = k .2 in omega arith
     kept-order lo hi before p (set! n x e) k = kept-order lo hi before p e k
 
@@ -169,13 +169,19 @@ module _ (classes : List ℕ) (S : Script) (bottom : List (Live Ident)) where
         refl
         o (k .3) (b .0) (q₂ .0) (framed-lambda (S .C) (S .G) fr m xs p mid hi after (b .1) (k .4) w (all-map (λ c q. q .most) (p .scope) (g .around)))
         (refl, (k .4 .info, k .4 .is)) a g₁ r₁ e₂)
-    again i (begin m es) n z f own fr d old p s lo hi before h o k b q w fo a g r e =
-        subst (λ (u : State). visitChildren classes es f u .noted .nine ≡ none
-        → Did classes S bottom (Minus own i (i + size (begin m es))) (f .function) fr d old p (walkAll es p) i (i + size (begin m es)) lo hi s
-        (visitChildren classes es f u))
-        (sym (none-enters classes es s z))
-        (λ e. did-closed i (i + size (begin m es)) (omega arith) (omega arith) (λ x v. (v .0, λ l u. v .1 (omega arith) (omega arith)))
-        (again-all (i + 1) es (n .1) z f own fr d old p s lo hi before h (λ v l u. o v (omega arith) (omega arith)) k b q w fo a g r e)) e
+    again i (sequence (begins m) es) n z f own fr d old p s lo hi before h o k b q w fo a g r e =
+        subst (λ (u : State). visitChildren classes es (inBegin f) u .noted .nine ≡ none
+        → Did classes S bottom (Minus own i (i + size (sequence (begins m) es))) (f .function) fr d old p (walkAll es p) i (i + size (sequence (begins m) es)) lo hi s
+        (visitChildren classes es (inBegin f) u))
+        (sym (none-entered classes es s z))
+        (λ e. did-closed i (i + size (sequence (begins m) es)) (omega arith) (omega arith) (λ x v. (v .0, λ l u. v .1 (omega arith) (omega arith)))
+        (again-all (i + 1) es (n .1) z (inBegin f) own fr d old p s lo hi before h (λ v l u. o v (omega arith) (omega arith)) k b q w fo a g r e)) e
+    again i (sequence (ands m) es) n z f own fr d old p s lo hi before h o k b q w fo a g r e =
+        did-closed i (i + size (sequence (ands m) es)) (omega arith) (omega arith) (λ x v. (v .0, λ l u. v .1 (omega arith) (omega arith)))
+        (again-all (i + 1) es (n .1) z (inAnd (isAlone es) f) own fr d old p s lo hi before h (λ v l u. o v (omega arith) (omega arith)) k b q w fo a g r e)
+    again i (sequence (whens t m) es) n z f own fr d old p s lo hi before h o k b q w fo a g r e =
+        did-closed i (i + size (sequence (whens t m) es)) (omega arith) (omega arith) (λ x v. (v .0, λ l u. v .1 (omega arith) (omega arith)))
+        (again-tested (i + 1) es (n .1) z f own fr d old p s lo hi before h (λ v l u. o v (omega arith) (omega arith)) k b q w fo a g r e)
     again i (call m c es) n z f own fr d old p s lo hi before h o k b q w fo a g r e =
         let l = headFlags c (many es) f in
         let s₁ = visitArguments classes es (argumentFlags f) s in
@@ -233,6 +239,36 @@ module _ (classes : List ℕ) (S : Script) (bottom : List (Live Ident)) where
         (before ++ usesIn (walk c p)) (next-height (f .height) (p .height) h) o
         (k .4) (b .1) (q₁ .1) (framed-raised (S .C) (S .G) fr 1 p w) fo a (again-height S (p .height + 1) g) r e) in
         record { again = again-height S (p .height) (Z .again); outside = Z .outside; tells = Z .tells; second = Z .second }
+
+    again-tested : (i : ℕ) (ts : Trees) → Nums i ts → definesIn ts ≡ []
+        → (f : Flags) (own : ℕ → Type 0) (fr : Option Frame) (d : ℕ) (old : Lives) (p : Place) (s : State) (lo hi : ℕ) (before : List Use)
+        → f .height ≡ p .height → Covers own i (i + sizes ts) → KeptAll (S .T) (S .C) (S .A) lo hi before p ts → BoundedAll (S .U) (S .G) before p ts
+        → SaysT before (walkAll ts p)
+        → FramedIn (S .C) (S .G) fr p → FunctionOf (S .T) (f .function) (p .around) → Above hi fr → Again S own bottom (f .function) fr d old p s
+        → Pending (S .C) lo hi s → visitTested classes ts f s .noted .nine ≡ none
+        → Did classes S bottom (Minus own i (i + sizes ts)) (f .function) fr d old p (walkAll ts p) i (i + sizes ts) lo hi s (visitTested classes ts f s)
+    again-tested i nil n z f own fr d old p s lo hi before h o k b q w fo a g r e =
+        record { again = fewer-again S (λ x y. y .0) g; outside = λ r x. refl; tells = λ R ag. tt; second = λ v. v }
+    again-tested i (cons c ts) n z f own fr d old p s lo hi before h o k b q w fo a g r e =
+        let t = notTail f in
+        let s₁ = visit classes c t s in
+        let h₀ = again-layered S g .one in
+        let h₁ = stays (visited classes c t s h₀) h₀ in
+        let i₁ = i + size c in
+        let q₁ = split before (walk c p) (walkAll ts p) q in
+        let rest-none = none-right (defines c) (definesIn ts) z in
+        subst (λ (u : State). visitChildren classes ts (inBegin f) u .noted .nine ≡ none
+        → Did classes S bottom (Minus own i (i + sizes (cons c ts))) (f .function) fr d old p (walkAll (cons c ts) p) i (i + sizes (cons c ts)) lo hi s
+        (visitChildren classes ts (inBegin f) u))
+        (sym (none-entered classes ts s₁ rest-none))
+        (λ e.
+        let e₁ = keeps-noted (visited-children classes ts (inBegin f) s₁ h₁) .nine e in
+        in-case classes S bottom i c ts own (f .function) fr d old p p (walk c p) (walkAll ts p) s s₁ (visitChildren classes ts (inBegin f) s₁) lo (k .0) hi (k .1)
+        (k .2) o r a
+        (λ o r a. again i c (n .0) (none-left (defines c) (definesIn ts) z) t own fr d old p s lo (k .0) before h o (k .3) (b .0) (q₁ .0) w fo a g r e₁)
+        (λ own w. children-visited classes ts (inBegin f) s₁ (trees-writes own i₁ ts (n .1) w) h₁)
+        (λ g o r. again-all i₁ ts (n .1) rest-none (inBegin f) (Minus own i i₁) fr d old p s₁ (k .0) hi (before ++ usesIn (walk c p)) h o
+        (k .4) (b .1) (q₁ .1) w fo a g r e)) e
 
     pub again-all : (i : ℕ) (ts : Trees) → Nums i ts → definesIn ts ≡ []
         → (f : Flags) (own : ℕ → Type 0) (fr : Option Frame) (d : ℕ) (old : Lives) (p : Place) (s : State) (lo hi : ℕ) (before : List Use)

@@ -6,8 +6,9 @@ use mathlib.Core.Option.{Option, none, some}
 use mathlib.Core.Path.{_≡_, refl, ap, _∙_}
 use lib.ListN.{length}
 use lib.Dec.{ltb}
-use Rattle.tree.specs.Tree.{Ident, Node, Tree, Trees, ident, const, if, letin, define, lambda, begin, call, set!, nil, cons}
+use Rattle.tree.specs.Tree.{Ident, Node, Tree, Trees, ident, const, if, letin, define, lambda, sequence, call, set!, nil, cons}
 use Rattle.tree.specs.Check.{Refusal}
+use Rattle.tree.specs.Core.{core, cores}
 use Rattle.scope_map.specs.ScopeMap.{ScopeMap, Live, hasAtTop, newestLayer}
 use Rattle.scope_map.specs.ScopeMap as map
 use Rattle.semantic.specs.Information.{NONE}
@@ -131,7 +132,7 @@ argument-unsaid (if n a b c) s = refl
 argument-unsaid (letin n xs es b) s = refl
 argument-unsaid (define n x b) s = refl
 argument-unsaid (lambda n xs b) s = refl
-argument-unsaid (begin n es) s = refl
+argument-unsaid (sequence n es) s = refl
 argument-unsaid (call n h es) s = refl
 argument-unsaid (set! n x e) s = refl
 
@@ -151,13 +152,13 @@ fact-unsaid (if m a b c) n tail k s = insert-unsaid (n .at) _ s
 fact-unsaid (letin m xs es b) n tail k s = insert-unsaid (n .at) _ s
 fact-unsaid (define m x b) n tail k s = insert-unsaid (n .at) _ s
 fact-unsaid (lambda m xs b) n tail k s = insert-unsaid (n .at) _ s
-fact-unsaid (begin m es) n tail k s = insert-unsaid (n .at) _ s
+fact-unsaid (sequence m es) n tail k s = insert-unsaid (n .at) _ s
 fact-unsaid (call m h es) n tail k s = insert-unsaid (n .at) _ s
 fact-unsaid (set! m x e) n tail k s = insert-unsaid (n .at) _ s
 
 pub call-unsaid : (n : Node) (h : Tree) (es : Trees) (f : Flags) (s : State) → Unsaid s (endCall n h es f s)
 unfolding endCall
-call-unsaid n h es f s = fact-unsaid h n _ (f .counter) _ ∙ tail-unsaid (f .tail && ltb 1 (depth s)) es s
+call-unsaid n h es f s = fact-unsaid (core h) n _ (f .counter) _ ∙ tail-unsaid (f .tail && ltb 1 (depth s)) (cores es) s
 
 pub clear-unsaid : (x : Ident) (s : State) → Unsaid s (clearContext x s)
 unfolding clearContext
@@ -190,7 +191,7 @@ module _ (classes : List ℕ) where
       go true = define-unsaid _ _ x b s
       go false = refl
   top-unsaid (lambda n xs b) s = refl
-  top-unsaid (begin n es) s = refl
+  top-unsaid (sequence n es) s = refl
   top-unsaid (call n h es) s = refl
   top-unsaid (set! n x e) s = refl
 

@@ -4,7 +4,7 @@ use mathlib.Core.List.{List, [], _∷_, _++_, reverseAux}
 use mathlib.Core.Bool.{Bool, true, false}
 use native.Mathlib.Omega.{arith}
 use lib.ListN.{length}
-use Rattle.tree.specs.Tree.{Ident, Tree, Trees, ident, const, if, letin, define, lambda, begin, call, set!, nil, cons, many, size, sizes, NumNames, Num, Nums}
+use Rattle.tree.specs.Tree.{Ident, Tree, Trees, ident, const, if, letin, define, lambda, sequence, call, set!, nil, cons, many, size, sizes, NumNames, Num, Nums}
 use Rattle.tree.specs.Accepted.{All}
 use Rattle.r7rs.specs.Binding.{Binder, Place, Event, enters, mentions, ends, meant, lambdaBody, letBody, binders, parameters, letNames, raised, within, entering, walk, walkArguments, walkAll}
 use Rattle.pass.specs.Laws.All.{all-++}
@@ -59,7 +59,7 @@ module _ (M : ℕ → Type 0) (Q : List ℕ → Type 0) (D : ℕ → Type 0) whe
           (all-++ Walked (walk b body) (ends (m .at) xs (p .scope) ∷ [])
           (walked (k + 1 + length xs) b (n .2) (omega arith) (omega arith) body scope (grow (m .at) (omega arith) (omega arith) (p .around) q))
           (ending (m .at) (omega arith) (omega arith), tt))
-      walked k (begin m es) n l u p a q = walked-all (k + 1) es (n .1) (omega arith) (omega arith) p a q
+      walked k (sequence m es) n l u p a q = walked-all (k + 1) es (n .1) (omega arith) (omega arith) p a q
       walked k (call m h es) n l u p a q =
           all-++ Walked (walkArguments es p) (walk h (raised (many es) p)) (walked-in (k + 1 + size h) es (n .2) (omega arith) (omega arith) p a q)
           (walked (k + 1) h (n .1) (omega arith) (omega arith) (raised (many es) p) a q)

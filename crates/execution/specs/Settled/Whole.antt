@@ -5,11 +5,13 @@ use mathlib.Core.Option.{none}
 use mathlib.Core.Path.{_≡_, refl, ap, sym, subst, _∙_}
 use native.Mathlib.Omega.{arith}
 use lib.ListN.{length, getD, length-replicate}
-use Rattle.tree.specs.Tree.{Node, Tree, Trees, ident, const, if, letin, define, lambda, begin, call, set!, nil, cons, sizes, Nums}
+use Rattle.tree.specs.Tree.{Node, Tree, Trees, ident, const, if, letin, define, lambda, sequence, call, set!, nil, cons, sizes, Nums, begins, ands, whens}
 use Rattle.tree.specs.Define.{_⊕_, topOf, topLevel, innerDefines}
 use Rattle.scope_map.specs.ScopeMap.{getIn}
 use Rattle.semantic.specs.Rows.{Blank, noItem}
-use Rattle.r7rs.specs.Binding.{Place, Use, top, walk, walkAll, events}
+use Rattle.r7rs.specs.Binding.{Place, Use, Event, top, walk, walkAll, events}
+use Rattle.tree.specs.Core.{core, cores}
+use Rattle.tree.specs.CoreLaws.{to-core}
 use Rattle.pass.specs.State.{Facts, Capture, noEntry}
 use Rattle.pass.specs.Visit.{enterTops}
 use Rattle.pass.specs.Run.{rowsMost, itemsMost, noFacts, start, run, fresh, settled}
@@ -19,7 +21,7 @@ use Rattle.pass.specs.Laws.Tops.{spread-top}
 use Rattle.pass.specs.Laws.Says.{usesIn, uses-then}
 use Rattle.pass.specs.Laws.Globals.{enteredAll}
 use Rattle.pass.specs.Laws.Presumed.{anyUses}
-use Rattle.pass.specs.Laws.Script.{Left, fresh-script, walk-top}
+use Rattle.pass.specs.Laws.Script.{Left, fresh-script, walk-top, walk-core, walk-cores}
 use Rattle.pass.specs.Laws.Bottoms.{cell, script-cells}
 use Rattle.pass.specs.Laws.Idle.{tops-idle}
 use Rattle.execution.specs.Exact.Nine.{run-nine}
@@ -51,11 +53,27 @@ module _ (U : List Use) (G : ℕ → List Use) where
   unfolding _⊕_ Bounded walk
   one before p t us a b = (a, b)
 
-  begins : (before : List Use) (p : Place) (n : Node) (es us : Trees) → Bounded U G before p (begin n es)
-      → BoundedAll U G (before ++ usesIn (walk (begin n es) p)) p us
-      → BoundedAll U G before p (es ⊕ us)
+  -- of a tree, for what it is
+  bounded-core : (before : List Use) (p : Place) (t : Tree) → Bounded U G before p t → Bounded U G before p (core t)
+  unfolding Bounded
+  bounded-core before p t a = to-core (Bounded U G before p) (λ n a. tt) (λ n u a. a .0) t a
+
+  bounded-cores : (before : List Use) (p : Place) (ts : Trees) → BoundedAll U G before p ts → BoundedAll U G before p (cores ts)
+  unfolding Bounded
+  bounded-cores before p nil a = tt
+  bounded-cores before p (cons t ts) a = (
+    bounded-core before p t (a .0),
+    bounded-cores (before ++ usesIn (walk (core t) p)) p ts (subst (λ (l : List Event). BoundedAll U G (before ++ usesIn l) p ts) (sym (walk-core t p)) (a .1)),
+  )
+
+  -- a top-level begin's children
+  inside : (before : List Use) (p : Place) (n : Node) (es us : Trees) → Bounded U G before p (sequence (begins n) es)
+      → BoundedAll U G (before ++ usesIn (walk (sequence (begins n) es) p)) p us
+      → BoundedAll U G before p (cores es ⊕ us)
   unfolding Bounded walk
-  begins before p n es us a b = bounded-⊕ before p es us a b
+  inside before p n es us a b =
+      bounded-⊕ before p (cores es) us (bounded-cores before p es a)
+      (subst (λ (l : List Event). BoundedAll U G (before ++ usesIn l) p us) (sym (walk-cores es p)) b)
 
   bounded-of : (before : List Use) (p : Place) (t : Tree) (us : Trees) → Bounded U G before p t → BoundedAll U G (before ++ usesIn (walk t p)) p us
       → BoundedAll U G before p (topOf t ⊕ us)
@@ -66,14 +84,18 @@ module _ (U : List Use) (G : ℕ → List Use) where
   bounded-of before p (letin n xs es c) us a b = one before p (letin n xs es c) us a b
   bounded-of before p (define n x c) us a b = one before p (define n x c) us a b
   bounded-of before p (lambda n xs c) us a b = one before p (lambda n xs c) us a b
-  bounded-of before p (begin n es) us a b = begins before p n es us a b
+  bounded-of before p (sequence (begins n) es) us a b = inside before p n es us a b
+  bounded-of before p (sequence (ands n) es) us a b = one before p (sequence (ands n) es) us a b
+  bounded-of before p (sequence (whens q n) es) us a b = one before p (sequence (whens q n) es) us a b
   bounded-of before p (call n h es) us a b = one before p (call n h es) us a b
   bounded-of before p (set! n x e) us a b = one before p (set! n x e) us a b
 
   bounded-top : (before : List Use) (p : Place) (ts : Trees) → BoundedAll U G before p ts → BoundedAll U G before p (topLevel ts)
   unfolding topLevel Bounded
   bounded-top before p nil b = tt
-  bounded-top before p (cons t ts) b = bounded-of before p t (topLevel ts) (b .0) (bounded-top (before ++ usesIn (walk t p)) p ts (b .1))
+  bounded-top before p (cons t ts) b =
+      bounded-of before p (core t) (topLevel ts) (bounded-core before p t (b .0))
+      (subst (λ (l : List Event). BoundedAll U G (before ++ usesIn l) p (topLevel ts)) (sym (walk-core t p)) (bounded-top (before ++ usesIn (walk t p)) p ts (b .1)))
 
 -- The script of a first run
 

@@ -6,7 +6,7 @@ use mathlib.Core.Path.{_≡_, refl, ap, sym, _∙_}
 use native.Mathlib.Omega.{arith}
 use lib.ListN.{length, getElem?, length-map}
 use Rattle.tree.specs.Record.{Record}
-use Rattle.tree.specs.Tree.{Ident, Tree, Trees, ident, const, if, letin, define, lambda, begin, call, set!, nil, cons, many, head, named, bit, flat, flats, size, sizes, NumNames, Num, Nums}
+use Rattle.tree.specs.Tree.{Ident, Tree, Trees, ident, const, if, letin, define, lambda, sequence, call, set!, nil, cons, many, head, named, bit, flat, flats, size, sizes, NumNames, Num, Nums, nodeIn, formIn}
 use Rattle.tree.specs.TreeLaws.{length-flat, length-flats}
 use Rattle.tree.specs.Accepted.{Accepted}
 use Rattle.semantic.specs.Rows.{Row}
@@ -29,7 +29,7 @@ unfoldable mutual
   marks (letin n xs es b) h = (head 4 n 0 (length xs), 0) ∷ (markNames xs h ++ (marksRising es h ++ marks b (h + length xs)))
   marks (define n x b) h = (head 5 n 0 0, 0) ∷ (named x, 0) ∷ marks b h
   marks (lambda n xs b) h = (head 6 n 0 (length xs), 0) ∷ (markNames xs 0 ++ marks b (length xs))
-  marks (begin n es) h = (head 7 n 0 (many es), 0) ∷ marksAll es h
+  marks (sequence n es) h = (head (formIn n) (nodeIn n) 0 (many es), 0) ∷ marksAll es h
   marks (call n f es) h = (head 8 n 0 (suc (many es)), 0) ∷ (marks f (h + many es) ++ marksRising es h)
   marks (set! n x e) h = (head 9 n 0 0, 0) ∷ (named x, 0) ∷ marks e h
 
@@ -60,7 +60,7 @@ mutual
   marks-records (letin n xs es b) h = simp (map-append, names-records xs h, rising-records es h, marks-records b (h + length xs))
   marks-records (define n x b) h = simp (marks-records b h)
   marks-records (lambda n xs b) h = simp (map-append, names-records xs 0, marks-records b (length xs))
-  marks-records (begin n es) h = simp (all-records es h)
+  marks-records (sequence n es) h = simp (all-records es h)
   marks-records (call n f es) h = simp (map-append, marks-records f (h + many es), rising-records es h)
   marks-records (set! n x e) h = simp (marks-records e h)
 
@@ -129,7 +129,7 @@ module _ (ts : Trees) (T : List Row) where
     Placed (letin n xs es b) h = PlacedRising es h × StandAll xs h × Placed b (h + length xs)
     Placed (define n x b) h = Placed b h
     Placed (lambda n xs b) h = StandAll xs 0 × Placed b (length xs)
-    Placed (begin n es) h = PlacedAll es h
+    Placed (sequence n es) h = PlacedAll es h
     Placed (call n f es) h = PlacedRising es h × Placed f (h + many es)
     Placed (set! n x e) h = Placed e h
 
@@ -170,7 +170,7 @@ module _ (ts : Trees) (T : List Row) where
       place (lambda m xs b) h i n f =
           let (fx, fb) = from-append (markNames xs 0) (ap (i + 1 +_) (length-names xs 0)) (from-tail f) in
           (stand-all xs 0 (i + 1) (n .1) fx, place b (length xs) (i + 1 + length xs) (n .2) fb)
-      place (begin m es) h i n f = place-all es h (i + 1) (n .1) (from-tail f)
+      place (sequence m es) h i n f = place-all es h (i + 1) (n .1) (from-tail f)
       place (call m g es) h i n f =
           let (fg, fe) = from-append (marks g (h + many es)) (ap (i + 1 +_) (length-marks g (h + many es))) (from-tail f) in
           (place-rising es h (i + 1 + size g) (n .2) fe, place g (h + many es) (i + 1) (n .1) fg)

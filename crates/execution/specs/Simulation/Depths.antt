@@ -10,7 +10,7 @@ use Rattle.tree.specs.Accepted.{All}
 use Rattle.tree.specs.Acceptance.Tests.{all-map}
 use Rattle.semantic.specs.Rows.{Row, Variable}
 use Rattle.semantic.specs.declared.SemanticInformation.{SemanticInformation}
-use Rattle.pass.specs.Static.{Bound, Ctx, letDepth, isCell, Ref, ref-cell, ref-own, ref-outer, Aim, aim-cell, aim-own, aim-outer, r-ident, r-const, r-if, r-let, r-define, r-lambda, r-begin, r-call, r-set, Args, a-nil, a-cons, Seq, s-nil, s-one, s-more}
+use Rattle.pass.specs.Static.{Bound, Ctx, letDepth, isCell, Ref, ref-cell, ref-own, ref-outer, Aim, aim-cell, aim-own, aim-outer, r-ident, r-const, r-if, r-let, r-define, r-lambda, r-begin, r-call, r-set, Args, a-nil, a-cons, Seq, s-nil, s-one, s-more, r-and, r-when, r-no-test}
 use Rattle.execution.specs.Facts.{rowOf}
 use Rattle.execution.specs.Lock.{idents, identsIn}
 use Rattle.execution.specs.Simulation.Lists.{all-append}
@@ -51,6 +51,9 @@ module _ (ts : Trees) (T : List Row) (M : ℕ → Bool) where
       deep (r-define r) l = deep r l
       deep (r-lambda e p nt r) l = deep r (omega arith)
       deep (r-begin s) l = deep-seq s l
+      deep (r-and s) l = deep-seq s l
+      deep r-no-test l = tt
+      deep (r-when {e = e} r s) l = join (idents e) _ (deep r l) (deep-seq s l)
       deep (r-call {f = f} ar r p) l = join (idents f) _ (deep r l) (deep-args ar l)
       deep (r-set {x = x} r e a) l = (deep-at (x .at) e (deep-aim l a), deep r l)
 

@@ -11,7 +11,7 @@ use Rattle.r7rs.specs.Machine.{Cells, kend}
 use Rattle.r7rs.specs.Plain.{Env, PVal, Store, PKont, mem, body, plainly}
 use Rattle.r7rs.specs.Steps
 use Rattle.semantic.specs.Rows.{Row}
-use Rattle.pass.specs.Static.{Ctx, r-ident, r-const, r-if, r-let, r-define, r-lambda, r-begin, r-call, r-set, s-nil, s-one, s-more, Top}
+use Rattle.pass.specs.Static.{Ctx, r-ident, r-const, r-if, r-let, r-define, r-lambda, r-begin, r-call, r-set, s-nil, s-one, s-more, Top, r-and, r-when, r-no-test}
 use Rattle.execution.specs.Slot.{SVal, SMem, SKont, frames, bySlots}
 use Rattle.execution.specs.Simulation.Binders.{Placed, PlacedAll}
 use Rattle.execution.specs.Simulation.Scope.{entering, sc-nil}
@@ -34,6 +34,11 @@ module _ (ts : Trees) (T : List Row) (M : ℕ → Bool) where
   hands o S (r-begin s-nil) pl r hd = each a-unit
   hands o S (r-begin (s-one e)) pl r hd = hd
   hands o S (r-begin (s-more e s)) pl r hd = hd
+  hands o S (r-and s-nil) pl r hd = each a-const
+  hands o S (r-and (s-one e)) pl r hd = hd
+  hands o S (r-and (s-more e s)) pl r hd = hd
+  hands o S r-no-test pl r hd = each a-unit
+  hands o S (r-when e s) pl r hd = hd
   hands o S (r-call ar f p) pl r hd = hd
   hands o S (r-set b e a) pl r hd = hd
 

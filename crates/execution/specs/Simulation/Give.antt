@@ -7,17 +7,17 @@ use mathlib.Core.Path.{_≡_, refl}
 use native.Mathlib.Omega.{arith}
 use lib.ListN.{length, drop, length-append}
 use Rattle.tree.specs.Tree.{Tree, Trees}
-use Rattle.r7rs.specs.Machine.{After, Kont, kend, kif, kseq, kpush, khead, kdrop, kret, kset, kdef, Cells, lastN, butN}
-use Rattle.r7rs.specs.Plain.{Env, PVal, punit, Store, PMem, PBody, PKont, mem, body, plainly}
+use Rattle.r7rs.specs.Machine.{After, Kont, kend, kif, kseq, kand, kwhen, kpush, khead, kdrop, kret, kset, kdef, runs, Cells, lastN, butN}
+use Rattle.r7rs.specs.Plain.{Env, PVal, punit, Store, PMem, PBody, PKont, mem, body, plainly, POut}
 use Rattle.r7rs.specs.Plain
 use Rattle.r7rs.specs.Steps
 use Rattle.semantic.specs.Rows.{Row}
-use Rattle.pass.specs.Static.{Ctx, s-one, s-more, top-nil, top-cons}
-use Rattle.execution.specs.Slot.{SVal, sunit, SBody, SMem, SKont, frames, bySlots}
+use Rattle.pass.specs.Static.{Ctx, s-nil, s-one, s-more, top-nil, top-cons}
+use Rattle.execution.specs.Slot.{SVal, sunit, SBody, SMem, SKont, frames, bySlots, SOut}
 use Rattle.execution.specs.Slot
 use Rattle.execution.specs.Simulation.Lists.{but-push, last-push}
 use Rattle.execution.specs.Simulation.Binders.{Placed}
-use Rattle.execution.specs.Simulation.Relation.{Expr, Alike, a-const, a-unit, a-clo, AlikeAll, alike-nil, alike-cons, AlikeHand, neither, each, AlikeCells, Held, Deep, Through, through-here, through-drop, Waits, w-body, w-if, w-seq, w-push, w-head, w-drop, w-set, w-def, Pushing, pushing, Returns, r-end, r-live, r-dead, b-pushed, Same, s-next, s-ended, s-stopped}
+use Rattle.execution.specs.Simulation.Relation.{Expr, Alike, a-const, a-unit, a-clo, AlikeAll, alike-nil, alike-cons, AlikeHand, neither, each, AlikeCells, Held, Deep, Through, through-here, through-drop, Waits, w-body, w-if, w-seq, w-and, w-when, w-push, w-head, w-drop, w-set, w-def, Pushing, pushing, Returns, r-end, r-live, r-dead, b-pushed, Same, s-next, s-ended, s-stopped}
 use Rattle.execution.specs.Simulation.Frames.{held-push, held-up, held-drop}
 use Rattle.execution.specs.Simulation.Sets.{cells-fill}
 use Rattle.execution.specs.Simulation.Depths.{deep-drop}
@@ -29,6 +29,8 @@ abbrev size : {B : Type 0} → Kont B → ℕ
 size (kend es) = 1
 size (kif t e k) = suc (size k)
 size (kseq e es k) = suc (size k)
+size (kand e es k) = suc (size k)
+size (kwhen q es k) = suc (size k)
 size (kpush i w n es k) = suc (size k)
 size (khead i n k) = suc (size k)
 size (kdrop n k) = suc (size k)
@@ -40,6 +42,8 @@ size-pos : {B : Type 0} (k : Kont B) → 1 ≤ size k
 size-pos (kend es) = omega arith
 size-pos (kif t e k) = omega arith
 size-pos (kseq e es k) = omega arith
+size-pos (kand e es k) = omega arith
+size-pos (kwhen q es k) = omega arith
 size-pos (kpush i w n es k) = omega arith
 size-pos (khead i n k) = omega arith
 size-pos (kdrop n k) = omega arith
@@ -76,6 +80,11 @@ module _ (ts : Trees) (T : List Row) (M : ℕ → Bool) where
   same-false a-unit = refl
   same-false (a-clo Γ d hi l n b ns) = refl
 
+  -- one of two outcomes
+  either : {x y : SOut} {x′ y′ : POut} (b : Bool) → Same ts T M x x′ → Same ts T M y y′ → Same ts T M (cond b x y) (cond b x′ y′)
+  either true p q = p
+  either false p q = q
+
   -- a body that is done but for its lets gives a value on
 
   through-size : {pk pk′ : PKont} → Through ts T M pk pk′ → size pk′ ≤ size pk
@@ -103,6 +112,15 @@ module _ (ts : Trees) (T : List Row) (M : ℕ → Bool) where
         rw (same-false a) (enter ts T M (branch (Expr ts T M Γ d h t) b c f x y) (branch (λ e. Placed ts T e h) b c f p q) dp r wt (each a) cs)
     give-bounded (suc k) l (w-seq (s-one x) p wt) dp r a cs = enter ts T M x (p .0) dp r wt (each a) cs
     give-bounded (suc k) l (w-seq (s-more x s) p wt) dp r a cs = enter ts T M x (p .0) dp r (w-seq s (p .1) wt) (each a) cs
+    give-bounded (suc k) {w = w} l (w-and (s-one x) p wt) dp r a cs =
+        rw (same-false a) (either (Plain.isFalse w) (give-bounded k (omega arith) wt dp r a-const cs) (enter ts T M x (p .0) dp r wt (each a) cs))
+    give-bounded (suc k) {w = w} l (w-and (s-more x s) p wt) dp r a cs =
+        rw (same-false a) (either (Plain.isFalse w) (give-bounded k (omega arith) wt dp r a-const cs) (enter ts T M x (p .0) dp r (w-and s (p .1) wt) (each a) cs))
+    give-bounded (suc k) l (w-when s-nil p wt) dp r a cs = give-bounded k (omega arith) wt dp r a-unit cs
+    give-bounded (suc k) {w = w} l (w-when {q = q} (s-one x) p wt) dp r a cs =
+        rw (same-false a) (either (runs q (Plain.isFalse w)) (enter ts T M x (p .0) dp r wt (each a) cs) (give-bounded k (omega arith) wt dp r a-unit cs))
+    give-bounded (suc k) {w = w} l (w-when {q = q} (s-more x s) p wt) dp r a cs =
+        rw (same-false a) (either (runs q (Plain.isFalse w)) (enter ts T M x (p .0) dp r (w-seq s (p .1) wt) (each a) cs) (give-bounded k (omega arith) wt dp r a-unit cs))
     give-bounded (suc k) {σ = σ} {v = v} l (w-push p) dp r a cs = s-next (b-pushed dp (held-push ts T M σ v r) (push-more a p) (each a) cs)
     give-bounded (suc k) l (w-head p) dp r a cs = applies ts T M p dp r a cs
     give-bounded (suc k) {σ = σ} l (w-drop {n = n} xs nl Γe de tall sc layer wt) dp r a cs =

@@ -15,7 +15,7 @@ use Rattle.semantic.specs.Rows.{Row, Variable}
 use Rattle.semantic.specs.declared.IdentifierStatus.{IdentifierStatus}
 use Rattle.semantic.specs.declared.IdentifierStatus.the-variants.{Global, Local, LocallyDefinedFunction, LetVar, Captured, Free, HeapAllocated}
 use Rattle.semantic.specs.declared.SemanticInformation.{SemanticInformation}
-use Rattle.pass.specs.Static.{Bound, Ctx, find, enterAll, isCell, isOwn, Refers, Ref, ref-own, ref-outer, Aim, aim-own, aim-outer, Args, a-nil, a-cons, Seq, s-nil, s-one, s-more, r-ident, r-const, r-if, r-let, r-define, r-lambda, r-begin, r-call, r-set, Top, top-nil, top-cons}
+use Rattle.pass.specs.Static.{Bound, Ctx, find, enterAll, isCell, isOwn, Refers, Ref, ref-own, ref-outer, Aim, aim-own, aim-outer, Args, a-nil, a-cons, Seq, s-nil, s-one, s-more, r-ident, r-const, r-if, r-let, r-define, r-lambda, r-begin, r-call, r-set, Top, top-nil, top-cons, r-and, r-when, r-no-test}
 use Rattle.execution.specs.Facts.{frameIn, rowOf, home}
 use Rattle.execution.specs.Simulation.Lists.{all-append, all-member}
 use Rattle.execution.specs.Simulation.Binders.{slotAt, Placed, PlacedRising, PlacedAll}
@@ -140,6 +140,9 @@ module _ (ts : Trees) (T : List Row) (M : ℕ → Bool) where
         (told here r (pl .1) (sides-enter false 0 0 (lambdaBody n (length xs) p) (entering ts T (omega arith) nt (pl .0)) s) (omega arith))
         (tt, tt))
     told p (r-begin r) pl s l = told-seq p r pl s l
+    told p (r-and r) pl s l = told-seq p r pl s l
+    told p r-no-test pl s l = tt
+    told p (r-when {e = e} r q) pl s l = join (walk e p) _ (told p r (pl .0) s l) (told-seq p q (pl .1) s l)
     told p (r-call {es = es} ar f imp) pl s l =
         join (walkArguments es p) _ (told-args p ar (pl .0) s l) (told (raised (many es) p) f (pl .1) s l)
     told p (r-set {x = x} {e = e} r q a) pl s l = join (walk e p) _ (told p r pl s l) (told-aim (x .at) q (side s (x .name)) a, tt)

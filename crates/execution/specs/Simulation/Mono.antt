@@ -13,7 +13,7 @@ use Rattle.semantic.specs.Rows.{Row}
 use Rattle.pass.specs.Static.{Ctx}
 use Rattle.execution.specs.Slot.{SVal, SMem, SKont}
 use Rattle.execution.specs.Simulation.Lists.{at-append}
-use Rattle.execution.specs.Simulation.Relation.{Tag, Alike, a-const, a-unit, a-clo, Names, no-names, keep, skip, AlikeAll, alike-nil, alike-cons, AlikeHand, neither, each, AlikeCells, Held, Waits, w-body, w-if, w-seq, w-push, w-head, w-drop, w-set, w-def, Pushing, pushing, Returns, r-end, r-live, r-dead}
+use Rattle.execution.specs.Simulation.Relation.{Tag, Alike, a-const, a-unit, a-clo, Names, no-names, keep, skip, AlikeAll, alike-nil, alike-cons, AlikeHand, neither, each, AlikeCells, Held, Waits, w-body, w-if, w-seq, w-and, w-when, w-push, w-head, w-drop, w-set, w-def, Pushing, pushing, Returns, r-end, r-live, r-dead}
 
 module _ (ts : Trees) (T : List Row) (M : ℕ → Bool) where
   -- τ holds what σ holds wherever it may not be set or lies below lim, and locations stay those of the same names
@@ -71,6 +71,8 @@ module _ (ts : Trees) (T : List Row) (M : ℕ → Bool) where
       waits (w-body e r) l = w-body e (returns r l)
       waits (w-if b p c q w) l = w-if b p c q (waits w l)
       waits (w-seq s p w) l = w-seq s p (waits w l)
+      waits (w-and s p w) l = w-and s p (waits w l)
+      waits (w-when s p w) l = w-when s p (waits w l)
       waits (w-push p) l = w-push (pushes p l)
       waits (w-head p) l = w-head (pushes p l)
       waits (w-drop xs n Γ d t s o w) l = w-drop xs n Γ d t s o (waits w l)

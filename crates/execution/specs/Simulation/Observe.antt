@@ -20,7 +20,7 @@ use Rattle.execution.specs.Lock.{idents, Asked, EachName, Like, LikeIn, 
 use Rattle.execution.specs.Simulation.Lists.{all-member}
 use Rattle.execution.specs.Simulation.Binders.{slotAt}
 use Rattle.execution.specs.Simulation.Scope.{Housed, Scope, sc-own, sc-outer}
-use Rattle.execution.specs.Simulation.Relation.{Tag, slotOf, readIn, Alike, a-const, a-unit, a-clo, Names, keep, skip, AlikeAll, alike-nil, alike-cons, AlikeHand, neither, each, AlikeCells, Held, DeepAt, Deep, Through, through-here, through-drop, Waits, w-body, w-if, w-seq, w-push, w-head, w-drop, w-set, w-def, Pushing, pushing, Returns, r-end, r-live, r-dead, Both, b-start, b-enter, b-read, b-pushed, Same, s-next, s-ended, s-stopped}
+use Rattle.execution.specs.Simulation.Relation.{Tag, slotOf, readIn, Alike, a-const, a-unit, a-clo, Names, keep, skip, AlikeAll, alike-nil, alike-cons, AlikeHand, neither, each, AlikeCells, Held, DeepAt, Deep, Through, through-here, through-drop, Waits, w-body, w-if, w-seq, w-and, w-when, w-push, w-head, w-drop, w-set, w-def, Pushing, pushing, Returns, r-end, r-live, r-dead, Both, b-start, b-enter, b-read, b-pushed, Same, s-next, s-ended, s-stopped}
 use Rattle.execution.specs.Simulation.Frames.{unpack-pack}
 use Rattle.execution.specs.Simulation.Depths.{deep-body}
 use Rattle.execution.specs.Simulation.Meant.{Says}
@@ -117,6 +117,8 @@ module _ (ts : Trees) (T : List Row) (M : ℕ → Bool) (told : (i b : ℕ) → 
       bodies-wait (w-body e r) = bodies-return r
       bodies-wait (w-if b p c q w) = bodies-wait w
       bodies-wait (w-seq s p w) = bodies-wait w
+      bodies-wait (w-and s p w) = bodies-wait w
+      bodies-wait (w-when s p w) = bodies-wait w
       bodies-wait (w-push p) = bodies-push p
       bodies-wait (w-head p) = bodies-push p
       bodies-wait (w-drop xs n Γ d t s o w) = bodies-wait w
@@ -156,6 +158,8 @@ module _ (ts : Trees) (T : List Row) (M : ℕ → Bool) (told : (i b : ℕ) → 
       pushed-wait {F = F} {pk = pk} (w-body e r) = rw (e, append-nil (pushedP pk)) (pushed-return F r)
       pushed-wait (w-if b p c q w) = pushed-wait w
       pushed-wait (w-seq s p w) = pushed-wait w
+      pushed-wait (w-and s p w) = pushed-wait w
+      pushed-wait (w-when s p w) = pushed-wait w
       pushed-wait (w-push p) = pushed-push p
       pushed-wait (w-head p) = pushed-push p
       pushed-wait (w-drop xs n Γ d t s o w) = pushed-wait w

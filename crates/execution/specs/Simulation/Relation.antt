@@ -8,7 +8,7 @@ use mathlib.Core.Path.{_≡_}
 use lib.ListN.{length, drop, getElem?}
 use Rattle.tree.specs.Tree.{Ident, Tree, Trees, nil, cons, many}
 use Rattle.tree.specs.Accepted.{All}
-use Rattle.r7rs.specs.Machine.{After, toHead, toBody, Moment, start, entered, read, pushed, kend, kif, kseq, kpush, khead, kdrop, kret, kset, kdef, next, ended, stopped, state, Cells, lastN, butN}
+use Rattle.r7rs.specs.Machine.{After, toHead, toBody, Moment, start, entered, read, pushed, kend, kif, kseq, kand, kwhen, kpush, khead, kdrop, kret, kset, kdef, next, ended, stopped, state, Cells, lastN, butN}
 use Rattle.r7rs.specs.Plain.{Env, PVal, pconst, punit, pclo, Store, PBody, PKont, POut, mem, body}
 use Rattle.r7rs.specs.Run.{noBody}
 use Rattle.semantic.specs.Rows.{Row, Variable}
@@ -120,6 +120,12 @@ module _ (ts : Trees) (T : List Row) (M : ℕ → Bool) where
       w-seq : {t : Bool} {Γ : Ctx} {d h lo : ℕ} {F : List SVal} {ρ : Env} {S : List PVal} {sk : SKont} {pk : PKont} {e : Tree} {es : Trees}
           → Seq T (presumed M) Γ d h t (cons e es) → PlacedAll ts T (cons e es) h
           → Waits σ t Γ d h lo F ρ S sk pk → Waits σ false Γ d h lo F ρ S (kseq e es sk) (kseq e es pk)
+      w-and : {t : Bool} {Γ : Ctx} {d h lo : ℕ} {F : List SVal} {ρ : Env} {S : List PVal} {sk : SKont} {pk : PKont} {e : Tree} {es : Trees}
+          → Seq T (presumed M) Γ d h t (cons e es) → PlacedAll ts T (cons e es) h
+          → Waits σ t Γ d h lo F ρ S sk pk → Waits σ false Γ d h lo F ρ S (kand e es sk) (kand e es pk)
+      w-when : {t q : Bool} {Γ : Ctx} {d h lo : ℕ} {F : List SVal} {ρ : Env} {S : List PVal} {sk : SKont} {pk : PKont} {es : Trees}
+          → Seq T (presumed M) Γ d h t es → PlacedAll ts T es h
+          → Waits σ t Γ d h lo F ρ S sk pk → Waits σ false Γ d h lo F ρ S (kwhen q es sk) (kwhen q es pk)
       w-push : {Γ : Ctx} {d h lo : ℕ} {F : List SVal} {ρ : Env} {S : List PVal} {sk : SKont} {pk : PKont} {i n : ℕ} {w : After} {es : Trees}
           → Pushing σ Γ d lo F ρ S w n (suc n) es sk pk → Waits σ false Γ d h lo F ρ S (kpush i w n es sk) (kpush i w n es pk)
       w-head : {Γ : Ctx} {d h lo : ℕ} {F : List SVal} {ρ : Env} {S : List PVal} {sk : SKont} {pk : PKont} {i n : ℕ} {f : Tree}

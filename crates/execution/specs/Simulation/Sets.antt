@@ -18,7 +18,7 @@ use Rattle.execution.specs.Slot.{SVal, SMem, SKont}
 use Rattle.execution.specs.Simulation.Lists.{at-set-same, at-set-other, last-set, but-set, but-set-above}
 use Rattle.execution.specs.Simulation.Binders.{PlacedRising}
 use Rattle.execution.specs.Simulation.Scope.{let-same, Housed, Scope, sc-nil, sc-own, sc-outer, In, in-enter, in-housed, in-below}
-use Rattle.execution.specs.Simulation.Relation.{presumed, Tag, readIn, Then, Alike, Names, no-names, keep, skip, AlikeAll, AlikeHand, each, AlikeCells, Held, Waits, w-body, w-if, w-seq, w-push, w-head, w-drop, w-set, w-def, Pushing, pushing}
+use Rattle.execution.specs.Simulation.Relation.{presumed, Tag, readIn, Then, Alike, Names, no-names, keep, skip, AlikeAll, AlikeHand, each, AlikeCells, Held, Waits, w-body, w-if, w-seq, w-and, w-when, w-push, w-head, w-drop, w-set, w-def, Pushing, pushing}
 use Rattle.execution.specs.Simulation.Mono
 use Rattle.execution.specs.Simulation.Mono.{Grown}
 use Rattle.execution.specs.Simulation.Read.{own-read, outer-read, At, at-here, at-there, at-in}
@@ -62,6 +62,8 @@ module _ (ts : Trees) (T : List Row) (M : ℕ → Bool) where
       waits-set i p (w-body q r) = w-body q r
       waits-set i p (w-if b q c r w) = w-if b q c r (waits-set i p w)
       waits-set i p (w-seq s q w) = w-seq s q (waits-set i p w)
+      waits-set i p (w-and s q w) = w-and s q (waits-set i p w)
+      waits-set i p (w-when s q w) = w-when s q (waits-set i p w)
       waits-set i p (w-push q) = w-push (pushing-set i p q)
       waits-set i p (w-head q) = w-head (pushing-set i p q)
       waits-set i p (w-drop {d′ = d′} {h = h} {F = F} {n = n} xs nl Γe de tall sc layer w) =

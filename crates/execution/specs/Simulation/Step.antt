@@ -12,12 +12,12 @@ use Rattle.r7rs.specs.Plain.{Env, PVal, Store, PMem, PBody, PKont, POut, mem, b
 use Rattle.r7rs.specs.Steps
 use Rattle.r7rs.specs.Run.{Ran, tried, more, run, plain}
 use Rattle.semantic.specs.Rows.{Row}
-use Rattle.pass.specs.Static.{Ctx, Args, a-nil, a-cons, r-ident, r-const, r-if, r-let, r-define, r-lambda, r-begin, r-call, r-set, s-nil, s-one, s-more, Top, top-nil, top-cons}
+use Rattle.pass.specs.Static.{Ctx, Args, a-nil, a-cons, r-ident, r-const, r-if, r-let, r-define, r-lambda, r-begin, r-call, r-set, s-nil, s-one, s-more, Top, top-nil, top-cons, r-and, r-when, r-no-test}
 use Rattle.execution.specs.Slot.{SVal, SBody, SMem, SKont, SOut, frames, slots, bySlots}
 use Rattle.execution.specs.Simulation.Lists.{drop-tail, last-none, but-none}
 use Rattle.execution.specs.Simulation.Binders.{Placed, PlacedRising, PlacedAll}
 use Rattle.execution.specs.Simulation.Scope.{let-two, entering}
-use Rattle.execution.specs.Simulation.Relation.{presumed, Expr, Then, then-head, then-body, a-unit, AlikeAll, alike-nil, AlikeHand, neither, each, AlikeCells, Held, Deep, Waits, w-if, w-seq, w-push, w-head, w-drop, w-set, w-def, Pushing, pushing, Both, b-start, b-enter, b-read, b-pushed, Same, s-next, s-ended, s-stopped}
+use Rattle.execution.specs.Simulation.Relation.{presumed, Expr, Then, then-head, then-body, a-unit, AlikeAll, alike-nil, AlikeHand, neither, each, AlikeCells, Held, Deep, Waits, w-if, w-seq, w-and, w-when, w-push, w-head, w-drop, w-set, w-def, Pushing, pushing, Both, b-start, b-enter, b-read, b-pushed, Same, s-next, s-ended, s-stopped}
 use Rattle.execution.specs.Simulation.Mono
 use Rattle.execution.specs.Simulation.Mono.{grown-append}
 use Rattle.execution.specs.Simulation.Read.{reads, gets-on}
@@ -90,6 +90,11 @@ module _ (ts : Trees) (T : List Row) (M : ℕ → Bool) where
   entered-on (r-begin s-nil) pl dp r wt hd cs = give ts T M hd dp r wt cs
   entered-on (r-begin (s-one e)) pl dp r wt hd cs = enter ts T M e (pl .0) dp r wt hd cs
   entered-on (r-begin (s-more e s)) pl dp r wt hd cs = enter ts T M e (pl .0) dp r (w-seq s (pl .1) wt) hd cs
+  entered-on (r-and s-nil) pl dp r wt hd cs = give ts T M hd dp r wt cs
+  entered-on (r-and (s-one e)) pl dp r wt hd cs = enter ts T M e (pl .0) dp r wt hd cs
+  entered-on (r-and (s-more e s)) pl dp r wt hd cs = enter ts T M e (pl .0) dp r (w-and s (pl .1) wt) hd cs
+  entered-on r-no-test pl dp r wt hd cs = give ts T M hd dp r wt cs
+  entered-on (r-when e s) pl dp r wt hd cs = enter ts T M e (pl .0) dp r (w-when s (pl .1) wt) hd cs
   entered-on (r-call {n = n} ar f imp) pl dp r wt hd cs =
       pushes (none-pushed ar (pl .0) (then-head f (pl .1) imp) r wt) dp r hd cs
   entered-on (r-set {v = v} b e a) pl dp r wt hd cs = enter ts T M b pl dp r (w-set v e a wt) hd cs

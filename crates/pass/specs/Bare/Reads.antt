@@ -6,6 +6,7 @@ use mathlib.Core.Option.{Option, none, some, Option·map}
 use mathlib.Core.Path.{_≡_, refl, ap, _∙_}
 use lib.Dec.{eqb}
 use Rattle.tree.specs.Tree.{Ident, Tree}
+use Rattle.tree.specs.Core.{core}
 use Rattle.scope_map.specs.ScopeMap.{ScopeMap, Live, hasAtTop}
 use Rattle.scope_map.specs.ScopeMap as scopeMap
 use Rattle.scope_map.specs.MapLaws.{mapValue, mapValues, mapLive, map-define, map-hasAtTop}
@@ -21,7 +22,7 @@ use Rattle.pass.specs.Read.{span, statusAt, isBuiltin, isRequired, noteL
 use Rattle.pass.specs.Bare.{bareIdent, bareFact, bareRow, bareEntry, bareCapture, bareState, bare, nowhere, _↝_}
 use Rattle.pass.specs.Bare.Maps.{map-cond}
 use Rattle.pass.specs.Bare.Steps.{bare-put, bare-depth, bare-newest, bare-id, bare-amend, bare-capture, bare-info, bare-entry, steps}
-use Rattle.pass.specs.Bare.Looks.{bare-looks}
+use Rattle.pass.specs.Bare.Looks.{bare-looks, bare-core}
 
 -- A name enters
 
@@ -66,14 +67,14 @@ module _ (k : IdentifierStatus) (a : ℕ) where
 
 module _ (classes : List ℕ) (k : IdentifierStatus) (a : ℕ) where
   is-made : (x : Ident) (b : Tree) (s : State)
-      → defineFact classes k a x b s ≡ made k a (idOf (newest s (x .name))) (isBuiltin classes b) (isRequired classes b) (depth s) (span x)
+      → defineFact classes k a x b s ≡ made k a (idOf (newest s (x .name))) (isBuiltin classes (core b)) (isRequired classes (core b)) (depth s) (span x)
   unfolding defineFact made
   is-made x b s = refl
 
   define-fact : (x : Ident) (b : Tree) (s : State) → bareFact (defineFact classes k a x b s) ≡ defineFact classes k a (bareIdent x) (bare b) (bareState s)
   define-fact x b s =
-      let l = bare-looks classes b in
-      rw (is-made x b s, is-made (bareIdent x) (bare b) (bareState s), bare-newest, bare-id, bare-depth, l .isBuiltin, l .isRequired)
+      let l = bare-looks classes (core b) in
+      rw (is-made x b s, is-made (bareIdent x) (bare b) (bareState s), bare-core b, bare-newest, bare-id, bare-depth, l .isBuiltin, l .isRequired)
       (bare-made k a _ _ _ _ _)
 
   pub bare-enter-define : (x : Ident) (b : Tree) → enterDefine classes k a x b ↝ enterDefine classes k a (bareIdent x) (bare b)
@@ -87,7 +88,7 @@ module _ (classes : List ℕ) where
 
   pub bare-enter-value : (x : Ident) (b : Tree) → enterTopLevelValue classes x b ↝ enterTopLevelValue classes (bareIdent x) (bare b)
   unfolding enterTopLevelValue
-  bare-enter-value x b s = simp (steps, bare-enter-define, bare-shadow, bare-looks classes b .alias)
+  bare-enter-value x b s = simp (steps, bare-enter-define, bare-shadow, bare-core b, bare-looks classes (core b) .alias)
 
 -- A name is read
 

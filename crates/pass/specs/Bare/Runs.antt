@@ -3,7 +3,7 @@ use Prim.Native.Nat.{ℕ}
 use mathlib.Core.List.{List}
 use mathlib.Core.Bool.{Bool, true, false}
 use mathlib.Core.Path.{_≡_, refl, ap, _∙_}
-use Rattle.tree.specs.Tree.{Ident, Tree, Trees, ident, const, if, letin, define, lambda, begin, call, set!, nil, cons}
+use Rattle.tree.specs.Tree.{Ident, Tree, Trees, ident, const, if, letin, define, lambda, sequence, call, set!, nil, cons}
 use Rattle.tree.specs.Define.{topLevel}
 use Rattle.scope_map.specs.MapLaws.{mapLive}
 use Rattle.semantic.specs.Information.{NONE}
@@ -14,10 +14,10 @@ use Rattle.pass.specs.Visit.{topFlags, isLambda, visit, enterTopLambda, 
 use Rattle.pass.specs.Run.{rowsMost, itemsMost, noFacts, start, run, fresh, settled}
 use Rattle.pass.specs.Bare.{bareIdent, bare, bares, bareRow, bareItem, bareEntry, bareFacts, bareState, _↝_}
 use Rattle.pass.specs.Bare.Maps.{map-replicate}
-use Rattle.pass.specs.Bare.Looks.{bare-looks, bare-tops}
+use Rattle.pass.specs.Bare.Looks.{bare-tops}
 use Rattle.pass.specs.Bare.Steps.{bare-context-set}
 use Rattle.pass.specs.Bare.Reads.{bare-enter-define, bare-enter-value}
-use Rattle.pass.specs.Bare.Visits.{bare-visit}
+use Rattle.pass.specs.Bare.Visits.{bare-visit, bare-lambda-is}
 
 module _ (classes : List ℕ) where
   -- Top level
@@ -32,9 +32,9 @@ module _ (classes : List ℕ) where
   enter-top (const n q) s = refl
   enter-top (if n a b c) s = refl
   enter-top (letin n xs es b) s = refl
-  enter-top (define n x b) s = rw (bare-looks classes b .isLambda) (top-lambda (isLambda b) x b s)
+  enter-top (define n x b) s = rw (bare-lambda-is classes b) (top-lambda (isLambda b) x b s)
   enter-top (lambda n xs b) s = refl
-  enter-top (begin n es) s = refl
+  enter-top (sequence n es) s = refl
   enter-top (call n h es) s = refl
   enter-top (set! n x e) s = refl
 
@@ -53,9 +53,9 @@ module _ (classes : List ℕ) where
   visit-top (const n q) s = refl
   visit-top (if n a b c) s = bare-visit classes (if n a b c) topFlags s
   visit-top (letin n xs es b) s = bare-visit classes (letin n xs es b) topFlags s
-  visit-top (define n x b) s = rw (bare-looks classes b .isLambda) (top-define (isLambda b) x b s)
+  visit-top (define n x b) s = rw (bare-lambda-is classes b) (top-define (isLambda b) x b s)
   visit-top (lambda n xs b) s = bare-visit classes (lambda n xs b) topFlags s
-  visit-top (begin n es) s = bare-visit classes (begin n es) topFlags s
+  visit-top (sequence n es) s = bare-visit classes (sequence n es) topFlags s
   visit-top (call n h es) s = bare-visit classes (call n h es) topFlags s
   visit-top (set! n x e) s = bare-visit classes (set! n x e) topFlags s
 

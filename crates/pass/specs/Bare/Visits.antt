@@ -5,15 +5,16 @@ use mathlib.Core.Bool.{Bool, true, false, cond}
 use mathlib.Core.Option.{Option, none, some, Option·map}
 use mathlib.Core.Path.{_≡_, refl, ap, sym, _∙_}
 use lib.ListN.{length, length-map}
-use Rattle.tree.specs.Tree.{Ident, Node, Tree, Trees, ident, const, if, letin, define, lambda, begin, call, set!, nil, cons, many}
+use Rattle.tree.specs.Tree.{Ident, Node, Tree, Trees, ident, const, if, letin, define, lambda, sequence, call, set!, nil, cons, many, begins, ands, whens}
+use Rattle.tree.specs.Core.{core, cores}
 use Rattle.semantic.specs.Information.{NONE}
 use Rattle.semantic.specs.Rows.{Row, Blank, Variable, Function, CallSite, Let}
 use Rattle.semantic.specs.declared.IdentifierStatus.the-variants.{Local, LocallyDefinedFunction}
 use Rattle.pass.specs.State.{Entry, State, withContext}
-use Rattle.pass.specs.Visit.{Flags, notTail, sameTail, pushed, letBodyFlags, bodyFlags, argumentFlags, isLambda, headFlags, isNil, childFlags, defineFlags, lastUseOf, sameIdent, markArgument, markArguments, refersIn, isSelf, callFact, markIfTail, endCall, clearContext, beforeDefine, afterDefine, enterIfLambda, enterChild, enterChildren, visit, visitArguments, visitChildren}
+use Rattle.pass.specs.Visit.{Flags, notTail, sameTail, pushed, letBodyFlags, bodyFlags, argumentFlags, isLambda, headFlags, isNil, childFlags, defineFlags, lastUseOf, sameIdent, markArgument, markArguments, refersIn, isSelf, callFact, markIfTail, endCall, clearContext, beforeDefine, afterDefine, enterIfLambda, enterChild, enterChildren, visit, visitArguments, visitChildren, inBegin, inAnd, isAlone, visitTested}
 use Rattle.pass.specs.Bare.{bareNode, bareIdent, bare, bares, bareRow, bareState, _↝_}
 use Rattle.pass.specs.Bare.Maps.{map-cond}
-use Rattle.pass.specs.Bare.Looks.{bare-many, bare-nil, bare-looks}
+use Rattle.pass.specs.Bare.Looks.{bare-many, bare-nil, bare-looks, bare-core, bare-cores}
 use Rattle.pass.specs.Bare.Steps.{bare-entry, bare-context-set, bare-context-back, steps}
 use Rattle.pass.specs.Bare.Reads.{bare-enter-define, bare-read, bare-mutate}
 use Rattle.pass.specs.Bare.Lambdas.{bare-enter-lambda, bare-leave-lambda}
@@ -47,7 +48,7 @@ mark-argument (if n a b c) s = refl
 mark-argument (letin n xs es b) s = refl
 mark-argument (define n x b) s = refl
 mark-argument (lambda n xs b) s = refl
-mark-argument (begin n es) s = refl
+mark-argument (sequence n es) s = refl
 mark-argument (call n h es) s = refl
 mark-argument (set! n x e) s = refl
 
@@ -75,13 +76,13 @@ call-fact (if m a b c) n tail k s = simp steps
 call-fact (letin m xs es b) n tail k s = simp steps
 call-fact (define m x b) n tail k s = simp steps
 call-fact (lambda m xs b) n tail k s = simp steps
-call-fact (begin m es) n tail k s = simp steps
+call-fact (sequence m es) n tail k s = simp steps
 call-fact (call m h es) n tail k s = simp steps
 call-fact (set! m x e) n tail k s = simp steps
 
 pub bare-end-call : (n : Node) (h : Tree) (es : Trees) (f : Flags) → endCall n h es f ↝ endCall (bareNode n) (bare h) (bares es) (bareFlags f)
 unfolding endCall
-bare-end-call n h es f s = simp (call-fact, if-tail, steps)
+bare-end-call n h es f s = rw (bare-core h, ← bare-cores es) (simp (call-fact, if-tail, steps))
 
 -- set!
 
@@ -95,6 +96,9 @@ clear-context x s =
 
 module _ (classes : List ℕ) where
   -- Define
+
+  pub bare-lambda-is : (b : Tree) → isLambda (bare b) ≡ isLambda b
+  bare-lambda-is b = rw (bare-core b) (bare-looks classes (core b) .isLambda)
 
   before-define : (direct l : Bool) (x : Ident) (b : Tree) → beforeDefine classes direct l x b ↝ beforeDefine classes direct l (bareIdent x) (bare b)
   unfolding bareState
@@ -121,9 +125,9 @@ module _ (classes : List ℕ) where
   enter-child (const n q) s = refl
   enter-child (if n a b c) s = refl
   enter-child (letin n xs es b) s = refl
-  enter-child (define n x b) s = rw (bare-looks classes b .isLambda) (if-lambda (isLambda b) x b s)
+  enter-child (define n x b) s = rw (bare-lambda-is b) (if-lambda (isLambda b) x b s)
   enter-child (lambda n xs b) s = refl
-  enter-child (begin n es) s = refl
+  enter-child (sequence n es) s = refl
   enter-child (call n h es) s = refl
   enter-child (set! n x e) s = refl
 
@@ -158,21 +162,46 @@ module _ (classes : List ℕ) where
   unfolding visit bare
   bare-define n x b p f s =
       after-define (f .direct) (isLambda b) s x b _
-      ∙ rw (p (defineFlags f) _, before-define (f .direct) (isLambda b) x b s, bare-looks classes b .isLambda)
+      ∙ rw (p (defineFlags f) _, before-define (f .direct) (isLambda b) x b s, bare-lambda-is b)
 
   bare-lambda : (n : Node) (xs : List Ident) (b : Tree) → BareVisit b → BareVisit (lambda n xs b)
   unfolding visit bare
   bare-lambda n xs b p f s =
       bare-leave-lambda n xs b (f .escape) _ ∙ rw (p (bodyFlags n (length xs) f) _, bare-enter-lambda n xs s, length-map xs bareIdent)
 
-  bare-begin : (n : Node) (es : Trees) → BareChildren es → BareVisit (begin n es)
+  bare-begin : (n : Node) (es : Trees) → BareChildren es → BareVisit (sequence (begins n) es)
   unfolding visit bare
-  bare-begin n es p f s = p f _ ∙ rw (enter-children es s)
+  bare-begin n es p f s = p (inBegin f) _ ∙ rw (enter-children (cores es) s, bare-cores es)
+
+  bare-and-flags : (es : Trees) (f : Flags) → inAnd (isAlone (bares es)) (bareFlags f) ≡ bareFlags (inAnd (isAlone es) f)
+  unfolding bare
+  bare-and-flags nil f = refl
+  bare-and-flags (cons t nil) f = refl
+  bare-and-flags (cons t (cons u us)) f = refl
+
+  bare-ands : (n : Node) (es : Trees) → BareChildren es → BareVisit (sequence (ands n) es)
+  unfolding visit bare
+  bare-ands n es p f s = rw (bare-and-flags es f) (p (inAnd (isAlone es) f) s)
+
+  abbrev BareTested : Trees → Type 0
+  BareTested ts = (f : Flags) → visitTested classes ts f ↝ visitTested classes (bares ts) (bareFlags f)
+
+  bare-when : (q : Bool) (n : Node) (es : Trees) → BareTested es → BareVisit (sequence (whens q n) es)
+  unfolding visit bare
+  bare-when q n es p f s = p f s
+
+  bare-no-test : BareTested nil
+  unfolding visit bare
+  bare-no-test f s = refl
+
+  bare-test : (t : Tree) (ts : Trees) → BareVisit t → BareChildren ts → BareTested (cons t ts)
+  unfolding visit bare
+  bare-test t ts p q f s = q (inBegin f) _ ∙ rw (enter-children (cores ts) _, bare-cores ts, p (notTail f) s)
 
   bare-call : (n : Node) (h : Tree) (es : Trees) → BareVisit h → BareArguments es → BareVisit (call n h es)
   unfolding visit bare
   bare-call n h es p q f s =
-      bare-end-call n h es f _ ∙ rw (p (headFlags h (many es) f) _, q (argumentFlags f) s, bare-looks classes h .isLambda, bare-many es)
+      bare-end-call n h es f _ ∙ rw (p (headFlags h (many es) f) _, q (argumentFlags f) s, bare-lambda-is h, bare-many es)
 
   bare-set : (n : Node) (x : Ident) (e : Tree) → BareVisit e → BareVisit (set! n x e)
   unfolding visit bare
@@ -208,7 +237,9 @@ module _ (classes : List ℕ) where
     bare-visit (letin n xs es b) = bare-let n xs es b (bare-arguments es) (bare-visit b)
     bare-visit (define n x b) = bare-define n x b (bare-visit b)
     bare-visit (lambda n xs b) = bare-lambda n xs b (bare-visit b)
-    bare-visit (begin n es) = bare-begin n es (bare-children es)
+    bare-visit (sequence (begins n) es) = bare-begin n es (bare-children es)
+    bare-visit (sequence (ands n) es) = bare-ands n es (bare-children es)
+    bare-visit (sequence (whens q n) es) = bare-when q n es (bare-tested es)
     bare-visit (call n h es) = bare-call n h es (bare-visit h) (bare-arguments es)
     bare-visit (set! n x e) = bare-set n x e (bare-visit e)
 
@@ -219,3 +250,7 @@ module _ (classes : List ℕ) where
     bare-children : (ts : Trees) → BareChildren ts
     bare-children nil = bare-none .1
     bare-children (cons t ts) = bare-child t ts (bare-visit t) (bare-children ts)
+
+    bare-tested : (ts : Trees) → BareTested ts
+    bare-tested nil = bare-no-test
+    bare-tested (cons t ts) = bare-test t ts (bare-visit t) (bare-children ts)

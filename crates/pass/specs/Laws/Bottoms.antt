@@ -8,7 +8,7 @@ use mathlib.Core.Path.{_≡_, refl, ap, sym, subst, _∙_}
 use native.Mathlib.Omega.{arith}
 use borrow.Author.Tests.{eqb-true, eqb-false, eq-eqb, lt-ltb, le-ltb}
 use lib.Dec.{eqb}
-use Rattle.tree.specs.Tree.{Ident, Tree, Trees, ident, const, if, letin, define, lambda, begin, call, set!, nil, cons, size, sizes, Num, Nums}
+use Rattle.tree.specs.Tree.{Ident, Tree, Trees, ident, const, if, letin, define, lambda, sequence, call, set!, nil, cons, size, sizes, Num, Nums}
 use Rattle.tree.specs.Define.{topLevel, innerDefines}
 use Rattle.tree.specs.Accepted.{All}
 use Rattle.scope_map.specs.ScopeMap.{Live, hasIn, replaceIn, getIn}
@@ -190,7 +190,7 @@ mentions-after k (define m x b) n =
     each-map _ _ (λ c q. record { from = omega (arith, q .from); after = (omega (arith, q .from), tt); below = omega (arith, q .below) }) (walk b top)
     (each-mention _ _ (walk b top) (placed (level b) (k + 2) b (n .2) top tt (λ i l u. omega arith)))
 mentions-after k (lambda m xs b) n = no-define k (lambda m xs b) n refl
-mentions-after k (begin m es) n = no-define k (begin m es) n refl
+mentions-after k (sequence m es) n = no-define k (sequence m es) n refl
 mentions-after k (call m h es) n = no-define k (call m h es) n refl
 mentions-after k (set! m x e) n = no-define k (set! m x e) n refl
 

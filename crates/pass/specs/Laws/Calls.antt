@@ -9,18 +9,19 @@ use native.Mathlib.Omega.{arith}
 use borrow.Author.Tests.{lt-ltb, eqb-true}
 use lib.ListN.{length, getD}
 use lib.Dec.{eqb, ltb}
-use Rattle.tree.specs.Tree.{Ident, Node, Tree, Trees, ident, const, if, letin, define, lambda, begin, call, set!, nil, cons, many, size, sizes, Num, Nums}
+use Rattle.tree.specs.Tree.{Ident, Node, Tree, Trees, ident, const, if, letin, define, lambda, sequence, call, set!, nil, cons, many, size, sizes, Num, Nums, begins, ands, whens}
 use Rattle.tree.specs.Define.{topLevel}
 use Rattle.tree.specs.Accepted.{All}
 use Rattle.semantic.specs.Information.{NONE}
 use Rattle.semantic.specs.Rows.{Row, Blank, CallSite}
 use Rattle.semantic.specs.declared.CallSiteInformation.{CallSiteInformation}
-use Rattle.r7rs.specs.Tail.{Call, calls, callsIn, callsLast}
+use Rattle.r7rs.specs.Tail.{Call, calls, callsIn, callsLast, callsTested}
+use Rattle.tree.specs.Core.{core, cores}
 use Rattle.pass.specs.State.{Facts, State, withContext, insert, rowAt, depth}
 use Rattle.pass.specs.Static.{letDepth, isTail}
-use Rattle.pass.specs.TailPosition.{isConstant}
+use Rattle.pass.specs.TailPosition.{isConstant, isConstantForm}
 use Rattle.pass.specs.Lambda.{atBottom, enterLambda, enterLet}
-use Rattle.pass.specs.Visit.{Flags, topFlags, notTail, sameTail, pushed, letBodyFlags, bodyFlags, argumentFlags, isLambda, headFlags, childFlags, defineFlags, callKind, callFact, isSelf, markIfTail, endCall, visit, visitArguments, visitChildren, visitTopDefine, visitTop, visitTops}
+use Rattle.pass.specs.Visit.{Flags, topFlags, notTail, sameTail, pushed, letBodyFlags, bodyFlags, argumentFlags, isLambda, headFlags, childFlags, defineFlags, callKind, callFact, isSelf, markIfTail, endCall, visit, visitArguments, visitChildren, visitTopDefine, visitTop, visitTops, inBegin, inAnd, isAlone, visitTested, enterChildren}
 use Rattle.pass.specs.Run.{start, run}
 use Rattle.pass.specs.Laws.All.{all-++}
 use Rattle.pass.specs.Laws.Rows.{key, key-call, row-same}
@@ -28,7 +29,7 @@ use Rattle.pass.specs.Laws.Changes.{Changes, _⨾_, keeps-lengths, keeps
 use Rattle.pass.specs.Laws.Moves.{by, _⨟_, moves-lengths, into-lambda, out-of-lambda, into-let, out-of-let}
 use Rattle.pass.specs.Laws.Scopes.{Any, names-any, lambda-depth, let-depth}
 use Rattle.pass.specs.Laws.Names.{value-changes, read-changes, mutate-changes}
-use Rattle.pass.specs.Laws.Visits.{tail-changes, call-changes, clear-changes, before-changes, after-changes, children-changes, visit-changes, arguments-visited, children-visited, tops-changes, top-visited, tops-visited}
+use Rattle.pass.specs.Laws.Visits.{tail-changes, call-changes, clear-changes, before-changes, after-changes, children-changes, visit-changes, arguments-visited, children-visited, tops-changes, top-visited, tops-visited, writes-cores}
 use Rattle.pass.specs.Laws.Ranges.{Covers, names-writes, tree-writes, trees-writes, tree-any, trees-any}
 use Rattle.pass.specs.Laws.Tops.{Spread, spread-end, spread-top, spread-writes, calls-top}
 use Rattle.pass.specs.Laws.Keeps.{Off, Agree, narrow, earlier, visited, visited-arguments}
@@ -49,7 +50,7 @@ put-site : (i : ℕ) (v : CallSiteInformation) (t : Bool) (s : State) → isTail
 put-site i v t s e l = record { info = v; is = row-same i (CallSite v) s l; tail = e }
 
 -- the row that a call leaves
-pub call-site : (h : Tree) (n : Node) (t : Bool) (k : ℕ) (s : State) → isConstant h ≡ false → n .at < length (s .facts .rows)
+pub call-site : (h : Tree) (n : Node) (t : Bool) (k : ℕ) (s : State) → isConstantForm h ≡ false → n .at < length (s .facts .rows)
     → Site (rowAt (callFact h n t k s) (n .at)) t
 call-site (ident x) n t k s e l = put-site (n .at) _ t s (kind-tail t (isSelf s x) k) l
 call-site (const m q) n t k s e l = absurd (true≢false e)
@@ -57,7 +58,7 @@ call-site (if m a b c) n t k s e l = put-site (n .at) _ t s (kind-tail t false k
 call-site (letin m xs es b) n t k s e l = put-site (n .at) _ t s (kind-tail t false k) l
 call-site (define m x b) n t k s e l = put-site (n .at) _ t s (kind-tail t false k) l
 call-site (lambda m xs b) n t k s e l = put-site (n .at) _ t s (kind-tail t false k) l
-call-site (begin m es) n t k s e l = put-site (n .at) _ t s (kind-tail t false k) l
+call-site (sequence m es) n t k s e l = put-site (n .at) _ t s (kind-tail t false k) l
 call-site (call m g es) n t k s e l = put-site (n .at) _ t s (kind-tail t false k) l
 call-site (set! m x b) n t k s e l = put-site (n .at) _ t s (kind-tail t false k) l
 
@@ -134,8 +135,8 @@ module _ (classes : List ℕ) (N : ℕ) (T : List Row) where
   unfolding endCall
   own-site n h es f s r e l u ag c =
       let b = f .tail && ltb 1 (depth s) in
-      let m = still r (tail-changes b es s) in
-      let v = call-site h n b (f .counter) (markIfTail b es s) c (omega (arith, m .long)) in
+      let m = still r (tail-changes b (cores es) s) in
+      let v = call-site (core h) n b (f .counter) (markIfTail b (cores es) s) c (omega (arith, m .long)) in
       record {
         info = v .info;
         is = key-call _ (ag .at (n .at) (omega arith) (omega arith) ∙ ap key (v .is));
@@ -190,9 +191,11 @@ module _ (classes : List ℕ) (N : ℕ) (T : List Row) where
     marks i (lambda m xs b) n f s r h ag =
         marks (i + 1 + length xs) b (n .2) (bodyFlags m (length xs) f) _ (in-lambda m xs r) (omega arith)
         (earlier ag (omega arith) (omega arith) (out-of-lambda m xs b (f .escape) _ (λ y z. omega arith)))
-    marks i (begin m es) n f s r h ag =
-        marks-last (i + 1) es (n .1) f _ (still r (children-changes classes es s (trees-any es))) (omega arith)
+    marks i (sequence (begins m) es) n f s r h ag =
+        marks-last (i + 1) es (n .1) (inBegin f) _ (still r (children-changes classes (cores es) s (trees-any (cores es)))) (omega arith)
         (narrow ag (omega arith) (omega arith))
+    marks i (sequence (ands m) es) n f s r h ag = marks-last (i + 1) es (n .1) (inAnd (isAlone es) f) s r (omega arith) (narrow ag (omega arith) (omega arith))
+    marks i (sequence (whens b m) es) n f s r h ag = marks-tested (i + 1) es (n .1) f s r (omega arith) (narrow ag (omega arith) (omega arith))
     marks i (call m g es) n f s r h ag =
         let s₁ = visitArguments classes es (argumentFlags f) s in
         let d = headFlags g (many es) f in
@@ -227,17 +230,30 @@ module _ (classes : List ℕ) (N : ℕ) (T : List Row) where
         → Agree i (i + sizes ts) T (visitChildren classes ts f s) → All (Marked T) (callsLast ts (f .tail))
     marks-last i nil n f s r h ag = tt
     marks-last i (cons t nil) n f s r h ag =
-        let e = and-true (f .tail) in
-        rw (← e) (marks i t (n .0) (childFlags true f) s (rw e r) (omega arith) (narrow ag (omega arith) (omega arith)))
+        marks i t (n .0) (childFlags true f) s r (omega arith) (narrow ag (omega arith) (omega arith))
     marks-last i (cons t (cons u us)) n f s r h ag =
-        let e = and-false (f .tail) in
         let s₁ = visit classes t (childFlags false f) s in
         let r₁ = still r (visited classes t (childFlags false f) s (r .bottom)) in
         all-++ (Marked T) (calls t false) (callsLast (cons u us) (f .tail))
-        (rw (← e) (marks i t (n .0) (childFlags false f) s (rw e (untailed r)) (omega arith)
+        (marks i t (n .0) (childFlags false f) s (untailed r) (omega arith)
         (earlier ag (omega arith) (omega arith)
-        (by (children-visited classes (cons u us) f s₁ (trees-writes _ (i + size t) (cons u us) (n .1) (λ x l u y z. omega arith)) (r₁ .bottom))))))
+        (by (children-visited classes (cons u us) f s₁ (trees-writes _ (i + size t) (cons u us) (n .1) (λ x l u y z. omega arith)) (r₁ .bottom)))))
         (marks-last (i + size t) (cons u us) (n .1) f s₁ r₁ (omega arith) (narrow ag (omega arith) (omega arith)))
+
+    marks-tested : (i : ℕ) (ts : Trees) → Nums i ts → (f : Flags) (s : State) → Ready N (f .tail) s → i + sizes ts ≤ N
+        → Agree i (i + sizes ts) T (visitTested classes ts f s) → All (Marked T) (callsTested ts (f .tail))
+    marks-tested i nil n f s r h ag = tt
+    marks-tested i (cons t ts) n f s r h ag =
+        let s₁ = visit classes t (notTail f) s in
+        let r₁ = still r (visited classes t (notTail f) s (r .bottom)) in
+        let s₂ = enterChildren classes (cores ts) s₁ in
+        let r₂ = still r₁ (children-changes classes (cores ts) s₁ (trees-any (cores ts))) in
+        let writes = trees-writes (Off i (i + size t)) (i + size t) ts (n .1) (λ x l u y z. omega arith) in
+        all-++ (Marked T) (calls t false) (callsLast ts (f .tail))
+        (marks i t (n .0) (notTail f) s (untailed r) (omega arith)
+        (earlier ag (omega arith) (omega arith)
+        (by (children-changes classes (cores ts) s₁ (writes-cores _ _ ts writes) ⨾ children-visited classes ts (inBegin f) s₂ writes (r₂ .bottom)))))
+        (marks-last (i + size t) ts (n .1) (inBegin f) s₂ r₂ (omega arith) (narrow ag (omega arith) (omega arith)))
 
   -- The top level
 
@@ -257,7 +273,7 @@ module _ (classes : List ℕ) (N : ℕ) (T : List Row) where
   marks-one i (letin m xs es b) n s r h ag = marks i (letin m xs es b) n topFlags s r h ag
   marks-one i (define m x b) n s r h ag = marks-define (i + 2) (isLambda b) x b (n .2) s r (omega arith) (narrow ag (omega arith) (omega arith))
   marks-one i (lambda m xs b) n s r h ag = marks i (lambda m xs b) n topFlags s r h ag
-  marks-one i (begin m es) n s r h ag = marks i (begin m es) n topFlags s r h ag
+  marks-one i (sequence m es) n s r h ag = marks i (sequence m es) n topFlags s r h ag
   marks-one i (call m g es) n s r h ag = marks i (call m g es) n topFlags s r h ag
   marks-one i (set! m x e) n s r h ag = marks i (set! m x e) n topFlags s r h ag
 

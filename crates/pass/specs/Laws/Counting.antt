@@ -7,7 +7,8 @@ use mathlib.Core.Path.{_≡_, refl, ap, sym, subst, _∙_}
 use native.Mathlib.Omega.{arith}
 use lib.ListN.{length, getD}
 use lib.Dec.{ltb}
-use Rattle.tree.specs.Tree.{Ident, Node, Tree, Trees, ident, const, if, letin, define, lambda, begin, call, set!, nil, cons, NumNames}
+use Rattle.tree.specs.Tree.{Ident, Node, Tree, Trees, ident, const, if, letin, define, lambda, sequence, call, set!, nil, cons, NumNames}
+use Rattle.tree.specs.Core.{core, cores}
 use Rattle.tree.specs.Accepted.{All}
 use Rattle.scope_map.specs.ScopeMap.{ScopeMap, Live, hasAtTop, newestLayer}
 use Rattle.semantic.specs.Information.{new, markBuiltin, markRequired, markLastUsage, markShadowed}
@@ -148,7 +149,7 @@ argument-quietly (if n a b c) s = untouched-rows refl refl
 argument-quietly (letin n xs es b) s = untouched-rows refl refl
 argument-quietly (define n x b) s = untouched-rows refl refl
 argument-quietly (lambda n xs b) s = untouched-rows refl refl
-argument-quietly (begin n es) s = untouched-rows refl refl
+argument-quietly (sequence n es) s = untouched-rows refl refl
 argument-quietly (call n h es) s = untouched-rows refl refl
 argument-quietly (set! n x e) s = untouched-rows refl refl
 
@@ -168,13 +169,13 @@ fact-quietly (if m a b c) n tail k s = insert-quietly (n .at) _ s (λ k. tt)
 fact-quietly (letin m xs es b) n tail k s = insert-quietly (n .at) _ s (λ k. tt)
 fact-quietly (define m x b) n tail k s = insert-quietly (n .at) _ s (λ k. tt)
 fact-quietly (lambda m xs b) n tail k s = insert-quietly (n .at) _ s (λ k. tt)
-fact-quietly (begin m es) n tail k s = insert-quietly (n .at) _ s (λ k. tt)
+fact-quietly (sequence m es) n tail k s = insert-quietly (n .at) _ s (λ k. tt)
 fact-quietly (call m h es) n tail k s = insert-quietly (n .at) _ s (λ k. tt)
 fact-quietly (set! m x e) n tail k s = insert-quietly (n .at) _ s (λ k. tt)
 
 pub call-quietly : (n : Node) (h : Tree) (es : Trees) (f : Flags) (s : State) → Quietly s (endCall n h es f s)
 unfolding endCall
-call-quietly n h es f s = let b = f .tail && ltb 1 (depth s) in quietly-then (tail-quietly b es s) (fact-quietly h n b (f .counter) (markIfTail b es s))
+call-quietly n h es f s = let b = f .tail && ltb 1 (depth s) in quietly-then (tail-quietly b (cores es) s) (fact-quietly (core h) n b (f .counter) (markIfTail b (cores es) s))
 
 pub clear-quietly : (x : Ident) (s : State) → Quietly s (clearContext x s)
 unfolding clearContext
@@ -247,7 +248,7 @@ module _ (classes : List ℕ) {own left : ℕ → Type 0} {n : ℕ → ℕ} {s :
   pub define-counts : (k : IdentifierStatus) (a : ℕ) → Counts left n (enterDefine classes k a x b s)
   unfolding enterDefine defineFact
   define-counts k a =
-      new-counts x topLevelEntry (defineFact classes k a x b s) parts o refl (marked (isBuiltin classes b) markBuiltin (λ v. refl) _ ∙ marked (isRequired classes b) markRequired (λ v. refl) _) c
+      new-counts x topLevelEntry (defineFact classes k a x b s) parts o refl (marked (isBuiltin classes (core b)) markBuiltin (λ v. refl) _ ∙ marked (isRequired classes (core b)) markRequired (λ v. refl) _) c
 
 shadow-quietly : (classes : List ℕ) (o : Option Ident) (s : State) → Quietly s (shadow classes o s)
 shadow-quietly classes none s = untouched-rows refl refl

@@ -5,7 +5,8 @@ use mathlib.Core.Bool.{Bool, true, false, true≢false}
 use mathlib.Core.Path.{_≡_, refl, ap, sym, _∙_}
 use native.Mathlib.Omega.{arith}
 use lib.ListN.{length, length-replicate}
-use Rattle.tree.specs.Tree.{Ident, Tree, Trees, ident, const, if, letin, define, lambda, begin, call, set!, nil, cons, size, sizes, Num, Nums}
+use Rattle.tree.specs.Tree.{Ident, Tree, Trees, ident, const, if, letin, define, lambda, sequence, call, set!, nil, cons, size, sizes, Num, Nums}
+use Rattle.tree.specs.Core.{core}
 use Rattle.tree.specs.TreeLaws.{size-pos}
 use Rattle.tree.specs.Define.{topLevel}
 use Rattle.tree.specs.Accepted.{All}
@@ -56,9 +57,9 @@ module _ (classes : List ℕ) where
 
   fact-says : (a : ℕ) (x : Ident) (b : Tree) (s : State) → depth s ≡ 1 → Defined (Variable (defineFact classes Global a x b s))
   unfolding defineFact
-  fact-says a x b s h = go (isBuiltin classes b) (isRequired classes b) refl refl
+  fact-says a x b s h = go (isBuiltin classes (core b)) (isRequired classes (core b)) refl refl
     where
-      go : (p q : Bool) → isBuiltin classes b ≡ p → isRequired classes b ≡ q → Defined (Variable (defineFact classes Global a x b s))
+      go : (p q : Bool) → isBuiltin classes (core b) ≡ p → isRequired classes (core b) ≡ q → Defined (Variable (defineFact classes Global a x b s))
       go true true p q = record { fact = _; is = refl; kind = rw (p, q, h); refers = rw (p, q); depth = rw (p, q, h); slot = rw (p, q) }
       go true false p q = record { fact = _; is = refl; kind = rw (p, q, h); refers = rw (p, q); depth = rw (p, q, h); slot = rw (p, q) }
       go false true p q = record { fact = _; is = refl; kind = rw (p, q, h); refers = rw (p, q); depth = rw (p, q, h); slot = rw (p, q) }
@@ -98,7 +99,7 @@ module _ (classes : List ℕ) where
       go true e = define-says NONE x b s h (omega (arith, n .1, size-pos b))
       go false e = absurd (true≢false (sym e))
   enter-top-says k (lambda m xs b) s n h l = tt
-  enter-top-says k (begin m es) s n h l = tt
+  enter-top-says k (sequence m es) s n h l = tt
   enter-top-says k (call m g es) s n h l = tt
   enter-top-says k (set! m x e) s n h l = tt
 
@@ -121,7 +122,7 @@ module _ (classes : List ℕ) where
           kept _ _ (keeps classes (k + 2) b (n .2) topFlags (enterTopLevelValue classes x b s) (stays c (omega arith)) (x .at) off)
           (value-says x b s h (omega (arith, n .1, size-pos b)))
   visit-top-says k (lambda m xs b) s n h l p = tt
-  visit-top-says k (begin m es) s n h l p = tt
+  visit-top-says k (sequence m es) s n h l p = tt
   visit-top-says k (call m g es) s n h l p = tt
   visit-top-says k (set! m x e) s n h l p = tt
 

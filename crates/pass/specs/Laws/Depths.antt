@@ -8,7 +8,8 @@ use native.Mathlib.Omega.{arith}
 use borrow.Author.Tests.{lt-ltb}
 use lib.ListN.{length, getD, length-replicate}
 use lib.Dec.{eqb}
-use Rattle.tree.specs.Tree.{Ident, Node, Tree, Trees, ident, const, if, letin, define, lambda, begin, call, set!, nil, cons, many, size, sizes, Num, Nums}
+use Rattle.tree.specs.Tree.{Ident, Node, Tree, Trees, ident, const, if, letin, define, lambda, sequence, call, set!, nil, cons, many, size, sizes, Num, Nums, begins, ands, whens}
+use Rattle.tree.specs.Core.{core, cores}
 use Rattle.tree.specs.Define.{topLevel}
 use Rattle.tree.specs.Accepted.{All}
 use Rattle.scope_map.specs.ScopeMap.{ScopeMap}
@@ -19,7 +20,7 @@ use Rattle.r7rs.specs.Binding.{lambdas, lambdasIn}
 use Rattle.pass.specs.State.{Capture, Facts, State, withContext, rowAt, depth}
 use Rattle.pass.specs.Static.{letDepth}
 use Rattle.pass.specs.Lambda.{functionIn, amendFunction, functionEnds, closeScope, leaveLambda, atBottom, enterLambda, enterLet}
-use Rattle.pass.specs.Visit.{Flags, topFlags, notTail, sameTail, pushed, letBodyFlags, bodyFlags, argumentFlags, isLambda, headFlags, isNil, childFlags, defineFlags, enterIfLambda, enterChild, enterChildren, visit, visitArguments, visitChildren, visitTopDefine, visitTop, visitTops, enterTopLambda, enterTop, enterTops}
+use Rattle.pass.specs.Visit.{Flags, topFlags, notTail, sameTail, pushed, letBodyFlags, bodyFlags, argumentFlags, isLambda, headFlags, isNil, childFlags, defineFlags, enterIfLambda, enterChild, enterChildren, visit, visitArguments, visitChildren, visitTopDefine, visitTop, visitTops, enterTopLambda, enterTop, enterTops, inBegin, inAnd, isAlone, visitTested}
 use Rattle.pass.specs.Run.{rowsMost, noFacts, start, run, fresh, settled}
 use Rattle.pass.specs.Laws.All.{all-++, all-left, all-right, all-of, all-map, all-zip}
 use Rattle.pass.specs.Laws.Rows.{key, key-function, row-put}
@@ -27,15 +28,15 @@ use Rattle.pass.specs.Laws.Changes.{Changes, _⨾_, keeps-key, keeps-len
 use Rattle.pass.specs.Laws.Moves.{Moves, by, _⨟_, moves-key, moves-lengths, into-lambda, out-of-lambda, into-let, out-of-let}
 use Rattle.pass.specs.Laws.Scopes.{Any, names-any, leave-changes, lambda-depth, let-depth}
 use Rattle.pass.specs.Laws.Names.{define-changes, value-changes, read-changes, mutate-changes}
-use Rattle.pass.specs.Laws.Visits.{before-changes, after-changes, children-changes, call-changes, clear-changes, visit-changes, arguments-visited, children-visited, tops-changes, top-visited, tops-visited}
+use Rattle.pass.specs.Laws.Visits.{before-changes, after-changes, children-changes, call-changes, clear-changes, visit-changes, arguments-visited, children-visited, tops-changes, top-visited, tops-visited, writes-cores}
 use Rattle.pass.specs.Laws.Ranges.{Covers, names-writes, tree-writes, trees-writes, tree-any, trees-any}
-use Rattle.pass.specs.Laws.Tops.{Spread, spread-all, spread-end, spread-top, spread-writes}
+use Rattle.pass.specs.Laws.Tops.{Spread, spread-cores, spread-end, spread-top, spread-writes}
 use Rattle.pass.specs.Laws.Keeps.{Off, But, Agree, narrow, earlier, visited, visited-arguments, ran}
 use Rattle.pass.specs.Laws.Ends.{Made, made}
 use Rattle.pass.specs.Laws.Globals.{SparedBy, Spared}
 use Rattle.pass.specs.Laws.Tail.{blank-rows}
 use Rattle.semantic.specs.declared.IdentifierStatus.the-variants.{Global, LocallyDefinedFunction}
-use Rattle.pass.specs.Laws.LambdaPlaces.{Between, between, between-in, between-spread, spared-all, lambdas-top}
+use Rattle.pass.specs.Laws.LambdaPlaces.{Between, between, between-in, between-spread, spared-all, lambdas-top, lambdas-cores}
 
 function-key : (r : Row) → functionIn (key r) ≡ functionIn r
 function-key Blank = refl
@@ -106,7 +107,7 @@ enter-key classes (define n y b) s x z = go (isLambda b) (z .0)
     go true f = keeps-key (define-changes {own = But x} classes Global NONE y b s (λ e. f refl (sym e))) x (λ q. q refl)
     go false f = refl
 enter-key classes (lambda n xs b) s x z = refl
-enter-key classes (begin n es) s x z = refl
+enter-key classes (sequence n es) s x z = refl
 enter-key classes (call n h es) s x z = refl
 enter-key classes (set! n y e) s x z = refl
 
@@ -126,7 +127,7 @@ child-key classes (define n y b) s x z = go (isLambda b) (z .0)
     go true f = keeps-key (define-changes {own = But x} classes LocallyDefinedFunction NONE y b s (λ e. f refl (sym e))) x (λ q. q refl)
     go false f = refl
 child-key classes (lambda n xs b) s x z = refl
-child-key classes (begin n es) s x z = refl
+child-key classes (sequence n es) s x z = refl
 child-key classes (call n h es) s x z = refl
 child-key classes (set! n y e) s x z = refl
 
@@ -160,10 +161,11 @@ module _ (classes : List ℕ) (N : ℕ) (R T : List Row) where
       record { fact = m .fact; is = key-function _ (ag .at (n .at) (omega arith) (omega arith) ∙ ap key (m .is)); depth = m .depth }
 
   -- an inner begin enters its lambda defines
-  children-was : (i : ℕ) (ts : Trees) → Nums i ts → (s : State) (d : ℕ) → All (Was s) (lambdasIn ts d) → All (Was (enterChildren classes ts s)) (lambdasIn ts d)
+  children-was : (i : ℕ) (ts : Trees) → Nums i ts → (s : State) (d : ℕ) → All (Was s) (lambdasIn ts d) → All (Was (enterChildren classes (cores ts) s)) (lambdasIn ts d)
   children-was i ts n s d a =
-      all-zip (λ p. Spared ts (p .0)) (Was s) (Was (enterChildren classes ts s)) (λ p z e. e ∙ sym (children-key classes ts s (p .0) z)) (lambdasIn ts d)
-      (spared-all i (i + sizes ts) ts (spread-all i ts n) d) a
+      let us = cores ts in
+      all-zip (λ p. Spared us (p .0)) (Was s) (Was (enterChildren classes us s)) (λ p z e. e ∙ sym (children-key classes us s (p .0) z)) (lambdasIn ts d)
+      (subst (All (λ p. Spared us (p .0))) (lambdas-cores ts d) (spared-all i (i + sizes ts) us (spread-cores i ts n) d)) a
 
   mutual
     unfolding visit Num size lambdas
@@ -252,9 +254,11 @@ module _ (classes : List ℕ) (N : ℕ) (R T : List Row) where
               (earlier ag (omega arith) (omega arith) (out-of-lambda m xs b (f .escape) _ (λ y z. omega arith)))
               (o .1),
         )
-    makes i (begin m es) n f s d r h br ag o =
-        makes-all (i + 1) es (n .1) f _ d (still r (children-changes classes es s (trees-any es))) (omega arith) (children-was (i + 1) es (n .1) s d br)
-        (narrow ag (omega arith) (omega arith)) o
+    makes i (sequence (begins m) es) n f s d r h br ag o =
+        makes-all (i + 1) es (n .1) (inBegin f) _ d (still r (children-changes classes (cores es) s (trees-any (cores es)))) (omega arith)
+        (children-was (i + 1) es (n .1) s d br) (narrow ag (omega arith) (omega arith)) o
+    makes i (sequence (ands m) es) n f s d r h br ag o = makes-all (i + 1) es (n .1) (inAnd (isAlone es) f) s d r (omega arith) br (narrow ag (omega arith) (omega arith)) o
+    makes i (sequence (whens q m) es) n f s d r h br ag o = makes-tested (i + 1) es (n .1) f s d r (omega arith) br (narrow ag (omega arith) (omega arith)) o
     makes i (call m g es) n f s d r h br ag o =
         let s₁ = visitArguments classes es (argumentFlags f) s in
         let q = headFlags g (many es) f in
@@ -307,6 +311,27 @@ module _ (classes : List ℕ) (N : ℕ) (R T : List Row) where
         (later (i + size t) (i + size t + sizes ts) (lambdasIn ts d) (between-in (i + size t) ts (n .1) d) (all-right (Was s) (lambdas t d) (lambdasIn ts d) br) (by (past i t (n .0) (λ x l u y z. omega arith) g s r)))
         (narrow ag (omega arith) (omega arith)) (all-right (Open R) (lambdas t d) (lambdasIn ts d) o))
 
+    makes-tested : (i : ℕ) (ts : Trees) → Nums i ts → (f : Flags) (s : State) (d : ℕ) → At N d s → i + sizes ts ≤ N
+        → All (Was s) (lambdasIn ts d) → Agree i (i + sizes ts) T (visitTested classes ts f s) → All (Open R) (lambdasIn ts d) → All (MadeIn T) (lambdasIn ts d)
+    makes-tested i nil n f s d r h br ag o = tt
+    makes-tested i (cons t ts) n f s d r h br ag o =
+        let g = notTail f in
+        let k = i + size t in
+        let s₁ = visit classes t g s in
+        let s₂ = enterChildren classes (cores ts) s₁ in
+        let r₁ = still r (visited classes t g s (bottom r)) in
+        let r₂ = still r₁ (children-changes classes (cores ts) s₁ (trees-any (cores ts))) in
+        let w = trees-writes (Off i k) k ts (n .1) (λ x l u y z. omega arith) in
+        all-++ (MadeIn T) (lambdas t d) (lambdasIn ts d)
+        (makes i t (n .0) g s d r (omega arith) (all-left (Was s) (lambdas t d) (lambdasIn ts d) br)
+        (earlier ag (omega arith) (omega arith)
+        (by (children-changes classes (cores ts) s₁ (writes-cores _ _ ts w) ⨾ children-visited classes ts (inBegin f) s₂ w (bottom r₂))))
+        (all-left (Open R) (lambdas t d) (lambdasIn ts d) o))
+        (makes-all k ts (n .1) (inBegin f) s₂ d r₂ (omega arith)
+        (children-was k ts (n .1) s₁ d
+        (later k (k + sizes ts) (lambdasIn ts d) (between-in k ts (n .1) d) (all-right (Was s) (lambdas t d) (lambdasIn ts d) br) (by (past i t (n .0) (λ x l u y z. omega arith) g s r))))
+        (narrow ag (omega arith) (omega arith)) (all-right (Open R) (lambdas t d) (lambdasIn ts d) o))
+
   -- The top level
 
   makes-define : (i : ℕ) (l : Bool) (x : Ident) (b : Tree) → Num i b → x .at < i → (s : State) → At N 1 s → i + size b ≤ N
@@ -329,7 +354,7 @@ module _ (classes : List ℕ) (N : ℕ) (R T : List Row) where
   makes-one i (define m x b) n s r h br ag o =
       makes-define (i + 2) (isLambda b) x b (n .2) (omega (arith, n .1)) s r (omega arith) br (narrow ag (omega arith) (omega arith)) o
   makes-one i (lambda m xs b) n s r h br ag o = makes i (lambda m xs b) n topFlags s 1 r h br ag o
-  makes-one i (begin m es) n s r h br ag o = makes i (begin m es) n topFlags s 1 r h br ag o
+  makes-one i (sequence m es) n s r h br ag o = makes i (sequence m es) n topFlags s 1 r h br ag o
   makes-one i (call m k es) n s r h br ag o = makes i (call m k es) n topFlags s 1 r h br ag o
   makes-one i (set! m x b) n s r h br ag o = makes i (set! m x b) n topFlags s 1 r h br ag o
 

@@ -8,6 +8,7 @@ use native.Mathlib.Omega.{arith}
 use lib.ListN.{length}
 use lib.Dec.{ltb}
 use Rattle.tree.specs.Tree.{Ident, Node, Tree, Trees}
+use Rattle.tree.specs.Core.{core, cores}
 use Rattle.scope_map.specs.ScopeMap.{ScopeMap}
 use Rattle.semantic.specs.Rows.{Row, Blank, Variable, Function, CallSite, Let, Item}
 use Rattle.semantic.specs.declared.FunctionInformation.{FunctionInformation}
@@ -75,6 +76,6 @@ call-row n h es f s e l r k t = go (isConstant h) refl
         absurd (true≢false (sym same ∙ ap isTailRow blank))
     go false c =
         let b = f .tail && ltb 1 (depth s) in
-        let lengths = keeps-lengths (tail-changes {free = ⊥} {own = Any} b es s) .rows in
-        let site = call-site h n b (f .counter) (markIfTail b es s) c (omega arith) in
+        let lengths = keeps-lengths (tail-changes {free = ⊥} {own = Any} b (cores es) s) .rows in
+        let site = call-site (core h) n b (f .counter) (markIfTail b (cores es) s) c (omega arith) in
         and-left (f .tail) (ltb 1 (depth s)) (sym (site .tail) ∙ ap isTailRow (sym (site .is)) ∙ same)

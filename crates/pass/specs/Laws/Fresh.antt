@@ -8,7 +8,7 @@ use native.Mathlib.Numerals.{add-one}
 use native.Mathlib.Omega.{arith}
 use lib.ListN.{length, getD}
 use lib.Dec.{eqb}
-use Rattle.tree.specs.Tree.{Ident, Tree, Trees, ident, const, if, letin, define, lambda, begin, call, set!, nil, cons, many, size, sizes, Num, Nums}
+use Rattle.tree.specs.Tree.{Ident, Tree, Trees, ident, const, if, letin, define, lambda, sequence, call, set!, nil, cons, many, size, sizes, Num, Nums, Node, begins, ands, whens}
 use Rattle.tree.specs.Define.{defines, definesIn}
 use Rattle.scope_map.specs.ScopeMap.{Live}
 use Rattle.semantic.specs.Information.{NONE}
@@ -16,8 +16,8 @@ use Rattle.semantic.specs.Rows.{Row, Blank}
 use Rattle.r7rs.specs.Binding.{Place, Use, Event, lambdaBody, letBody, parameters, walk, walkArguments, walkAll}
 use Rattle.pass.specs.State.{State, withContext, depth}
 use Rattle.pass.specs.Lambda.{enterLambda, atBottom, enterLet}
-use Rattle.pass.specs.Static.{Premises, Ctx, Rec, r-const, r-if, r-lambda, r-begin, r-call, r-set, Args, a-nil, a-cons, Seq, s-nil, s-one, s-more}
-use Rattle.pass.specs.Visit.{Flags, notTail, sameTail, pushed, letBodyFlags, bodyFlags, argumentFlags, headFlags, childFlags, clearContext, visit, visitArguments, visitChildren}
+use Rattle.pass.specs.Static.{Premises, Ctx, Rec, r-const, r-if, r-lambda, r-begin, r-call, r-set, Args, a-nil, a-cons, Seq, s-nil, s-one, s-more, r-and, r-when, r-no-test}
+use Rattle.pass.specs.Visit.{Flags, notTail, sameTail, pushed, letBodyFlags, bodyFlags, argumentFlags, headFlags, childFlags, clearContext, visit, visitArguments, visitChildren, inBegin, inAnd, isAlone, visitTested}
 use Rattle.pass.specs.Laws.Changes.{Changes, same, _⨾_, context, keeps-noted}
 use Rattle.pass.specs.Laws.Moves.{by, _⨟_, moves-noted, into-let, out-of-let, out-of-lambda}
 use Rattle.pass.specs.Laws.Scopes.{Any, names-any, lambda-depth, let-stays}
@@ -25,7 +25,7 @@ use Rattle.pass.specs.Laws.Names.{read-changes, mutate-changes}
 use Rattle.pass.specs.Laws.Visits.{stays, call-changes, clear-changes, visit-changes, arguments-visited, children-visited}
 use Rattle.pass.specs.Laws.Ranges.{Covers, names-writes, tree-writes, trees-writes}
 use Rattle.pass.specs.Laws.Keeps.{visited, visited-arguments, visited-children}
-use Rattle.pass.specs.Laws.Live.{none-left, none-right, none-enters}
+use Rattle.pass.specs.Laws.Live.{none-left, none-right, none-entered}
 use Rattle.pass.specs.Laws.Says.{usesIn}
 use Rattle.pass.specs.Laws.Finds.{Finds, layered, deep}
 use Rattle.pass.specs.Laws.Onward.{Parts, calmly, fewer}
@@ -150,12 +150,18 @@ module _ (classes : List ℕ) (T : List Row) (P : Premises) (bottom : List (Live
         (both i j (omega arith) (omega arith) (omega arith) (omega arith) C (out-of-lambda m xs c (f .escape) s₂ (λ l u. omega arith)) (λ k z. left-counts m xs c (f .escape) s₂ (parts .kept) (body-deep false 0 q xs (p .scope) (C .finds)) z) E))
         (λ z. r-lambda (z .1 .1 .is) (z .1 .1 .depth) (z .0)
         (subst (λ (Γ : Ctx). Rec T P Γ (suc (p .layer)) (length xs) true c) (enter-ctx false 0 q 0 xs 0 (omega arith) (p .scope)) (z .1 .0)))
-    visits i (begin m es) n d f b t {own} {before} {p} {s} h o g e =
-        subst (λ (u : State). visitChildren classes es f u .noted .nine ≡ none
-        → Done classes T P bottom (Minus own i (i + size (begin m es))) before p (walkAll es p) i (i + size (begin m es)) (visitChildren classes es f u) (RecAt p b (begin m es)) (λ n. Counts own n s))
-        (sym (none-enters classes es s d))
-        (λ e. closed i (i + size (begin m es)) (omega arith) (omega arith) (λ x z. (z .0, λ l u. z .1 (omega arith) (omega arith)))
-        (visits-all (i + 1) es (n .1) d f b t h (λ x l u. o x (omega arith) (omega arith)) g e) r-begin) e
+    visits i (sequence (begins m) es) n d f b t {own} {before} {p} {s} h o g e =
+        subst (λ (u : State). visitChildren classes es (inBegin f) u .noted .nine ≡ none
+        → Done classes T P bottom (Minus own i (i + size (sequence (begins m) es))) before p (walkAll es p) i (i + size (sequence (begins m) es)) (visitChildren classes es (inBegin f) u) (RecAt p b (sequence (begins m) es)) (λ n. Counts own n s))
+        (sym (none-entered classes es s d))
+        (λ e. closed i (i + size (sequence (begins m) es)) (omega arith) (omega arith) (λ x z. (z .0, λ l u. z .1 (omega arith) (omega arith)))
+        (visits-all (i + 1) es (n .1) d (inBegin f) b t h (λ x l u. o x (omega arith) (omega arith)) g e) r-begin) e
+    visits i (sequence (ands m) es) n d f b t {own} {before} {p} {s} h o g e =
+        closed i (i + size (sequence (ands m) es)) (omega arith) (omega arith) (λ x z. (z .0, λ l u. z .1 (omega arith) (omega arith)))
+        (visits-all (i + 1) es (n .1) d (inAnd (isAlone es) f) b t h (λ x l u. o x (omega arith) (omega arith)) g e) r-and
+    visits i (sequence (whens q m) es) n d f b t {own} {before} {p} {s} h o g e =
+        closed i (i + size (sequence (whens q m) es)) (omega arith) (omega arith) (λ x z. (z .0, λ l u. z .1 (omega arith) (omega arith)))
+        (visits-tested (i + 1) q m es (n .1) d f b t h (λ x l u. o x (omega arith) (omega arith)) g e) (λ z. z)
     visits i (call m c es) n d f b t {own} {before} {p} {s} h o g e =
         let k = headFlags c (many es) f in
         let s₁ = visitArguments classes es (argumentFlags f) s in
@@ -224,6 +230,36 @@ module _ (classes : List ℕ) (T : List Row) (P : Premises) (bottom : List (Live
         (λ k c. counts-fewer (λ x z. ((z .0, λ l u. z .1 (omega arith) (omega arith)), λ l u. z .1 (omega arith) (omega arith))) c)
         (λ z ag. a-cons (z .0) (subst (λ (k : ℕ). Args T P (ctxOf (p .scope)) (p .layer) k ts) (add-one (p .height)) (z .1)))
 
+    visits-tested : (i : ℕ) (q : Bool) (m : Node) (ts : Trees) → Nums i ts → definesIn ts ≡ [] → (f : Flags) (b : Bool) → f .tail ≡ b → {own : ℕ → Type 0} {before : List Use} {p : Place} {s : State} → f .height ≡ p .height
+        → Covers own i (i + sizes ts) → Finds own bottom before p s → visitTested classes ts f s .noted .nine ≡ none
+        → Done classes T P bottom (Minus own i (i + sizes ts)) before p (walkAll ts p) i (i + sizes ts) (visitTested classes ts f s)
+        (RecAt p b (sequence (whens q m) ts)) (λ n. Counts own n s)
+    visits-tested i q m nil n d f b t {before = before} h o g e =
+        record {
+          finds = with-uses (sym (append-nil before)) (fewer (λ x z. z .0) g);
+          counts = λ n c. counts-as (λ y. omega arith) (counts-fewer (λ x z. z .0) c);
+          says = λ ag. tt;
+          means = λ ag u. r-no-test;
+        }
+    visits-tested i q m (cons c ts) n d f b t {own} {before} {p} {s} h o g e =
+        let s₁ = visit classes c (notTail f) s in
+        let k = i + size c in
+        let j = k + sizes ts in
+        let d₂ = none-right (defines c) (definesIn ts) d in
+        subst (λ (u : State). visitChildren classes ts (inBegin f) u .noted .nine ≡ none
+        → Done classes T P bottom (Minus own i (i + sizes (cons c ts))) before p (walkAll (cons c ts) p) i (i + sizes (cons c ts)) (visitChildren classes ts (inBegin f) u) (RecAt p b (sequence (whens q m) (cons c ts))) (λ n. Counts own n s))
+        (sym (none-entered classes ts s₁ d₂))
+        (λ e.
+        let h₀ = layered g .one in
+        let h₁ = stays (visited classes c (notTail f) s h₀) h₀ in
+        let e₁ = keeps-noted (visited-children classes ts (inBegin f) s₁ h₁) .nine e in
+        let A = visits i c (n .0) (none-left (defines c) (definesIn ts) d) (notTail f) false refl h (λ x l u. o x (omega arith) (omega arith)) g e₁ in
+        let R = visits-all k ts (n .1) d₂ (inBegin f) b t h (λ x l u. (o x (omega arith) (omega arith), λ y z. omega arith)) (A .finds) e in
+        closed i (i + sizes (cons c ts)) (omega arith) (omega arith) (λ x z. ((z .0, λ l u. z .1 (omega arith) (omega arith)), λ l u. z .1 (omega arith) (omega arith)))
+        (both i j (omega arith) (omega arith) (omega arith) (omega arith) A
+        (by (children-visited classes ts (inBegin f) s₁ (trees-writes _ k ts (n .1) (λ x l u y z. omega arith)) h₁)) (λ k c. c) R)
+        (λ z. r-when (z .0) (z .1))) e
+
     pub visits-all : (i : ℕ) (ts : Trees) → Nums i ts → definesIn ts ≡ [] → (f : Flags) (b : Bool) → f .tail ≡ b → {own : ℕ → Type 0} {before : List Use} {p : Place} {s : State} → f .height ≡ p .height
         → Covers own i (i + sizes ts) → Finds own bottom before p s → visitChildren classes ts f s .noted .nine ≡ none
         → Done classes T P bottom (Minus own i (i + sizes ts)) before p (walkAll ts p) i (i + sizes ts) (visitChildren classes ts f s)
@@ -236,7 +272,7 @@ module _ (classes : List ℕ) (T : List Row) (P : Premises) (bottom : List (Live
           means = λ ag u. s-nil;
         }
     visits-all i (cons c nil) n d f b t {own} {before} {p} {s} h o g e =
-        let C = visits i c (n .0) (none-left (defines c) [] d) (childFlags true f) b (and-true (f .tail) ∙ t) h (λ x l u. o x (omega arith) (omega arith)) g e in
+        let C = visits i c (n .0) (none-left (defines c) [] d) (childFlags true f) b t h (λ x l u. o x (omega arith) (omega arith)) g e in
         subst (λ (l : List Event). Done classes T P bottom (Minus own i (i + sizes (cons c nil))) before p l i (i + sizes (cons c nil)) (visit classes c (childFlags true f) s) (Seq T P (ctxOf (p .scope)) (p .layer) (p .height) b (cons c nil)) (λ n. Counts own n s))
         (sym (append-nil (walk c p)))
         (closed i (i + sizes (cons c nil)) (omega arith) (omega arith) (λ x z. (z .0, λ l u. z .1 (omega arith) (omega arith))) C s-one)
@@ -247,7 +283,7 @@ module _ (classes : List ℕ) (T : List Row) (P : Premises) (bottom : List (Live
         let e₁ = keeps-noted (visited-children classes (cons u us) f s₁ h₁) .nine e in
         let k = i + size c in
         let j = k + sizes (cons u us) in
-        let A = visits i c (n .0) (none-left (defines c) (definesIn (cons u us)) d) (childFlags false f) false (and-false (f .tail)) h (λ x l u. o x (omega arith) (omega arith)) g e₁ in
+        let A = visits i c (n .0) (none-left (defines c) (definesIn (cons u us)) d) (childFlags false f) false refl h (λ x l u. o x (omega arith) (omega arith)) g e₁ in
         let R = visits-all k (cons u us) (n .1) (none-right (defines c) (definesIn (cons u us)) d) f b t h (λ x l u. (o x (omega arith) (omega arith), λ y z. omega arith)) (A .finds) e in
         closed i (i + sizes (cons c (cons u us))) (omega arith) (omega arith) (λ x z. ((z .0, λ l u. z .1 (omega arith) (omega arith)), λ l u. z .1 (omega arith) (omega arith)))
         (both i j (omega arith) (omega arith) (omega arith) (omega arith) A

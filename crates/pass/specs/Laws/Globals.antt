@@ -6,7 +6,7 @@ use mathlib.Core.Path.{_≡_, refl, ap, sym, subst, _∙_}
 use native.Mathlib.Omega.{arith}
 use lib.ListN.{getD}
 use lib.Seq.{getD-set-same}
-use Rattle.tree.specs.Tree.{Ident, Tree, Trees, ident, const, if, letin, define, lambda, begin, call, set!, nil, cons, size, Num}
+use Rattle.tree.specs.Tree.{Ident, Tree, Trees, ident, const, if, letin, define, lambda, sequence, call, set!, nil, cons, size, Num}
 use Rattle.tree.specs.TreeLaws.{size-pos}
 use Rattle.tree.specs.Accepted.{All}
 use Rattle.scope_map.specs.ScopeMap.{ScopeMap, Live, isAt, hasIn, replaceIn}
@@ -119,7 +119,7 @@ module _ (classes : List ℕ) {bottom : List (Live Ident)} {before : List Use} {
   enter-top k (letin m xs es b) n o l a f = fewer l f
   enter-top k (define m x b) n o l a f = enter-define x b (isLambda b) refl (o (x .at) (omega arith) (omega arith)) l (λ y z. a y z .0) f
   enter-top k (lambda m xs b) n o l a f = fewer l f
-  enter-top k (begin m es) n o l a f = fewer l f
+  enter-top k (sequence m es) n o l a f = fewer l f
   enter-top k (call m h es) n o l a f = fewer l f
   enter-top k (set! m x e) n o l a f = fewer l f
 
@@ -137,7 +137,7 @@ define-at k (if m a b c) n = tt
 define-at k (letin m xs es b) n = tt
 define-at k (define m x b) n = (record { at = n .0; name = n .1; below = omega (arith, size-pos b) }, tt)
 define-at k (lambda m xs b) n = tt
-define-at k (begin m es) n = tt
+define-at k (sequence m es) n = tt
 define-at k (call m h es) n = tt
 define-at k (set! m x e) n = tt
 

@@ -5,7 +5,8 @@ use mathlib.Core.Bool.{Bool, true, false, cond, _&&_}
 use mathlib.Core.Option.{Option, none, some}
 use mathlib.Core.Path.{_≡_, refl, _∙_}
 use lib.Dec.{eqb, ltb}
-use Rattle.tree.specs.Tree.{Ident, Node, Tree, Trees, ident, const, if, letin, define, lambda, begin, call, set!, nil, cons}
+use Rattle.tree.specs.Tree.{Ident, Node, Tree, Trees, ident, const, if, letin, define, lambda, sequence, call, set!, nil, cons}
+use Rattle.tree.specs.Core.{core, cores}
 use Rattle.scope_map.specs.ScopeMap.{Live, hasAtTop}
 use Rattle.scope_map.specs.ScopeMap as map
 use Rattle.semantic.specs.Information.{NONE}
@@ -142,7 +143,7 @@ argument-idle (if n a b c) s = refl
 argument-idle (letin n xs es b) s = refl
 argument-idle (define n x b) s = refl
 argument-idle (lambda n xs b) s = refl
-argument-idle (begin n es) s = refl
+argument-idle (sequence n es) s = refl
 argument-idle (call n h es) s = refl
 argument-idle (set! n x e) s = refl
 
@@ -162,13 +163,13 @@ fact-idle (if m a b c) n tail k s = insert-idle (n .at) _ s
 fact-idle (letin m xs es b) n tail k s = insert-idle (n .at) _ s
 fact-idle (define m x b) n tail k s = insert-idle (n .at) _ s
 fact-idle (lambda m xs b) n tail k s = insert-idle (n .at) _ s
-fact-idle (begin m es) n tail k s = insert-idle (n .at) _ s
+fact-idle (sequence m es) n tail k s = insert-idle (n .at) _ s
 fact-idle (call m h es) n tail k s = insert-idle (n .at) _ s
 fact-idle (set! m x e) n tail k s = insert-idle (n .at) _ s
 
 pub call-idle : (n : Node) (h : Tree) (es : Trees) (f : Flags) (s : State) → Idle s (endCall n h es f s)
 unfolding endCall
-call-idle n h es f s = fact-idle h n _ (f .counter) _ ∙ tail-idle (f .tail && ltb 1 (depth s)) es s
+call-idle n h es f s = fact-idle (core h) n _ (f .counter) _ ∙ tail-idle (f .tail && ltb 1 (depth s)) (cores es) s
 
 pub clear-idle : (x : Ident) (s : State) → Idle s (clearContext x s)
 unfolding clearContext
@@ -201,7 +202,7 @@ module _ (classes : List ℕ) where
       go true = define-idle _ _ x b s
       go false = refl
   top-idle (lambda n xs b) s = refl
-  top-idle (begin n es) s = refl
+  top-idle (sequence n es) s = refl
   top-idle (call n h es) s = refl
   top-idle (set! n x e) s = refl
 

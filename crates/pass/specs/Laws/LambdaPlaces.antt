@@ -1,10 +1,12 @@
 -- Where the lambdas of a tree stand: between its records, at no name of a define, and at top level as in the trees.
 use Prim.Native.Nat.{ℕ, suc, _+_, _≤_, _<_}
 use mathlib.Core.List.{List, _++_, append-assoc, append-nil}
-use mathlib.Core.Path.{_≡_, refl, ap, sym, _∙_}
+use mathlib.Core.Path.{_≡_, refl, ap, ap₂, sym, _∙_}
 use native.Mathlib.Omega.{arith}
 use lib.ListN.{length}
-use Rattle.tree.specs.Tree.{Tree, Trees, ident, const, if, letin, define, lambda, begin, call, set!, nil, cons, size, sizes, Num, Nums}
+use Rattle.tree.specs.Tree.{Tree, Trees, ident, const, if, letin, define, lambda, sequence, call, set!, nil, cons, size, sizes, Num, Nums, begins, ands, whens}
+use Rattle.tree.specs.Core.{core, cores}
+use Rattle.tree.specs.CoreLaws.{to-core}
 use Rattle.tree.specs.Define.{_⊕_, topOf, topLevel}
 use Rattle.tree.specs.Accepted.{All}
 use Rattle.r7rs.specs.Binding.{lambdas, lambdasIn}
@@ -36,7 +38,7 @@ mutual
       (wider (omega arith) (omega arith) (lambdas b (letDepth d)) (between (i + 1 + length xs + sizes es) b (n .4) (letDepth d)))
   between i (define m x b) n d = wider (omega arith) (omega arith) (lambdas b d) (between (i + 2) b (n .2) d)
   between i (lambda m xs b) n d = ((omega arith, omega arith), wider (omega arith) (omega arith) (lambdas b (suc d)) (between (i + 1 + length xs) b (n .2) (suc d)))
-  between i (begin m es) n d = wider (omega arith) (omega arith) (lambdasIn es d) (between-in (i + 1) es (n .1) d)
+  between i (sequence m es) n d = wider (omega arith) (omega arith) (lambdasIn es d) (between-in (i + 1) es (n .1) d)
   between i (call m g es) n d =
       all-++ _ (lambdas g d) (lambdasIn es d) (wider (omega arith) (omega arith) (lambdas g d) (between (i + 1) g (n .1) d))
       (wider (omega arith) (omega arith) (lambdasIn es d) (between-in (i + 1 + size g) es (n .2) d))
@@ -68,7 +70,7 @@ spared-own k (letin m xs es b) n d = all-of _ (λ p. tt) (lambdas (letin m xs es
 spared-own k (define m x b) n d =
     all-map (Between (k + 2) (k + 2 + size b)) (λ p. SparedBy (define m x b) (p .0)) (λ p q. (λ e z. omega (arith, q .0, n .1), tt)) (lambdas b d) (between (k + 2) b (n .2) d)
 spared-own k (lambda m xs b) n d = all-of _ (λ p. tt) (lambdas (lambda m xs b) d)
-spared-own k (begin m es) n d = all-of _ (λ p. tt) (lambdas (begin m es) d)
+spared-own k (sequence m es) n d = all-of _ (λ p. tt) (lambdas (sequence m es) d)
 spared-own k (call m g es) n d = all-of _ (λ p. tt) (lambdas (call m g es) d)
 spared-own k (set! m x b) n d = all-of _ (λ p. tt) (lambdas (set! m x b) d)
 
@@ -88,6 +90,15 @@ unfolding _⊕_ lambdas
 lambdas-⊕ nil us d = refl
 lambdas-⊕ (cons t ts) us d = ap (λ (l : List (ℕ × ℕ)). lambdas t d ++ l) (lambdas-⊕ ts us d) ∙ sym (append-assoc (lambdas t d) (lambdasIn ts d) (lambdasIn us d))
 
+lambdas-core : (t : Tree) (d : ℕ) → lambdas (core t) d ≡ lambdas t d
+unfolding lambdas
+lambdas-core t d = to-core (λ u. lambdas u d ≡ lambdas t d) (λ n e. e) (λ n u e. sym (append-nil (lambdas u d)) ∙ e) t refl
+
+pub lambdas-cores : (ts : Trees) (d : ℕ) → lambdasIn (cores ts) d ≡ lambdasIn ts d
+unfolding lambdas
+lambdas-cores nil d = refl
+lambdas-cores (cons t ts) d = ap₂ (λ (a b : List (ℕ × ℕ)). a ++ b) (lambdas-core t d) (lambdas-cores ts d)
+
 lambdas-of : (t : Tree) (d : ℕ) → lambdasIn (topOf t) d ≡ lambdas t d
 unfolding topOf lambdas
 lambdas-of (ident x) d = refl
@@ -96,7 +107,9 @@ lambdas-of (if n a b c) d = append-nil (lambdas (if n a b c) d)
 lambdas-of (letin n xs es b) d = append-nil (lambdas (letin n xs es b) d)
 lambdas-of (define n x b) d = append-nil (lambdas (define n x b) d)
 lambdas-of (lambda n xs b) d = append-nil (lambdas (lambda n xs b) d)
-lambdas-of (begin n es) d = refl
+lambdas-of (sequence (begins n) es) d = lambdas-cores es d
+lambdas-of (sequence (ands n) es) d = append-nil (lambdasIn es d)
+lambdas-of (sequence (whens q n) es) d = append-nil (lambdasIn es d)
 lambdas-of (call n h es) d = append-nil (lambdas (call n h es) d)
 lambdas-of (set! n x e) d = append-nil (lambdas (set! n x e) d)
 
@@ -104,6 +117,6 @@ pub lambdas-top : (ts : Trees) (d : ℕ) → lambdasIn (topLevel ts) d ≡ lambd
 unfolding topLevel lambdas
 lambdas-top nil d = refl
 lambdas-top (cons t ts) d =
-    lambdas-⊕ (topOf t) (topLevel ts) d
-    ∙ ap (λ (l : List (ℕ × ℕ)). l ++ lambdasIn (topLevel ts) d) (lambdas-of t d)
+    lambdas-⊕ (topOf (core t)) (topLevel ts) d
+    ∙ ap (λ (l : List (ℕ × ℕ)). l ++ lambdasIn (topLevel ts) d) (lambdas-of (core t) d ∙ lambdas-core t d)
     ∙ ap (λ (l : List (ℕ × ℕ)). lambdas t d ++ l) (lambdas-top ts d)

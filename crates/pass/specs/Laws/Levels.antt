@@ -7,7 +7,7 @@ use native.Mathlib.Omega.{arith}
 use borrow.Author.Tests.{lt-ltb, ltb-true}
 use lib.ListN.{length}
 use lib.Dec.{ltb}
-use Rattle.tree.specs.Tree.{Ident, Tree, Trees, ident, const, if, letin, define, lambda, begin, call, set!, nil, cons, many, size, sizes, NumNames, Num, Nums}
+use Rattle.tree.specs.Tree.{Ident, Tree, Trees, ident, const, if, letin, define, lambda, sequence, call, set!, nil, cons, many, size, sizes, NumNames, Num, Nums}
 use Rattle.tree.specs.Accepted.{All}
 use Rattle.r7rs.specs.Binding.{Binder, Place, Mention, raised, lambdaBody, letBody, binders, parameters, letNames, within, Event, enters, mentions, ends, bindersIn, entering, walk, walkArguments, walkAll}
 use Rattle.pass.specs.Laws.Keeps.{Off}
@@ -64,7 +64,7 @@ unfoldable mutual
   level (letin n xs es b) i = levels es i + level b i
   level (define n x b) i = level b i
   level (lambda n xs b) i = isInside i (n .at) (n .at + size (lambda n xs b)) + level b i
-  level (begin n es) i = levels es i
+  level (sequence n es) i = levels es i
   level (call n h es) i = level h i + levels es i
   level (set! n x e) i = level e i
 
@@ -109,7 +109,7 @@ mutual
         outside i (m .at) (m .at + size (lambda m xs b)) (λ l u. o (omega arith) (omega arith)),
         level-out (k + 1 + length xs) b (n .2) i (λ l u. o (omega arith) (omega arith)),
       )
-  level-out k (begin m es) n i o = levels-out (k + 1) es (n .1) i (λ l u. o (omega arith) (omega arith))
+  level-out k (sequence m es) n i o = levels-out (k + 1) es (n .1) i (λ l u. o (omega arith) (omega arith))
   level-out k (call m h es) n i o =
       omega (
         arith,
@@ -216,7 +216,7 @@ module _ (L : ℕ → ℕ) where
         (each-append _ _ (walk b (within (parameters m xs p) q)) (ends (m .at) xs (p .scope) ∷ [])
         (wider k j (omega arith) (omega arith) (walk b (within (parameters m xs p) q)) (placed k₂ b (n .2) (within (parameters m xs p) q) known
         (λ i l u. own i (omega arith) (omega arith)))) tt)
-    placed k (begin m es) n p a h = wider k (k + size (begin m es)) (omega arith) (omega arith) (walkAll es p)
+    placed k (sequence m es) n p a h = wider k (k + size (sequence m es)) (omega arith) (omega arith) (walkAll es p)
         (placed-all (k + 1) es (n .1) p a (λ i l u. h i (omega arith) (omega arith)))
     placed k (call m g es) n p a h =
         let k₁ = k + 1 in

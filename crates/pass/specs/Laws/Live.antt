@@ -7,13 +7,15 @@ use mathlib.Core.Path.{_≡_, refl, ap, sym, subst, _∙_}
 use native.Mathlib.Omega.{arith}
 use lib.ListN.{length}
 use lib.Dec.{eqb}
-use Rattle.tree.specs.Tree.{Ident, Node, Tree, Trees, ident, const, if, letin, define, lambda, begin, call, set!, nil, cons, many}
+use Rattle.tree.specs.Tree.{Ident, Node, Tree, Trees, ident, const, if, letin, define, lambda, sequence, call, set!, nil, cons, many, begins, ands, whens}
 use Rattle.tree.specs.Define.{defines, definesIn}
+use Rattle.tree.specs.Core.{cores}
+use Rattle.tree.specs.CoreLaws.{defines-cores}
 use Rattle.scope_map.specs.ScopeMap.{ScopeMap}
 use Rattle.semantic.specs.Information.{NONE}
 use Rattle.pass.specs.State.{infoAt, Noted, State, insert, amend, rowAt, putEntry, newest, depth}
 use Rattle.pass.specs.Lambda.{enterLambda, closeScope, leaveLambda, closeLet, atBottom, enterLet, leaveNames, entered, leaveLet}
-use Rattle.pass.specs.Visit.{Flags, notTail, sameTail, pushed, letBodyFlags, bodyFlags, argumentFlags, headFlags, isNil, childFlags, enterChild, enterChildren, visit, visitArguments, visitChildren}
+use Rattle.pass.specs.Visit.{Flags, notTail, sameTail, pushed, letBodyFlags, bodyFlags, argumentFlags, headFlags, isNil, childFlags, enterChild, enterChildren, visit, visitArguments, visitChildren, inBegin, inAnd, isAlone, visitTested}
 use Rattle.pass.specs.Read.{hasNumber, Rule, noEntry, depthOne, currentLayer, takenCapture, homeSlot, readBy, read, ruleOf, mutateAt, mutate}
 use Rattle.pass.specs.Laws.Changes.{Steps, Changes, keeps-depth, keeps-noted, same, _⨾_, context}
 use Rattle.pass.specs.Laws.Scopes.{Any, names-any, make-changes, leave-changes, leaving-changes, lambda-changes, lambda-depth, let-changes, let-stays}
@@ -41,7 +43,7 @@ module _ (classes : List ℕ) where
   none-child (letin n xs es b) s e = refl
   none-child (define n x b) s e = absurd (cons-ne-nil (n .at) (defines b) e)
   none-child (lambda n xs b) s e = refl
-  none-child (begin n es) s e = refl
+  none-child (sequence n es) s e = refl
   none-child (call n h es) s e = refl
   none-child (set! n x b) s e = refl
 
@@ -50,6 +52,10 @@ module _ (classes : List ℕ) where
   none-enters nil s e = refl
   none-enters (cons t ts) s e =
       none-enters ts (enterChild classes t s) (none-right (defines t) (definesIn ts) e) ∙ none-child t s (none-left (defines t) (definesIn ts) e)
+
+  -- what the trees are
+  pub none-entered : (ts : Trees) (s : State) → definesIn ts ≡ [] → enterChildren classes (cores ts) s ≡ s
+  none-entered ts s e = none-enters (cores ts) s (defines-cores ts ∙ e)
 
 -- The visits
 
@@ -171,7 +177,10 @@ module _ (classes : List ℕ) where
         (λ k. live b (letBodyFlags (many es) f) _ (none-right (definesIn es) (defines b) e) k))
     live (define n x b) f s e h = absurd (cons-ne-nil (n .at) (defines b) e)
     live (lambda n xs b) f s e h = lambda-restores n xs b (f .escape) s h (λ k. live b (bodyFlags n (length xs) f) _ e k)
-    live (begin n es) f s e h = subst (λ (u : State). Restores s (visitChildren classes es f u)) (sym (none-enters classes es s e)) (live-children es f s e h)
+    live (sequence (begins n) es) f s e h =
+        subst (λ (u : State). Restores s (visitChildren classes es (inBegin f) u)) (sym (none-entered classes es s e)) (live-children es (inBegin f) s e h)
+    live (sequence (ands n) es) f s e h = live-children es (inAnd (isAlone es) f) s e h
+    live (sequence (whens b n) es) f s e h = live-tested es f s e h
     live (call n g es) f s e h =
         let p = live-arguments es (argumentFlags f) s (none-right (defines g) (definesIn es) e) h in
         let q = then h p (λ k. live g (headFlags g (many es) f) _ (none-left (defines g) (definesIn es) e) k) in
@@ -191,3 +200,11 @@ module _ (classes : List ℕ) where
     live-children (cons t ts) f s e h =
         let p = live t (childFlags (isNil ts) f) s (none-left (defines t) (definesIn ts) e) h in
         then h p (λ k. live-children ts f _ (none-right (defines t) (definesIn ts) e) k)
+
+    pub live-tested : (ts : Trees) (f : Flags) (s : State) → definesIn ts ≡ [] → 1 ≤ depth s → Restores s (visitTested classes ts f s)
+    live-tested nil f s e h = calm (λ free. same)
+    live-tested (cons t ts) f s e h =
+        let g = none-right (defines t) (definesIn ts) e in
+        let s₁ = visit classes t (notTail f) s in
+        subst (λ (u : State). Restores s (visitChildren classes ts (inBegin f) u)) (sym (none-entered classes ts s₁ g))
+        (then h (live t (notTail f) s (none-left (defines t) (definesIn ts) e) h) (λ k. live-children ts (inBegin f) s₁ g k))

@@ -3,11 +3,12 @@ use Prim.Native.Nat.{ℕ, _+_, _≤_, _<_}
 use mathlib.Core.List.{List, [], _∷_}
 use native.Mathlib.Omega.{arith}
 use lib.ListN.{length}
-use Rattle.tree.specs.Tree.{Ident, Tree, Trees, ident, const, if, letin, define, lambda, begin, call, set!, nil, cons, size, sizes, NumNames, Num, Nums}
+use Rattle.tree.specs.Tree.{Ident, Tree, Trees, ident, const, if, letin, define, lambda, sequence, call, set!, nil, cons, size, sizes, NumNames, Num, Nums, begins, ands, whens}
 use Rattle.tree.specs.Define.{_⊕_, topOf, topLevel}
 use Rattle.tree.specs.Accepted.{All}
+use Rattle.tree.specs.Core.{core}
 use Rattle.pass.specs.Laws.Scopes.{Any, names-any}
-use Rattle.pass.specs.Laws.Visits.{Writes, WritesAll}
+use Rattle.pass.specs.Laws.Visits.{Writes, WritesAll, writes-core, writes-cores}
 
 -- the records from i up to j
 abbrev pub Covers : (ℕ → Type 0) → ℕ → ℕ → Type 0
@@ -42,7 +43,7 @@ module _ (own : ℕ → Type 0) where
       names-writes (k + 1) xs (n .1) (λ y l u. o y (omega arith) (omega arith)),
       tree-writes (k + 1 + length xs) b (n .2) (λ y l u. o y (omega arith) (omega arith)),
     )
-    tree-writes k (begin m es) n o = trees-writes (k + 1) es (n .1) (λ y l u. o y (omega arith) (omega arith))
+    tree-writes k (sequence m es) n o = trees-writes (k + 1) es (n .1) (λ y l u. o y (omega arith) (omega arith))
     tree-writes k (call m g es) n o = (
       λ e. o (m .at) (omega arith) (omega arith),
       tree-writes (k + 1) g (n .1) (λ y l u. o y (omega arith) (omega arith)),
@@ -73,14 +74,16 @@ module _ (own : ℕ → Type 0) where
   writes-of (letin n xs es b) w = (w, tt)
   writes-of (define n x b) w = (w, tt)
   writes-of (lambda n xs b) w = (w, tt)
-  writes-of (begin n es) w = w
+  writes-of (sequence (begins n) es) w = writes-cores own own es w
+  writes-of (sequence (ands n) es) w = (w, tt)
+  writes-of (sequence (whens b n) es) w = (w, tt)
   writes-of (call n h es) w = (w, tt)
   writes-of (set! n x e) w = (w, tt)
 
   pub writes-top : (ts : Trees) → WritesAll own own ts → WritesAll own own (topLevel ts)
   unfolding topLevel Writes
   writes-top nil w = tt
-  writes-top (cons t ts) w = writes-⊕ (topOf t) (topLevel ts) (writes-of t (w .0)) (writes-top ts (w .1))
+  writes-top (cons t ts) w = writes-⊕ (topOf (core t)) (topLevel ts) (writes-of (core t) (writes-core own own t (w .0))) (writes-top ts (w .1))
 
 -- A tree writes somewhere, for what holds of every change
 mutual
@@ -93,7 +96,7 @@ mutual
   tree-any (letin n xs es b) = (tt, names-any xs, trees-any es, tree-any b)
   tree-any (define n x b) = (tt, tree-any b)
   tree-any (lambda n xs b) = (tt, names-any xs, tree-any b)
-  tree-any (begin n es) = trees-any es
+  tree-any (sequence n es) = trees-any es
   tree-any (call n h es) = (λ e. tt, tree-any h, trees-any es)
   tree-any (set! n x e) = (tt, tree-any e)
 

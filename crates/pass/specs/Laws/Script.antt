@@ -3,18 +3,20 @@ use Prim.Native.Nat.{ℕ, _+_, _≤_, _<_}
 use mathlib.Core.List.{List, [], _++_, append-assoc, append-nil}
 use mathlib.Core.Bool.{Bool, true, false, cond, true≢false}
 use mathlib.Core.Option.{none}
-use mathlib.Core.Path.{_≡_, refl, ap, sym, subst, _∙_}
+use mathlib.Core.Path.{_≡_, refl, ap, ap₂, sym, subst, _∙_}
 use native.Mathlib.Omega.{arith}
 use lib.ListN.{length-replicate, getD-replicate}
-use Rattle.tree.specs.Tree.{Ident, Node, Tree, Trees, ident, const, if, letin, define, lambda, begin, call, set!, nil, cons, size, sizes, Num, Nums}
+use Rattle.tree.specs.Tree.{Ident, Node, Tree, Trees, ident, const, if, letin, define, lambda, sequence, call, set!, nil, cons, size, sizes, Num, Nums, begins, ands, whens}
 use Rattle.tree.specs.Define.{_⊕_, topOf, defines, below, belowAll, topLevel, innerDefines}
 use Rattle.scope_map.specs.ScopeMap.{Live}
 use Rattle.semantic.specs.Information.{NONE}
 use Rattle.semantic.specs.Rows.{Row, Blank}
 use Rattle.r7rs.specs.Binding.{Place, Event, Use, top, walk, walkAll}
 use Rattle.r7rs.specs.Bottom.{defineOf}
+use Rattle.tree.specs.Core.{core, cores}
+use Rattle.tree.specs.CoreLaws.{to-core, from-core}
 use Rattle.pass.specs.State.{State, noEntry}
-use Rattle.pass.specs.Static.{Premises, Rec, r-define, r-begin, Seq, s-nil, s-one, s-more, Top, top-nil, top-cons}
+use Rattle.pass.specs.Static.{Premises, Rec, r-define, r-begin, Seq, s-nil, s-one, s-more, Top, top-nil, top-cons, r-and}
 use Rattle.pass.specs.Visit.{topFlags, isLambda, visit, visitTopDefine, visitTop, visitTops}
 use Rattle.pass.specs.Run.{rowsMost, noFacts, start, run, fresh}
 use Rattle.pass.specs.Laws.Changes.{context, keeps-noted}
@@ -88,7 +90,7 @@ module _ (classes : List ℕ) (T : List Row) (P : Premises) where
     visit-top k (letin m xs es b) n d o e = visits classes T P bottom k (letin m xs es b) n d topFlags false refl refl (λ y l u. o y l u tt) f e
     visit-top k (define m x b) n d o e = top-define k m x b (isLambda b) refl n d o e
     visit-top k (lambda m xs b) n d o e = visits classes T P bottom k (lambda m xs b) n d topFlags false refl refl (λ y l u. o y l u tt) f e
-    visit-top k (begin m es) n d o e = visits classes T P bottom k (begin m es) n d topFlags false refl refl (λ y l u. o y l u tt) f e
+    visit-top k (sequence m es) n d o e = visits classes T P bottom k (sequence m es) n d topFlags false refl refl (λ y l u. o y l u tt) f e
     visit-top k (call m h es) n d o e = visits classes T P bottom k (call m h es) n d topFlags false refl refl (λ y l u. o y l u tt) f e
     visit-top k (set! m x b) n d o e = visits classes T P bottom k (set! m x b) n d topFlags false refl refl (λ y l u. o y l u tt) f e
 
@@ -136,6 +138,14 @@ module _ (T : List Row) (P : Premises) where
   only : {t : Tree} → Top T P (cons t nil) → Rec T P [] 1 0 false t
   only (top-cons r rs) = r
 
+  -- of a tree, from what it is
+  rec-core : (t : Tree) → Rec T P [] 1 0 false (core t) → Rec T P [] 1 0 false t
+  rec-core = from-core (Rec T P [] 1 0 false) (λ n r. r-and s-nil) (λ n t r. r-and (s-one r))
+
+  top-cores : (ts : Trees) → Top T P (cores ts) → Top T P ts
+  top-cores nil r = top-nil
+  top-cores (cons t ts) (top-cons r rs) = top-cons (rec-core t r) (top-cores ts rs)
+
   top-of : (t : Tree) → Top T P (topOf t) → Rec T P [] 1 0 false t
   unfolding topOf
   top-of (ident x) r = only r
@@ -144,19 +154,30 @@ module _ (T : List Row) (P : Premises) where
   top-of (letin n xs es b) r = only r
   top-of (define n x b) r = only r
   top-of (lambda n xs b) r = only r
-  top-of (begin n es) r = r-begin (seq-of es r)
+  top-of (sequence (begins n) es) r = r-begin (seq-of es (top-cores es r))
+  top-of (sequence (ands n) es) r = only r
+  top-of (sequence (whens b n) es) r = only r
   top-of (call n h es) r = only r
   top-of (set! n x e) r = only r
 
   pub top-level : (ts : Trees) → Top T P (topLevel ts) → Top T P ts
   unfolding topLevel
   top-level nil r = top-nil
-  top-level (cons t ts) r = let q = top-⊕ (topOf t) (topLevel ts) r in top-cons (top-of t (q .0)) (top-level ts (q .1))
+  top-level (cons t ts) r = let q = top-⊕ (topOf (core t)) (topLevel ts) r in top-cons (rec-core t (top-of (core t) (q .0))) (top-level ts (q .1))
 
 walk-⊕ : (ts us : Trees) (p : Place) → walkAll (ts ⊕ us) p ≡ walkAll ts p ++ walkAll us p
 unfolding _⊕_ walk
 walk-⊕ nil us p = refl
 walk-⊕ (cons t ts) us p = ap (λ (l : List Event). walk t p ++ l) (walk-⊕ ts us p) ∙ sym (append-assoc (walk t p) (walkAll ts p) (walkAll us p))
+
+pub walk-core : (t : Tree) (p : Place) → walk (core t) p ≡ walk t p
+unfolding walk
+walk-core t p = to-core (λ u. walk u p ≡ walk t p) (λ n e. e) (λ n u e. sym (append-nil (walk u p)) ∙ e) t refl
+
+pub walk-cores : (ts : Trees) (p : Place) → walkAll (cores ts) p ≡ walkAll ts p
+unfolding walk
+walk-cores nil p = refl
+walk-cores (cons t ts) p = ap₂ (λ (a b : List Event). a ++ b) (walk-core t p) (walk-cores ts p)
 
 walk-of : (t : Tree) (p : Place) → walkAll (topOf t) p ≡ walk t p
 unfolding topOf walk
@@ -166,7 +187,9 @@ walk-of (if n a b c) p = append-nil (walk (if n a b c) p)
 walk-of (letin n xs es b) p = append-nil (walk (letin n xs es b) p)
 walk-of (define n x b) p = append-nil (walk (define n x b) p)
 walk-of (lambda n xs b) p = append-nil (walk (lambda n xs b) p)
-walk-of (begin n es) p = refl
+walk-of (sequence (begins n) es) p = walk-cores es p
+walk-of (sequence (ands n) es) p = append-nil (walk (sequence (ands n) es) p)
+walk-of (sequence (whens b n) es) p = append-nil (walk (sequence (whens b n) es) p)
 walk-of (call n h es) p = append-nil (walk (call n h es) p)
 walk-of (set! n x e) p = append-nil (walk (set! n x e) p)
 
@@ -174,7 +197,7 @@ pub walk-top : (ts : Trees) (p : Place) → walkAll (topLevel ts) p ≡ walkAll 
 unfolding topLevel walk
 walk-top nil p = refl
 walk-top (cons t ts) p =
-    walk-⊕ (topOf t) (topLevel ts) p ∙ ap (λ (l : List Event). l ++ walkAll (topLevel ts) p) (walk-of t p) ∙ ap (λ (l : List Event). walk t p ++ l) (walk-top ts p)
+    walk-⊕ (topOf (core t)) (topLevel ts) p ∙ ap (λ (l : List Event). l ++ walkAll (topLevel ts) p) (walk-of (core t) p ∙ walk-core t p) ∙ ap (λ (l : List Event). walk t p ++ l) (walk-top ts p)
 
 -- The start
 

@@ -7,10 +7,10 @@ use native.Mathlib.Decide.{ℕ-discrete, decLt}
 use native.Mathlib.Omega.{arith}
 use borrow.Author.Tests.{eq-eqb}
 use lib.ListN.{length, getD}
-use Rattle.tree.specs.Tree.{Tree, Trees, ident, const, if, letin, define, lambda, begin, call, set!, nil, cons}
+use Rattle.tree.specs.Tree.{Tree, Trees, ident, const, if, letin, define, lambda, sequence, call, set!, nil, cons, begins, ands, whens}
 use Rattle.tree.specs.Accepted.{All}
 use Rattle.semantic.specs.Rows.{Row, Blank, Variable, Function, CallSite, Let}
-use Rattle.r7rs.specs.Tail.{Call, calls, callsIn, callsLast}
+use Rattle.r7rs.specs.Tail.{Call, calls, callsIn, callsLast, callsTested}
 use Rattle.pass.specs.State.{State, insert, amend, putEntry, rowAt}
 use Rattle.pass.specs.Lambda.{openScope, closeScope}
 use Rattle.pass.specs.TailPosition.{isConstant, isCallSite, hasFact}
@@ -79,7 +79,9 @@ module _ (sites : ℕ → Type 0) where
         (tt, names-any xs, trees-sites es (all-left Sited (callsIn es) (calls t b) a), tree-sites t b (all-right Sited (callsIn es) (calls t b) a))
     tree-sites (define n x t) b a = (tt, tree-sites t false a)
     tree-sites (lambda n xs t) b a = (tt, names-any xs, tree-sites t true a)
-    tree-sites (begin n es) b a = last-sites es b a
+    tree-sites (sequence (begins n) es) b a = last-sites es b a
+    tree-sites (sequence (ands n) es) b a = last-sites es b a
+    tree-sites (sequence (whens q n) es) b a = tested-sites es b a
     tree-sites (call n h es) b a =
         (a .0, tree-sites h false (all-left Sited (calls h false) (callsIn es) (a .1)), trees-sites es (all-right Sited (calls h false) (callsIn es) (a .1)))
     tree-sites (set! n x t) b a = (tt, tree-sites t false a)
@@ -94,6 +96,11 @@ module _ (sites : ℕ → Type 0) where
     last-sites (cons t nil) b a = (tree-sites t b a, tt)
     last-sites (cons t (cons u us)) b a =
         (tree-sites t false (all-left Sited (calls t false) (callsLast (cons u us) b) a), last-sites (cons u us) b (all-right Sited (calls t false) (callsLast (cons u us) b) a))
+
+    tested-sites : (ts : Trees) (b : Bool) → All Sited (callsTested ts b) → WritesAll Any sites ts
+    tested-sites nil b a = tt
+    tested-sites (cons t ts) b a =
+        (tree-sites t false (all-left Sited (calls t false) (callsLast ts b) a), last-sites ts b (all-right Sited (calls t false) (callsLast ts b) a))
 
 -- and each of those is the record of one
 

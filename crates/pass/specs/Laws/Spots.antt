@@ -8,7 +8,7 @@ use native.Mathlib.Decide.{decLe, decLt}
 use native.Mathlib.Omega.{arith}
 use lib.ListN.{length}
 use lib.Dec.{eqb}
-use Rattle.tree.specs.Tree.{Ident, Tree, Trees, ident, const, if, letin, define, lambda, begin, call, set!, nil, cons, many, size, sizes, NumNames, Num, Nums}
+use Rattle.tree.specs.Tree.{Ident, Tree, Trees, ident, const, if, letin, define, lambda, sequence, call, set!, nil, cons, many, size, sizes, NumNames, Num, Nums}
 use Rattle.tree.specs.TreeLaws.{size-pos}
 use Rattle.tree.specs.Define.{topLevel}
 use Rattle.tree.specs.Accepted.{All}
@@ -135,7 +135,7 @@ mutual
       once-as _ (λ y. omega (arith, names-append naming (walk b q ++ end) y, names-append (walk b q) end y))
       (once-both k j (omega arith) (omega arith) (omega arith) (omega arith) (λ y l u v z. omega arith)
       (once-names false 0 (lambdaBody m (length xs) p) k₁ 0 xs (p .scope) (n .1)) (once (k₁ + length xs) b (n .2) q))
-  once k (begin m es) n p = once-wide k (k + size (begin m es)) (omega arith) (omega arith) (once-all (k + 1) es (n .1) p)
+  once k (sequence m es) n p = once-wide k (k + size (sequence m es)) (omega arith) (omega arith) (once-all (k + 1) es (n .1) p)
   once k (call m h es) n p =
       let r = raised (many es) p in
       once-as _ (λ y. omega (arith, names-append (walkArguments es p) (walk h r) y))
@@ -171,7 +171,7 @@ once-top k (define m x b) n =
     once-as _ (λ y. omega arith) (once-both k (k + size (define m x b)) (omega arith) (omega arith) (omega arith) (omega (arith, size-pos b)) (λ y l u v z. omega arith)
     (once (k + 2) b (n .2) top) (once-at (x .at)))
 once-top k (lambda m xs b) n = no-name k (lambda m xs b) n refl
-once-top k (begin m es) n = no-name k (begin m es) n refl
+once-top k (sequence m es) n = no-name k (sequence m es) n refl
 once-top k (call m h es) n = no-name k (call m h es) n refl
 once-top k (set! m x e) n = no-name k (set! m x e) n refl
 
@@ -230,7 +230,7 @@ module _ (P : Binder → Type 0) where
         let q = within (parameters n xs p) (lambdaBody n (length xs) p) in
         let end = ends (n .at) xs (p .scope) ∷ [] in
         scoped-names (parameters n xs p) (p .scope) (walk b q ++ end) s (λ r. scoped-append (walk b q) end (scoped b q r) (λ a. tt))
-    scoped (begin n es) p s = scoped-all es p s
+    scoped (sequence n es) p s = scoped-all es p s
     scoped (call n h es) p s = scoped-append (walkArguments es p) (walk h (raised (many es) p)) (scoped-in es p s) (scoped h (raised (many es) p) s)
     scoped (set! n x e) p s = scoped-append (walk e p) (mentions (record { ident = x; isSet = true; place = p }) ∷ []) (scoped e p s) (λ a. (s, tt))
 

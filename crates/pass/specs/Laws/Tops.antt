@@ -1,12 +1,14 @@
 -- The top level: its trees stand one after another, and a top-level begin's own record before its children.
 use Prim.Native.Nat.{ℕ, _+_, _≤_}
 use mathlib.Core.List.{List, _++_, append-assoc, append-nil}
-use mathlib.Core.Bool.{false}
-use mathlib.Core.Path.{_≡_, refl, ap, sym, _∙_}
+use mathlib.Core.Bool.{Bool, false}
+use mathlib.Core.Path.{_≡_, refl, ap, ap₂, sym, _∙_}
 use native.Mathlib.Omega.{arith}
-use Rattle.tree.specs.Tree.{Tree, Trees, ident, const, if, letin, define, lambda, begin, call, set!, nil, cons, size, sizes, Num, Nums}
+use Rattle.tree.specs.Tree.{Tree, Trees, ident, const, if, letin, define, lambda, sequence, call, set!, nil, cons, size, sizes, Num, Nums, begins, ands, whens}
 use Rattle.tree.specs.Define.{_⊕_, topOf, topLevel}
 use Rattle.r7rs.specs.Tail.{Call, calls, callsIn, callsLast}
+use Rattle.tree.specs.Core.{core, cores}
+use Rattle.tree.specs.CoreLaws.{to-core, num-core}
 use Rattle.pass.specs.Laws.Visits.{Writes, WritesAll}
 use Rattle.pass.specs.Laws.Ranges.{Covers, tree-writes}
 
@@ -25,11 +27,13 @@ unfolding _⊕_
 spread-⊕ i j k nil us p q = spread-within i j k k us p (omega arith) q
 spread-⊕ i j k (cons t ts) us p q = (p .0, p .1, p .2, spread-⊕ (p .0 + size t) j k ts us (p .3) q)
 
-pub spread-all : (i : ℕ) (ts : Trees) → Nums i ts → Spread i (i + sizes ts) ts
+-- what numbered trees are
+pub spread-cores : (i : ℕ) (ts : Trees) → Nums i ts → Spread i (i + sizes ts) (cores ts)
 unfolding Num size
-spread-all i nil n = omega arith
-spread-all i (cons t ts) n =
-    (i, omega arith, n .0, spread-within _ (i + size t) (i + size t + sizes ts) _ ts (omega arith) (omega arith) (spread-all (i + size t) ts (n .1)))
+spread-cores i nil n = omega arith
+spread-cores i (cons t ts) n =
+    let c = num-core i t (n .0) in
+    (c .0, c .1, c .2, spread-within _ (i + size t) (i + size t + sizes ts) _ (cores ts) (c .3) (omega arith) (spread-cores (i + size t) ts (n .1)))
 
 spread-one : (i : ℕ) (t : Tree) → Num i t → Spread i (i + size t) (cons t nil)
 spread-one i t n = (i, omega arith, n, omega arith)
@@ -42,7 +46,9 @@ spread-of i (if m a b c) n = spread-one i (if m a b c) n
 spread-of i (letin m xs es b) n = spread-one i (letin m xs es b) n
 spread-of i (define m x b) n = spread-one i (define m x b) n
 spread-of i (lambda m xs b) n = spread-one i (lambda m xs b) n
-spread-of i (begin m es) n = spread-within i (i + 1) (i + 1 + sizes es) _ es (omega arith) (omega arith) (spread-all (i + 1) es (n .1))
+spread-of i (sequence (begins m) es) n = spread-within i (i + 1) (i + 1 + sizes es) _ (cores es) (omega arith) (omega arith) (spread-cores (i + 1) es (n .1))
+spread-of i (sequence (ands m) es) n = spread-one i (sequence (ands m) es) n
+spread-of i (sequence (whens b m) es) n = spread-one i (sequence (whens b m) es) n
 spread-of i (call m h es) n = spread-one i (call m h es) n
 spread-of i (set! m x e) n = spread-one i (set! m x e) n
 
@@ -50,8 +56,10 @@ pub spread-top : (i : ℕ) (ts : Trees) → Nums i ts → Spread i (i + sizes ts
 unfolding topLevel Num size
 spread-top i nil n = omega arith
 spread-top i (cons t ts) n =
-    spread-within i i (i + size t + sizes ts) _ (topOf t ⊕ topLevel ts) (omega arith) (omega arith)
-    (spread-⊕ i (i + size t) (i + size t + sizes ts) (topOf t) (topLevel ts) (spread-of i t (n .0)) (spread-top (i + size t) ts (n .1)))
+    let c = num-core i t (n .0) in
+    spread-within i i (i + size t + sizes ts) _ (topOf (core t) ⊕ topLevel ts) (omega arith) (omega arith)
+    (spread-⊕ i (i + size t) (i + size t + sizes ts) (topOf (core t)) (topLevel ts)
+    (spread-within i (c .0) (c .0 + size (core t)) (i + size t) (topOf (core t)) (c .1) (c .3) (spread-of (c .0) (core t) (c .2))) (spread-top (i + size t) ts (n .1)))
 
 pub spread-end : (i j : ℕ) (ts : Trees) → Spread i j ts → i ≤ j
 spread-end i j nil p = p
@@ -79,6 +87,15 @@ calls-last nil = refl
 calls-last (cons t nil) = append-nil (calls t false)
 calls-last (cons t (cons u us)) = ap (λ (l : List Call). calls t false ++ l) (calls-last (cons u us))
 
+pub calls-core : (t : Tree) (b : Bool) → calls (core t) b ≡ calls t b
+unfolding calls
+calls-core t b = to-core (λ u. calls u b ≡ calls t b) (λ n p. p) (λ n u p. p) t refl
+
+calls-cores : (ts : Trees) → callsIn (cores ts) ≡ callsIn ts
+unfolding calls
+calls-cores nil = refl
+calls-cores (cons t ts) = ap₂ (λ (a b : List Call). a ++ b) (calls-core t false) (calls-cores ts)
+
 calls-of : (t : Tree) → callsIn (topOf t) ≡ calls t false
 unfolding topOf calls
 calls-of (ident x) = refl
@@ -87,7 +104,9 @@ calls-of (if n a b c) = append-nil (calls (if n a b c) false)
 calls-of (letin n xs es b) = append-nil (calls (letin n xs es b) false)
 calls-of (define n x b) = append-nil (calls (define n x b) false)
 calls-of (lambda n xs b) = append-nil (calls (lambda n xs b) false)
-calls-of (begin n es) = calls-last es
+calls-of (sequence (begins n) es) = calls-cores es ∙ calls-last es
+calls-of (sequence (ands n) es) = append-nil (calls (sequence (ands n) es) false)
+calls-of (sequence (whens b n) es) = append-nil (calls (sequence (whens b n) es) false)
 calls-of (call n h es) = append-nil (calls (call n h es) false)
 calls-of (set! n x e) = append-nil (calls (set! n x e) false)
 
@@ -95,6 +114,6 @@ pub calls-top : (ts : Trees) → callsIn (topLevel ts) ≡ callsIn ts
 unfolding topLevel calls
 calls-top nil = refl
 calls-top (cons t ts) =
-    calls-⊕ (topOf t) (topLevel ts)
-    ∙ ap (λ (l : List Call). l ++ callsIn (topLevel ts)) (calls-of t)
+    calls-⊕ (topOf (core t)) (topLevel ts)
+    ∙ ap (λ (l : List Call). l ++ callsIn (topLevel ts)) (calls-of (core t) ∙ calls-core t false)
     ∙ ap (λ (l : List Call). calls t false ++ l) (calls-top ts)

@@ -6,7 +6,7 @@ use mathlib.Core.Option.{none}
 use mathlib.Core.Path.{_≡_, refl, ap, sym, subst}
 use native.Mathlib.Omega.{arith}
 use lib.ListN.{getD, replicate}
-use Rattle.tree.specs.Tree.{Ident, Tree, Trees, ident, const, if, letin, define, lambda, begin, call, set!, nil, cons, size, sizes, Num, Nums}
+use Rattle.tree.specs.Tree.{Ident, Tree, Trees, ident, const, if, letin, define, lambda, sequence, call, set!, nil, cons, size, sizes, Num, Nums}
 use Rattle.tree.specs.Define.{below, belowAll, topLevel, innerDefines}
 use Rattle.scope_map.specs.ScopeMap.{Live}
 use Rattle.semantic.specs.Rows.{Blank}
@@ -48,7 +48,7 @@ module _ (classes : List ℕ) {n : ℕ → ℕ} {s : State} where
   enter-one k (letin i xs es b) m o l a c = counts-fewer l c
   enter-one k (define i x b) m o l a c = enter-define x b (isLambda b) refl (o (x .at) (omega arith) (omega arith)) l (λ y z. a y z .0) c
   enter-one k (lambda i xs b) m o l a c = counts-fewer l c
-  enter-one k (begin i es) m o l a c = counts-fewer l c
+  enter-one k (sequence i es) m o l a c = counts-fewer l c
   enter-one k (call i h es) m o l a c = counts-fewer l c
   enter-one k (set! i x e) m o l a c = counts-fewer l c
 

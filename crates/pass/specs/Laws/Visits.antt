@@ -7,15 +7,17 @@ use mathlib.Core.Path.{_≡_, refl, ap, sym}
 use native.Mathlib.Omega.{arith}
 use lib.ListN.{length}
 use lib.Dec.{eqb, ltb}
-use Rattle.tree.specs.Tree.{Ident, Node, Tree, Trees, ident, const, if, letin, define, lambda, begin, call, set!, nil, cons, many}
+use Rattle.tree.specs.Tree.{Ident, Node, Tree, Trees, ident, const, if, letin, define, lambda, sequence, call, set!, nil, cons, many, begins, ands, whens}
 use Rattle.tree.specs.Define.{topLevel}
 use Rattle.tree.specs.Accepted.{All}
+use Rattle.tree.specs.Core.{core, cores}
+use Rattle.tree.specs.CoreLaws.{to-core}
 use Rattle.semantic.specs.Information.{NONE}
 use Rattle.semantic.specs.declared.IdentifierStatus.the-variants.{Global, Local, LocallyDefinedFunction}
 use Rattle.pass.specs.State.{Facts, State, withContext, depth, newest}
 use Rattle.pass.specs.Lambda.{atBottom}
-use Rattle.pass.specs.Visit.{Flags, topFlags, notTail, sameTail, pushed, letBodyFlags, bodyFlags, argumentFlags, isLambda, headFlags, isNil, childFlags, defineFlags, lastUseOf, sameIdent, markArgument, markArguments, callFact, markIfTail, endCall, isSelf, clearContext, beforeDefine, afterDefine, enterIfLambda, enterChild, enterChildren, visit, visitArguments, visitChildren, enterTopLambda, enterTop, enterTops, visitTopDefine, visitTop, visitTops}
-use Rattle.pass.specs.TailPosition.{isConstant}
+use Rattle.pass.specs.Visit.{Flags, topFlags, notTail, sameTail, pushed, letBodyFlags, bodyFlags, argumentFlags, isLambda, headFlags, isNil, childFlags, defineFlags, lastUseOf, sameIdent, markArgument, markArguments, callFact, markIfTail, endCall, isSelf, clearContext, beforeDefine, afterDefine, enterIfLambda, enterChild, enterChildren, visit, visitArguments, visitChildren, enterTopLambda, enterTop, enterTops, visitTopDefine, visitTop, visitTops, inBegin, inAnd, isAlone, visitTested}
+use Rattle.pass.specs.TailPosition.{isConstant, isConstantForm}
 use Rattle.pass.specs.Run.{start, run}
 use Rattle.pass.specs.Laws.Changes.{CallSteps, CallChanges, Changes, same, _⨾_, either, site, context, same-depth, keeps-depth}
 use Rattle.pass.specs.Laws.Names.{define-changes, value-changes, read-changes, mutate-changes}
@@ -31,13 +33,22 @@ module _ (own sites : ℕ → Type 0) where
     Writes (letin n xs es b) = own (n .at) × All (λ x. own (x .at)) xs × WritesAll es × Writes b
     Writes (define n x b) = own (x .at) × Writes b
     Writes (lambda n xs b) = own (n .at) × All (λ x. own (x .at)) xs × Writes b
-    Writes (begin n es) = WritesAll es
+    Writes (sequence n es) = WritesAll es
     Writes (call n h es) = (isConstant h ≡ false → sites (n .at)) × Writes h × WritesAll es
     Writes (set! n x e) = own (x .at) × Writes e
 
     pub WritesAll : Trees → Type 0
     WritesAll nil = Unit {0}
     WritesAll (cons t ts) = Writes t × WritesAll ts
+
+  pub writes-core : (t : Tree) → Writes t → Writes (core t)
+  unfolding Writes
+  writes-core t w = to-core Writes (λ n p. p) (λ n u p. p .0) t w
+
+  pub writes-cores : (ts : Trees) → WritesAll ts → WritesAll (cores ts)
+  unfolding Writes
+  writes-cores nil w = tt
+  writes-cores (cons t ts) w = (writes-core t (w .0), writes-cores ts (w .1))
 
 module _ {free : Type 0} {own sites : ℕ → Type 0} where
   -- Call
@@ -49,7 +60,7 @@ module _ {free : Type 0} {own sites : ℕ → Type 0} where
   argument-changes (letin n xs es b) s = same
   argument-changes (define n x b) s = same
   argument-changes (lambda n xs b) s = same
-  argument-changes (begin n es) s = same
+  argument-changes (sequence n es) s = same
   argument-changes (call n h es) s = same
   argument-changes (set! n x e) s = same
 
@@ -62,20 +73,20 @@ module _ {free : Type 0} {own sites : ℕ → Type 0} where
   tail-changes true ts s = marks-changes ts s
   tail-changes false ts s = same
 
-  fact-changes : (h : Tree) (n : Node) (tail : Bool) (k : ℕ) (s : State) → (isConstant h ≡ false → sites (n .at)) → CallSteps free own sites s (callFact h n tail k s)
+  fact-changes : (h : Tree) (n : Node) (tail : Bool) (k : ℕ) (s : State) → (isConstantForm h ≡ false → sites (n .at)) → CallSteps free own sites s (callFact h n tail k s)
   fact-changes (ident x) n tail k s o = site (n .at) _ (o refl)
   fact-changes (const m q) n tail k s o = same
   fact-changes (if m a b c) n tail k s o = site (n .at) _ (o refl)
   fact-changes (letin m xs es b) n tail k s o = site (n .at) _ (o refl)
   fact-changes (define m x b) n tail k s o = site (n .at) _ (o refl)
   fact-changes (lambda m xs b) n tail k s o = site (n .at) _ (o refl)
-  fact-changes (begin m es) n tail k s o = site (n .at) _ (o refl)
+  fact-changes (sequence m es) n tail k s o = site (n .at) _ (o refl)
   fact-changes (call m h es) n tail k s o = site (n .at) _ (o refl)
   fact-changes (set! m x e) n tail k s o = site (n .at) _ (o refl)
 
   pub call-changes : (n : Node) (h : Tree) (es : Trees) (f : Flags) (s : State) → (isConstant h ≡ false → sites (n .at)) → CallSteps free own sites s (endCall n h es f s)
   unfolding endCall
-  call-changes n h es f s o = tail-changes (f .tail && ltb 1 (depth s)) es s ⨾ fact-changes h n _ (f .counter) _ o
+  call-changes n h es f s o = tail-changes (f .tail && ltb 1 (depth s)) (cores es) s ⨾ fact-changes (core h) n _ (f .counter) _ o
 
   -- set!
   pub clear-changes : (x : Ident) (s : State) → CallSteps free own sites s (clearContext x s)
@@ -119,7 +130,7 @@ module _ {own sites : ℕ → Type 0} where
         go true = define-changes classes LocallyDefinedFunction NONE x b s (w .0)
         go false = same
     child-changes (lambda n xs b) s w = same
-    child-changes (begin n es) s w = same
+    child-changes (sequence n es) s w = same
     child-changes (call n h es) s w = same
     child-changes (set! n x e) s w = same
 
@@ -149,7 +160,9 @@ module _ {own sites : ℕ → Type 0} where
           let p = before-changes (f .direct) (isLambda b) x b s (w .0) in
           p ⨾ visit-changes b (defineFlags f) _ (w .1) (bottom-stays p h) ⨾ after-changes (f .direct) (isLambda b) (s .context) x b _ (w .0)
       visit-changes (lambda n xs b) f s w h = lambda-changes n xs b (f .escape) s _ (w .0) (w .1) (visit-changes b (bodyFlags n (length xs) f) _ (w .2) (omega (arith, lambda-depth n xs s h)))
-      visit-changes (begin n es) f s w h = let p = children-changes es s w in p ⨾ children-visited es f _ w (bottom-stays p h)
+      visit-changes (sequence (begins n) es) f s w h = let p = children-changes (cores es) s (writes-cores own sites es w) in p ⨾ children-visited es (inBegin f) _ w (bottom-stays p h)
+      visit-changes (sequence (ands n) es) f s w h = children-visited es (inAnd (isAlone es) f) s w h
+      visit-changes (sequence (whens b n) es) f s w h = tested-visited es f s w h
       visit-changes (call n g es) f s w h =
           let p = arguments-visited es (argumentFlags f) s (w .2) h in
           p ⨾ visit-changes g (headFlags g (many es) f) _ (w .1) (bottom-stays p h) ⨾ call-changes n g es f _ (w .0)
@@ -165,6 +178,13 @@ module _ {own sites : ℕ → Type 0} where
       children-visited nil f s w h = same
       children-visited (cons t ts) f s w h = let p = visit-changes t (childFlags (isNil ts) f) s (w .0) h in p ⨾ children-visited ts f _ (w .1) (bottom-stays p h)
 
+      pub tested-visited : (ts : Trees) (f : Flags) (s : State) → WritesAll own sites ts → 1 ≤ depth s → CallChanges own sites s (visitTested classes ts f s)
+      tested-visited nil f s w h = same
+      tested-visited (cons t ts) f s w h =
+          let p = visit-changes t (notTail f) s (w .0) h in
+          let q = p ⨾ children-changes (cores ts) _ (writes-cores own sites ts (w .1)) in
+          q ⨾ children-visited ts (inBegin f) _ (w .1) (bottom-stays q h)
+
     -- The top level
 
     top-changes : (t : Tree) (s : State) → Writes own sites t → CallChanges own sites s (enterTop classes t s)
@@ -179,7 +199,7 @@ module _ {own sites : ℕ → Type 0} where
         go true = define-changes classes Global NONE x b s (w .0)
         go false = same
     top-changes (lambda n xs b) s w = same
-    top-changes (begin n es) s w = same
+    top-changes (sequence n es) s w = same
     top-changes (call n h es) s w = same
     top-changes (set! n x e) s w = same
 
@@ -200,7 +220,7 @@ module _ {own sites : ℕ → Type 0} where
     top-visited (letin n xs es b) s w h = visit-changes (letin n xs es b) topFlags s w h
     top-visited (define n x b) s w h = top-define (isLambda b) x b s (w .0) (w .1) h
     top-visited (lambda n xs b) s w h = visit-changes (lambda n xs b) topFlags s w h
-    top-visited (begin n es) s w h = visit-changes (begin n es) topFlags s w h
+    top-visited (sequence n es) s w h = visit-changes (sequence n es) topFlags s w h
     top-visited (call n g es) s w h = visit-changes (call n g es) topFlags s w h
     top-visited (set! n x e) s w h = visit-changes (set! n x e) topFlags s w h
 

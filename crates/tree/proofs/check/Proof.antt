@@ -1,4 +1,4 @@
--- `check`: 1 and 2, then the pass that clears 3 to 7 and lists where the trees start, or all in order.
+-- `check`: 1 and 2, then the pass that clears 3 to 7 and 16 and lists where the trees start, or all in order.
 use borrow.Author.Needs.{needs}
 use native.Mathlib.Omega.{arith}
 use mathlib.Core.Logic.{⊎-elim}

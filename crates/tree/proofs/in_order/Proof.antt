@@ -4,8 +4,8 @@ use mathlib.Core.Option.{Option}
 use mathlib.Core.List.{List}
 use mathlib.Core.Path.{refl, sym, _∙_}
 use Prim.Native.Nat.{ℕ}
-use Rattle.tree.specs.Check.{Refusal, check3, check4, check5, check6, check7}
-use Rattle.tree.specs.Order.{from4, from5, from6, from7, from8}
+use Rattle.tree.specs.Check.{Refusal, check3, check4, check5, check6, check7, check16}
+use Rattle.tree.specs.Order.{from4, from5, from6, from7, from16, from8}
 use Rattle.tree.proofs.Order.{Next, refused, passed}
 use Rattle.tree.proofs.in_order.Statement.{statement}
 use Rattle.tree.proofs.in_order.Tie as tie
@@ -26,6 +26,9 @@ start-6 c = start-5 (c .before .before .before)
 abbrev start-7 : tie.After-enum-told4 → tie.Start
 start-7 c = start-6 (c .before .before .before)
 
+abbrev start-16 : tie.After-enum-told5 → tie.Start
+start-16 c = start-7 (c .before .before .before)
+
 next-3 : (c : tie.Start) → Now c 3 check3 from4
 next-3 c = record { is = refl }
 
@@ -38,8 +41,11 @@ next-5 c = record { is = passed (next-4 (c .before .before .before)) (c .before 
 next-6 : (c : tie.After-enum-told3) → Now (start-6 c) 6 check6 from7
 next-6 c = record { is = passed (next-5 (c .before .before .before)) (c .before .before .too-deep .ensures (start-6 c .args .names)) (c .enum-told3 .given .1) }
 
-next-7 : (c : tie.After-enum-told4) → Now (start-7 c) 7 check7 from8
+next-7 : (c : tie.After-enum-told4) → Now (start-7 c) 7 check7 from16
 next-7 c = record { is = passed (next-6 (c .before .before .before)) (c .before .before .not-a-name .ensures (start-7 c .args .names)) (c .enum-told4 .given .1) }
+
+next-16 : (c : tie.After-enum-told5) → Now (start-16 c) 16 check16 from8
+next-16 c = record { is = passed (next-7 (c .before .before .before)) (c .before .before .empty-call .ensures (start-16 c .args .names)) (c .enum-told5 .given .1) }
 
 field-outside-requires : tie.Need-field-outside-requires
 field-outside-requires c κs = search needs
@@ -101,14 +107,26 @@ returns-5 c = refused (next-7 (c .before .before .before .before)) (c .before .b
 enum-told-5 : tie.Need-enum-told-5
 enum-told-5 c = search needs
 
+untested-requires : tie.Need-untested-requires
+untested-requires c κs = search needs
+
+enum-known-untested : tie.Need-enum-known-untested
+enum-known-untested c = search needs
+
+returns-6 : tie.Need-returns-6
+returns-6 c = refused (next-16 (c .before .before .before .before)) (c .before .before .before .untested .ensures (start-16 (c .before .before .before .before) .args .names)) (c .before .untested2 .given .1)
+
+enum-told-6 : tie.Need-enum-told-6
+enum-told-6 c = search needs
+
 last-requires : tie.Need-last-requires
 last-requires c κs = search needs
 
-returns-6 : tie.Need-returns-6
-returns-6 c =
+returns-7 : tie.Need-returns-7
+returns-7 c =
     let d = c .before .before .before .before in
-    let N = start-7 d .args .names in
-    c .last .ensures N ∙ sym (passed (next-7 d) (c .before .before .before .empty-call .ensures N) (c .before .enum-told5 .given .1))
+    let N = start-16 d .args .names in
+    c .last .ensures N ∙ sym (passed (next-16 d) (c .before .before .before .untested .ensures N) (c .before .enum-told6 .given .1))
 
 pub in-order-spec : {M : Type 1} → statement M
 in-order-spec =
@@ -134,5 +152,9 @@ in-order-spec =
     enum-known-empty
     returns-5
     enum-told-5
+    untested-requires
+    enum-known-untested
+    returns-6
+    enum-told-6
     last-requires
-    returns-6)
+    returns-7)

@@ -1,4 +1,4 @@
--- What it is that the checks 1 to 8 pass.
+-- What it is that the checks 1 to 8 and 16 pass.
 use Prim.Native.Nat.{ℕ, _%_, _≤_}
 use mathlib.Core.List.{List, [], _∷_}
 use mathlib.Core.Bool.{Bool, true, false, not, _||_, true≢false}
@@ -11,7 +11,7 @@ use lib.Dec.{eqb, ltb}
 use Rattle.tree.specs.Record.{width, records}
 use Rattle.tree.specs.Form.{fits}
 use Rattle.tree.specs.Place.{Open, placed, left}
-use Rattle.tree.specs.Check.{when, orElse, check1, check2, check3, check4, check5, check6, check7, check8, refusal}
+use Rattle.tree.specs.Check.{when, orElse, check1, check2, check3, check4, check5, check6, check7, check16, check8, testless, refusal}
 use Rattle.tree.specs.Accepted.{All, Distinct}
 use Rattle.tree.specs.Acceptance.Tests.{first-none, none-first, all-map, passed}
 use Rattle.tree.specs.Acceptance.Walk.{tooDeep, notAName, emptyCall, Walk, walk-of, by-check}
@@ -55,6 +55,7 @@ module _ (N : ℕ) (rs : List ℕ) where
     pub c5 : check5 N rs ≡ none
     pub c6 : check6 N rs ≡ none
     pub c7 : check7 N rs ≡ none
+    pub c16 : check16 N rs ≡ none
     pub c8 : check8 N rs ≡ none
 
   pub silent : refusal N rs ≡ none → Silent
@@ -67,8 +68,9 @@ module _ (N : ℕ) (rs : List ℕ) where
       let h5 = passed 5 (check5 N rs) _ (h4 .1) in
       let h6 = passed 6 (check6 N rs) _ (h5 .1) in
       let h7 = passed 7 (check7 N rs) _ (h6 .1) in
-      let h8 = passed 8 (check8 N rs) _ (h7 .1) in
-      record { c1 = h1 .0; c2 = h2 .0; c3 = h3 .0; c4 = h4 .0; c5 = h5 .0; c6 = h6 .0; c7 = h7 .0; c8 = h8 .0 }
+      let h16 = passed 16 (check16 N rs) _ (h7 .1) in
+      let h8 = passed 8 (check8 N rs) _ (h16 .1) in
+      record { c1 = h1 .0; c2 = h2 .0; c3 = h3 .0; c4 = h4 .0; c5 = h5 .0; c6 = h6 .0; c7 = h7 .0; c16 = h16 .0; c8 = h8 .0 }
 
   none-all : Silent → refusal N rs ≡ none
   unfolding refusal
@@ -81,10 +83,11 @@ module _ (N : ℕ) (rs : List ℕ) where
       (orElse 5 (h .c5 i)
       (orElse 6 (h .c6 i)
       (orElse 7 (h .c7 i)
-      (orElse 8 (h .c8 i) none)))))))
+      (orElse 16 (h .c16 i)
+      (orElse 8 (h .c8 i) none))))))))
 
   pub passes : refusal N rs ≡ none → Passes N rs
-  unfolding check1 check2 check3 check4 check5 check6 check7 check8
+  unfolding check1 check2 check3 check4 check5 check6 check7 check16 check8
   passes e =
       let l = records rs in
       let c = silent e in
@@ -101,12 +104,13 @@ module _ (N : ℕ) (rs : List ℕ) where
               deep = first-none tooDeep (placed [] l) (c .c5);
               named = first-none notAName (placed [] l) (c .c6);
               full = first-none emptyCall l (c .c7);
+              tested = first-none testless l (c .c16);
             });
         ids = repeated-none l (c .c8);
       }
 
   pub passed-none : Passes N rs → refusal N rs ≡ none
-  unfolding check1 check2 check3 check4 check5 check6 check7 check8
+  unfolding check1 check2 check3 check4 check5 check6 check7 check16 check8
   passed-none p =
       let l = records rs in
       let w = by-check [] l (p .walks) in
@@ -119,5 +123,6 @@ module _ (N : ℕ) (rs : List ℕ) where
         c5 = none-first tooDeep (placed [] l) (w .deep);
         c6 = none-first notAName (placed [] l) (w .named);
         c7 = none-first emptyCall l (w .full);
+        c16 = none-first testless l (w .tested);
         c8 = none-repeated l (p .ids);
       })

@@ -9,6 +9,7 @@ use lib.ListN.{length}
 use lib.Dec.{eqb, ltb}
 use Rattle.tree.specs.Record.{Record}
 use Rattle.tree.specs.Place.{Open, closed, taken, isNamePlace, after, Placed, placed, left}
+use Rattle.tree.specs.Check.{testless}
 use Rattle.tree.specs.Accepted.{All}
 
 -- how deep records may nest
@@ -32,6 +33,7 @@ pub record Stands (s : List Open) (r : Record) : Type 0 where
   pub deep : tooDeep (place s r) ≡ false
   pub named : notAName (place s r) ≡ false
   pub full : emptyCall r ≡ false
+  pub tested : testless r ≡ false
 
 abbrev pub Walk : List Open → List Record → Type 0
 Walk s [] = s ≡ []
@@ -43,20 +45,21 @@ pub record ByCheck (s : List Open) (l : List Record) : Type 0 where
   pub deep : All (λ p. tooDeep p ≡ false) (placed s l)
   pub named : All (λ p. notAName p ≡ false) (placed s l)
   pub full : All (λ r. emptyCall r ≡ false) l
+  pub tested : All (λ r. testless r ≡ false) l
 
 pub walk-of : (s : List Open) (l : List Record) → ByCheck s l → Walk s l
 unfolding left placed
 walk-of s [] c = c .ends
 walk-of s (r ∷ l) c =
-    (record { deep = c .deep .0; named = c .named .0; full = c .full .0 }, walk-of (after s r) l (record { ends = c .ends; deep = c .deep .1; named = c .named .1; full = c .full .1 }))
+    (record { deep = c .deep .0; named = c .named .0; full = c .full .0; tested = c .tested .0 }, walk-of (after s r) l (record { ends = c .ends; deep = c .deep .1; named = c .named .1; full = c .full .1; tested = c .tested .1 }))
 
 pub by-check : (s : List Open) (l : List Record) → Walk s l → ByCheck s l
 unfolding left placed
-by-check s [] w = record { ends = w; deep = tt; named = tt; full = tt }
+by-check s [] w = record { ends = w; deep = tt; named = tt; full = tt; tested = tt }
 by-check s (r ∷ l) w =
     let c = by-check (after s r) l (w .1) in
     let h = w .0 in
-    record { ends = c .ends; deep = (h .deep, c .deep); named = (h .named, c .named); full = (h .full, c .full) }
+    record { ends = c .ends; deep = (h .deep, c .deep); named = (h .named, c .named); full = (h .full, c .full); tested = (h .tested, c .tested) }
 
 abbrev pub opened : ℕ → ℕ → Open
 opened n k = record { names = n; others = k }

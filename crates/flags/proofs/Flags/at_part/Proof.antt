@@ -45,14 +45,26 @@ enum-known-p-3 c = search needs
 head-requires : tie.Need-head-requires
 head-requires c κs = rw (c .before .p3 .given .1) at (c .before .before .before .pre)
 
+enum-told-5 : tie.Need-enum-told-5
+enum-told-5 c = search needs
+
+in-begin-requires : tie.Need-in-begin-requires
+in-begin-requires c κs = search needs
+
 enum-known-p-4 : tie.Need-enum-known-p-4
 enum-known-p-4 c = search needs
+
+in-and-requires : tie.Need-in-and-requires
+in-and-requires c κs = search needs
+
+enum-known-p-5 : tie.Need-enum-known-p-5
+enum-known-p-5 c = search needs
 
 child-requires : tie.Need-child-requires
 child-requires c κs = search needs
 
-enum-told-5 : tie.Need-enum-told-5
-enum-told-5 c = search needs
+enum-told-6 : tie.Need-enum-told-6
+enum-told-6 c = search needs
 
 define-body-requires : tie.Need-define-body-requires
 define-body-requires c κs = search needs
@@ -79,10 +91,16 @@ returns-7 : tie.Need-returns-7
 returns-7 c = rw (c .before .before .p3 .given .1) (c .head .ensures)
 
 returns-8 : tie.Need-returns-8
-returns-8 c = rw (c .before .before .p4 .given .1) (c .child .ensures)
+returns-8 c = rw (c .before .enum-told5 .given .1) (c .in-begin .ensures)
 
 returns-9 : tie.Need-returns-9
-returns-9 c = rw (c .before .enum-told5 .given .1) (c .define-body .ensures)
+returns-9 c = rw (c .before .before .p4 .given .1) (c .in-and .ensures)
+
+returns-10 : tie.Need-returns-10
+returns-10 c = rw (c .before .before .p5 .given .1) (c .child .ensures)
+
+returns-11 : tie.Need-returns-11
+returns-11 c = rw (c .before .enum-told6 .given .1) (c .define-body .ensures)
 
 pub at-part-spec : {M : Type 1} → statement M
 at-part-spec =
@@ -102,9 +120,13 @@ at-part-spec =
     next-requires
     enum-known-p-3
     head-requires
-    enum-known-p-4
-    child-requires
     enum-told-5
+    in-begin-requires
+    enum-known-p-4
+    in-and-requires
+    enum-known-p-5
+    child-requires
+    enum-told-6
     define-body-requires
     returns
     returns-2
@@ -114,4 +136,6 @@ at-part-spec =
     returns-6
     returns-7
     returns-8
-    returns-9)
+    returns-9
+    returns-10
+    returns-11)

@@ -1,67 +1,90 @@
--- `call_fact`, by the form of the head.
+-- `call_fact`, by what the head is.
 use mathlib.Core.Path.{_∙_, sym}
 use borrow.Author.Needs.{needs}
-use Rattle.forms.proofs.CallFacts.{head-inside, call-inside, head-few, call-facts, call-fact-inside, called-by-name, called-const, called-else}
+use Rattle.forms.proofs.CallFacts.{head-tree, head-inside, call-inside, head-few, call-facts, call-fact-inside, called-by-name, called-const, called-else}
 use Rattle.forms.proofs.calls.call_fact.Statement.{statement}
 use Rattle.forms.proofs.calls.call_fact.Tie as tie
 
-add-head : tie.Need-add-head
-add-head c = search needs
+add-core-at : tie.Need-add-core-at
+add-core-at c = search needs
+
+core-at-requires : tie.Need-core-at-requires
+core-at-requires c κs = head-tree _ _ _ _ (c .before .before .pre)
+
+abbrev start : tie.After-core-at → tie.Start
+start c = c .before .before .before
+
+is-constant-requires : tie.Need-is-constant-requires
+is-constant-requires c κs = head-inside _ _ _ _ (c .core-at .ensures) (start c .pre)
+
+returns : tie.Need-returns
+returns c = called-const _ _ _ _ (c .before .before .core-at .ensures) (sym (c .before .is-constant .ensures) ∙ c .if1 .taken)
 
 form-requires : tie.Need-form-requires
-form-requires c κs = head-inside _ _ _ _ (c .before .before .pre)
+form-requires c κs = let d = c .before .before in head-inside _ _ _ _ (d .core-at .ensures) (start d .pre)
 
 is-self-requires : tie.Need-is-self-requires
-is-self-requires c κs = (head-few _ _ _ _ (c .before .before .before .before .before .pre), call-facts _ _ _ _ (c .before .before .before .before .before .pre))
+is-self-requires c κs =
+    let d = c .before .before .before .before .before in
+    (head-few _ _ _ _ (d .core-at .ensures) (start d .pre), call-facts _ _ _ _ (start d .pre))
+
+span-at-requires : tie.Need-span-at-requires
+span-at-requires c κs = let d = c .before .before .before .before .before .before in head-inside _ _ _ _ (d .core-at .ensures) (start d .pre)
 
 call-kind-requires : tie.Need-call-kind-requires
 call-kind-requires c κs = search needs
 
-span-at-requires : tie.Need-span-at-requires
-span-at-requires c κs = head-inside _ _ _ _ (c .before .before .before .before .before .before .before .pre)
-
 call-site-requires : tie.Need-call-site-requires
-call-site-requires c κs = call-fact-inside _ _ _ _ (c .before .before .before .before .before .before .before .before .before .pre)
-
-call-kind-requires-2 : tie.Need-call-kind-requires-2
-call-kind-requires-2 c κs = search needs
-
-span-at-requires-2 : tie.Need-span-at-requires-2
-span-at-requires-2 c κs = call-inside _ _ _ _ (c .before .before .before .before .before .pre)
-
-call-site-requires-2 : tie.Need-call-site-requires-2
-call-site-requires-2 c κs = call-fact-inside _ _ _ _ (c .before .before .before .before .before .before .before .pre)
+call-site-requires c κs = call-fact-inside _ _ _ _ (start (c .before .before .before .before .before .before .before .before .before) .pre)
 
 same-length : tie.Need-same-length
 same-length c = search needs
 
-returns : tie.Need-returns
-returns c = called-by-name _ _ _ _ (c .before .before .call-site .ensures) (sym (c .before .before .before .before .before .before .before .before .before .form .ensures) ∙ c .before .before .before .before .before .before .before .before .match .keys1) (c .before .before .before .before .before .before .is-self .ensures) (c .before .before .before .before .before .call-kind .ensures) (c .before .before .before .before .span-at .ensures)
-
 returns-2 : tie.Need-returns-2
-returns-2 c = called-const _ _ _ _ (sym (c .before .form .ensures) ∙ c .match .keys2)
+returns-2 c =
+    let b = c .before .before in
+    let i = b .before .before .before .before in
+    let t = i .before .before in
+    called-by-name _ _ _ _ (t .before .before .before .before .core-at .ensures) (b .call-site .ensures) (sym (t .before .form .ensures) ∙ t .if2 .taken)
+    (i .is-self .ensures) (b .before .before .call-kind .ensures) (b .before .before .before .span-at .ensures)
+
+span-at-requires-2 : tie.Need-span-at-requires-2
+span-at-requires-2 c κs = call-inside _ _ _ _ (start (c .before .before .before .before) .pre)
+
+call-kind-requires-2 : tie.Need-call-kind-requires-2
+call-kind-requires-2 c κs = search needs
+
+call-site-requires-2 : tie.Need-call-site-requires-2
+call-site-requires-2 c κs = call-fact-inside _ _ _ _ (start (c .before .before .before .before .before .before .before) .pre)
 
 same-length-2 : tie.Need-same-length-2
 same-length-2 c = search needs
 
 returns-3 : tie.Need-returns-3
-returns-3 c = called-else _ _ _ _ (c .before .before .call-site2 .ensures) (λ e. c .before .before .before .before .before .before .match .rest .0 .1 (c .before .before .before .before .before .before .before .form .ensures ∙ e)) (λ e. c .before .before .before .before .before .before .match .rest .1 (c .before .before .before .before .before .before .before .form .ensures ∙ e)) (c .before .before .before .before .before .call-kind2 .ensures) (c .before .before .before .before .span-at2 .ensures)
+returns-3 c =
+    let b = c .before .before in
+    let t = b .before .before .before .before in
+    let i = t .before .before .before in
+    called-else _ _ _ _ (i .before .core-at .ensures) (b .call-site2 .ensures) (sym (i .is-constant .ensures) ∙ t .before .before .if1 .left)
+    (λ e. t .if2 .left (t .before .form .ensures ∙ e)) (b .before .before .call-kind2 .ensures) (b .before .before .before .span-at2 .ensures)
 
 pub call-fact-spec : {M : Type 1} → statement M
 call-fact-spec =
     tie.close
     (tie.spec
-    add-head
+    add-core-at
+    core-at-requires
+    is-constant-requires
+    returns
     form-requires
     is-self-requires
-    call-kind-requires
     span-at-requires
+    call-kind-requires
     call-site-requires
-    call-kind-requires-2
-    span-at-requires-2
-    call-site-requires-2
     same-length
-    returns
     returns-2
+    span-at-requires-2
+    call-kind-requires-2
+    call-site-requires-2
     same-length-2
     returns-3)

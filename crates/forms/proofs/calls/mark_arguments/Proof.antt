@@ -16,8 +16,11 @@ abbrev μ-loop : tie.MeasureT-loop
 loop-holds : tie.Need-loop-holds Inv-loop μ-loop
 loop-holds c = (omega arith, refl, marking-starts)
 
+core-at-requires : tie.Need-core-at-requires Inv-loop μ-loop
+core-at-requires c κs = marking-tree (c .before .loop .inv .2) (c .before .before .before .before .before .pre) (omega arith)
+
 mark-argument-requires : tie.Need-mark-argument-requires Inv-loop μ-loop
-mark-argument-requires c κs = marking-fits (c .before .before .loop .inv .2) (c .before .before .before .before .before .before .pre) (omega arith)
+mark-argument-requires c κs = marking-fits (c .before .before .before .loop .inv .2) (c .before .before .before .before .before .before .before .pre) (omega arith) (c .before .core-at .ensures)
 
 add-i : tie.Need-add-i Inv-loop μ-loop
 add-i c = omega arith
@@ -26,16 +29,16 @@ sub-step-over : tie.Need-sub-step-over Inv-loop μ-loop
 sub-step-over c = omega arith
 
 step-over-requires : tie.Need-step-over-requires Inv-loop μ-loop
-step-over-requires c κs = marking-tree (c .before .before .before .before .before .loop .inv .2) (c .before .before .before .before .before .before .before .before .before .pre) (omega arith)
+step-over-requires c κs = marking-tree (c .before .before .before .before .before .before .loop .inv .2) (c .before .before .before .before .before .before .before .before .before .before .pre) (omega arith)
 
 add-at : tie.Need-add-at Inv-loop μ-loop
-add-at c = record { fits = omega (arith, marking-few (c .before .before .before .before .before .before .loop .inv .2) (c .before .before .before .before .before .before .before .before .before .before .pre) (omega arith) (c .step-over .ensures)) }
+add-at c = record { fits = omega (arith, marking-few (c .before .before .before .before .before .before .before .loop .inv .2) (c .before .before .before .before .before .before .before .before .before .before .before .pre) (omega arith) (c .step-over .ensures)) }
 
 loop-less : tie.Need-loop-less Inv-loop μ-loop
 loop-less c = omega arith
 
 loop-again : tie.Need-loop-again Inv-loop μ-loop
-loop-again c = (omega arith, omega arith, marking-goes (c .before .before .before .before .before .before .loop .inv .2) (omega arith) (c .before .before .before .mark-argument .ensures) (c .step-over .ensures))
+loop-again c = (omega arith, omega arith, marking-goes (c .before .before .before .before .before .before .before .loop .inv .2) (omega arith) (c .before .before .before .before .before .core-at .ensures) (c .before .before .before .mark-argument .ensures) (c .step-over .ensures))
 
 same-length : tie.Need-same-length Inv-loop μ-loop
 same-length c = omega arith
@@ -50,6 +53,7 @@ mark-arguments-spec =
     Inv-loop
     μ-loop
     loop-holds
+    core-at-requires
     mark-argument-requires
     add-i
     sub-step-over

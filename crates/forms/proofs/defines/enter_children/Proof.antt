@@ -19,8 +19,13 @@ abbrev μ-loop : tie.MeasureT-loop
 loop-holds : tie.Need-loop-holds Inv-loop μ-loop
 loop-holds c = (omega arith, refl, refl, omega (arith, c .before .before .before .before .pre .room), going-starts)
 
+core-at-requires : tie.Need-core-at-requires Inv-loop μ-loop
+core-at-requires c κs = going-tree (c .before .loop .inv .4) (omega arith) (c .before .before .before .before .before .before .pre)
+
 enter-child-requires : tie.Need-enter-child-requires Inv-loop μ-loop
-enter-child-requires c κs = going-fits (c .before .before .before .loop .inv .4) (omega arith) (c .before .before .before .before .before .before .before .before .pre) (c .before .before .before .loop .inv .3)
+enter-child-requires c κs =
+    let l = c .before .before .before .before in
+    going-fits (l .loop .inv .4) (omega arith) (l .before .before .before .before .before .pre) (c .before .before .core-at .ensures) (l .loop .inv .3)
 
 add-i : tie.Need-add-i Inv-loop μ-loop
 add-i c = omega arith
@@ -29,18 +34,26 @@ sub-step-over : tie.Need-sub-step-over Inv-loop μ-loop
 sub-step-over c = omega arith
 
 step-over-requires : tie.Need-step-over-requires Inv-loop μ-loop
-step-over-requires c κs = going-tree (c .before .before .before .before .before .before .before .before .loop .inv .4) (omega arith) (c .before .before .before .before .before .before .before .before .before .before .before .before .before .pre)
+step-over-requires c κs = going-tree (c .before .before .before .before .before .before .before .before .before .loop .inv .4) (omega arith) (c .before .before .before .before .before .before .before .before .before .before .before .before .before .before .pre)
 
 add-at : tie.Need-add-at Inv-loop μ-loop
-add-at c = record { fits = omega (arith, going-few (c .before .before .before .before .before .before .before .before .before .loop .inv .4) (omega arith) (c .before .before .before .before .before .before .before .before .before .before .before .before .before .before .pre) (c .step-over .ensures)) }
+add-at c = record { fits = omega (arith, going-few (c .before .before .before .before .before .before .before .before .before .before .loop .inv .4) (omega arith) (c .before .before .before .before .before .before .before .before .before .before .before .before .before .before .before .pre) (c .step-over .ensures)) }
 
 loop-less : tie.Need-loop-less Inv-loop μ-loop
 loop-less c = omega arith
 
 loop-again : tie.Need-loop-again Inv-loop μ-loop
 loop-again c =
-    let g = c .before .before .before .before .before .before .before .before .before .loop .inv .4 in
-    (omega arith, omega arith, omega arith, going-room g (omega arith) (c .before .before .before .before .before .before .before .before .before .before .before .before .before .before .pre) (c .before .before .before .before .before .before .before .before .before .loop .inv .3) (c .before .before .before .before .before .enter-child .ensures), going-goes g (omega arith) (c .before .before .before .before .before .enter-child .ensures) (c .step-over .ensures))
+    let e = c .before .before .before .before .before in
+    let d = e .before .before .before in
+    let l = d .before .before in
+    let g = l .loop .inv .4 in (
+      omega arith,
+      omega arith,
+      omega arith,
+      going-room g (omega arith) (l .before .before .before .before .before .pre) (l .loop .inv .3) (d .core-at .ensures) (e .enter-child .ensures),
+      going-goes g (omega arith) (d .core-at .ensures) (e .enter-child .ensures) (c .step-over .ensures),
+    )
 
 same-length : tie.Need-same-length Inv-loop μ-loop
 same-length c = omega arith
@@ -58,6 +71,7 @@ enter-children-spec =
     Inv-loop
     μ-loop
     loop-holds
+    core-at-requires
     enter-child-requires
     add-i
     sub-step-over

@@ -4,8 +4,9 @@ use mathlib.Core.List.{List}
 use mathlib.Core.Bool.{Bool, true, false, _&&_}
 use mathlib.Core.Option.{some}
 use lib.Dec.{ltb}
-use Rattle.tree.specs.Tree.{Ident, Node, Tree, Trees, ident, const, if, letin, define, lambda, begin, call, set!, nil, cons}
+use Rattle.tree.specs.Tree.{Ident, Node, Tree, Trees, ident, const, if, letin, define, lambda, sequence, call, set!, nil, cons}
 use Rattle.semantic.specs.Information.{NONE}
+use Rattle.tree.specs.Core.{core, cores}
 use Rattle.semantic.specs.declared.IdentifierStatus.the-variants.{Local}
 use Rattle.pass.specs.State.{State, newest, depth}
 use Rattle.pass.specs.Visit.{Flags, lastUseOf, sameIdent, markArgument, markArguments, isSelf, callFact, markIfTail, endCall, clearContext, beforeDefine, afterDefine}
@@ -22,7 +23,7 @@ module _ {Q : Property} (lawful : Lawful Q) {F : ℕ → Type 0} (unused : F 0) 
   each-argument (letin n xs es b) h = h
   each-argument (define n x b) h = h
   each-argument (lambda n xs b) h = h
-  each-argument (begin n es) h = h
+  each-argument (sequence n es) h = h
   each-argument (call n g es) h = h
   each-argument (set! n x e) h = h
 
@@ -42,13 +43,13 @@ module _ {Q : Property} (lawful : Lawful Q) {F : ℕ → Type 0} (unused : F 0) 
   each-fact (letin m xs es b) n tail k h = each-insert (n .at) _ unused h
   each-fact (define m x b) n tail k h = each-insert (n .at) _ unused h
   each-fact (lambda m xs b) n tail k h = each-insert (n .at) _ unused h
-  each-fact (begin m es) n tail k h = each-insert (n .at) _ unused h
+  each-fact (sequence m es) n tail k h = each-insert (n .at) _ unused h
   each-fact (call m g es) n tail k h = each-insert (n .at) _ unused h
   each-fact (set! m x e) n tail k h = each-insert (n .at) _ unused h
 
   pub each-call : (n : Node) (g : Tree) (es : Trees) (f : Flags) {s : State} → Each Q F s → Each Q F (endCall n g es f s)
   unfolding endCall
-  each-call n g es f {s} h = each-fact g n _ (f .counter) (each-tail (f .tail && ltb 1 (depth s)) es h)
+  each-call n g es f {s} h = each-fact (core g) n _ (f .counter) (each-tail (f .tail && ltb 1 (depth s)) (cores es) h)
 
   pub each-clear : (x : Ident) {s : State} → Each Q F s → Each Q F (clearContext x s)
   unfolding clearContext

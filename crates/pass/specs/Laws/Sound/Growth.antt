@@ -6,14 +6,16 @@ use mathlib.Core.Path.{ap, sym}
 use native.Mathlib.Omega.{arith}
 use lib.ListN.{length}
 use lib.Dec.{eqb}
-use Rattle.tree.specs.Tree.{Ident, Tree, Trees, ident, const, if, letin, define, lambda, begin, call, set!, nil, cons, many, size, sizes}
+use Rattle.tree.specs.Tree.{Ident, Tree, Trees, ident, const, if, letin, define, lambda, sequence, call, set!, nil, cons, many, size, sizes, begins, ands, whens}
 use Rattle.tree.specs.Define.{topOf, topLevel}
 use Rattle.tree.specs.TreeLaws.{sizes-⊕}
+use Rattle.tree.specs.Core.{core, cores}
+use Rattle.tree.specs.CoreLaws.{many-cores, size-core, sizes-cores}
 use Rattle.semantic.specs.Information.{NONE}
 use Rattle.semantic.specs.declared.IdentifierStatus.the-variants.{Global, Local, LocallyDefinedFunction}
 use Rattle.pass.specs.State.{State, withContext, depth}
 use Rattle.pass.specs.Lambda.{atBottom}
-use Rattle.pass.specs.Visit.{Flags, topFlags, notTail, sameTail, pushed, letBodyFlags, bodyFlags, argumentFlags, isLambda, headFlags, isNil, childFlags, defineFlags, beforeDefine, afterDefine, enterIfLambda, enterChild, enterChildren, visit, visitArguments, visitChildren, enterTopLambda, enterTop, enterTops, visitTopDefine, visitTop}
+use Rattle.pass.specs.Visit.{Flags, topFlags, notTail, sameTail, pushed, letBodyFlags, bodyFlags, argumentFlags, isLambda, headFlags, isNil, childFlags, defineFlags, beforeDefine, afterDefine, enterIfLambda, enterChild, enterChildren, visit, visitArguments, visitChildren, enterTopLambda, enterTop, enterTops, visitTopDefine, visitTop, inBegin, inAnd, isAlone, visitTested}
 use Rattle.pass.specs.Sound.{Grows}
 use Rattle.pass.specs.Laws.Scopes.{Any, lambda-depth, let-stays}
 use Rattle.pass.specs.Laws.Visits.{call-changes, clear-changes}
@@ -27,7 +29,7 @@ next h p q = grows-then p (q (omega (arith, p .layers h)))
 pub top-sizes : (ts : Trees) → sizes (topLevel ts) ≤ sizes ts
 unfolding topLevel topOf size
 top-sizes nil = omega arith
-top-sizes (cons t ts) = omega (arith, sizes-⊕ (topOf t) (topLevel ts), top-size t, top-sizes ts)
+top-sizes (cons t ts) = omega (arith, sizes-⊕ (topOf (core t)) (topLevel ts), top-size (core t), size-core t, top-sizes ts)
   where
     top-size : (t : Tree) → sizes (topOf t) ≤ size t
     top-size (ident x) = omega arith
@@ -36,7 +38,9 @@ top-sizes (cons t ts) = omega (arith, sizes-⊕ (topOf t) (topLevel ts), top-siz
     top-size (letin n xs es b) = omega arith
     top-size (define n x b) = omega arith
     top-size (lambda n xs b) = omega arith
-    top-size (begin n es) = omega arith
+    top-size (sequence (begins n) es) = omega (arith, sizes-cores es)
+    top-size (sequence (ands n) es) = omega arith
+    top-size (sequence (whens b n) es) = omega arith
     top-size (call n g es) = omega arith
     top-size (set! n x e) = omega arith
 
@@ -75,7 +79,7 @@ module _ (classes : List ℕ) where
       go true = grows-define classes LocallyDefinedFunction NONE x b s
       go false = grows-wide (omega arith) grows-none
   grows-child (lambda n xs b) s = grows-wide (omega arith) grows-none
-  grows-child (begin n es) s = grows-wide (omega arith) grows-none
+  grows-child (sequence n es) s = grows-wide (omega arith) grows-none
   grows-child (call n g es) s = grows-wide (omega arith) grows-none
   grows-child (set! n x e) s = grows-wide (omega arith) grows-none
 
@@ -106,7 +110,9 @@ module _ (classes : List ℕ) where
         grows-wide (omega arith) (around (f .direct) (isLambda b) (s .context) x b s (visit-grows b (defineFlags f) _ deep))
     visit-grows (lambda n xs b) f s h =
         grows-wide (omega arith) (grows-lambda n xs b (f .escape) s (visit-grows b (bodyFlags n (length xs) f) _ (omega (arith, lambda-depth n xs s h))))
-    visit-grows (begin n es) f s h = grows-wide (omega arith) (next h (grows-children es s) (λ k. children-grow es f _ k))
+    visit-grows (sequence (begins n) es) f s h = grows-wide (omega (arith, many-cores es)) (next h (grows-children (cores es) s) (λ k. children-grow es (inBegin f) _ k))
+    visit-grows (sequence (ands n) es) f s h = grows-wide (omega arith) (children-grow es (inAnd (isAlone es) f) s h)
+    visit-grows (sequence (whens b n) es) f s h = tested-grow es f s h
     visit-grows (call n g es) f s h =
         let p = next h (arguments-grow es (argumentFlags f) s h) (λ k. visit-grows g (headFlags g (many es) f) _ k) in
         grows-wide (omega arith) (grows-then p (grows-quiet (call-changes {own = Any} n g es f _ (λ c. tt))))
@@ -122,6 +128,12 @@ module _ (classes : List ℕ) where
     children-grow nil f s h = grows-none
     children-grow (cons t ts) f s h = grows-wide (omega arith) (next h (visit-grows t (childFlags (isNil ts) f) s h) (λ k. children-grow ts f _ k))
 
+    tested-grow : (ts : Trees) (f : Flags) (s : State) → 1 ≤ depth s → Grows 1 (1 + sizes ts) s (visitTested classes ts f s)
+    tested-grow nil f s h = grows-wide (omega arith) grows-none
+    tested-grow (cons t ts) f s h =
+        let p = next h (visit-grows t (notTail f) s h) (λ k. grows-children (cores ts) _) in
+        grows-wide (omega (arith, many-cores ts)) (next h p (λ k. children-grow ts (inBegin f) _ k))
+
   -- The top level
 
   grows-top : (t : Tree) (s : State) → Grows 0 1 s (enterTop classes t s)
@@ -135,7 +147,7 @@ module _ (classes : List ℕ) where
       go true = grows-define classes Global NONE x b s
       go false = grows-wide (omega arith) grows-none
   grows-top (lambda n xs b) s = grows-wide (omega arith) grows-none
-  grows-top (begin n es) s = grows-wide (omega arith) grows-none
+  grows-top (sequence n es) s = grows-wide (omega arith) grows-none
   grows-top (call n g es) s = grows-wide (omega arith) grows-none
   grows-top (set! n x e) s = grows-wide (omega arith) grows-none
 
@@ -156,6 +168,6 @@ module _ (classes : List ℕ) where
   top-grows (letin n xs es b) s h = visit-grows (letin n xs es b) topFlags s h
   top-grows (define n x b) s h = grows-wide (omega arith) (top-define (isLambda b) x b s h)
   top-grows (lambda n xs b) s h = visit-grows (lambda n xs b) topFlags s h
-  top-grows (begin n es) s h = visit-grows (begin n es) topFlags s h
+  top-grows (sequence n es) s h = visit-grows (sequence n es) topFlags s h
   top-grows (call n g es) s h = visit-grows (call n g es) topFlags s h
   top-grows (set! n x e) s h = visit-grows (set! n x e) topFlags s h

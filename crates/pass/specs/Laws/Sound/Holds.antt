@@ -7,10 +7,12 @@ use lib.ListN.{length, getD, drop, length-drop, length-map}
 use lib.Seq.{drop-drop, drop-append-seam, getD-drop}
 use Rattle.tree.specs.Record.{Record}
 use Rattle.tree.specs.RecordLaws.{blank}
-use Rattle.tree.specs.Tree.{Ident, Tree, Trees, ident, const, if, letin, define, lambda, begin, call, set!, nil, cons, named, flat, flats, size, sizes, NumNames, Num, Nums}
+use Rattle.tree.specs.Tree.{Ident, Tree, Trees, ident, const, if, letin, define, lambda, sequence, call, set!, nil, cons, named, flat, flats, size, sizes, NumNames, Num, Nums, begins, ands, whens}
 use Rattle.tree.specs.TreeLaws.{length-flat, length-flats}
 use Rattle.tree.specs.Define.{_⊕_, topOf, topLevel}
 use Rattle.tree.specs.Accepted.{All, Accepted}
+use Rattle.tree.specs.Core.{core, cores}
+use Rattle.tree.specs.CoreLaws.{to-core}
 use Rattle.pass.specs.Run.{rowsMost}
 use Rattle.pass.specs.Sound.{Holds, HoldsAll}
 use Rattle.pass.specs.Laws.All.{all-of, all-map}
@@ -29,7 +31,7 @@ module _ (P : Ident → Type 0) where
       holds-any (letin n xs es b) = (all-of P any xs, hold-any es, holds-any b)
       holds-any (define n x b) = (any x, holds-any b)
       holds-any (lambda n xs b) = (all-of P any xs, holds-any b)
-      holds-any (begin n es) = hold-any es
+      holds-any (sequence n es) = hold-any es
       holds-any (call n g es) = (holds-any g, hold-any es)
       holds-any (set! n x e) = (any x, holds-any e)
 
@@ -54,6 +56,15 @@ module _ (P : Ident → Type 0) where
   hold-rest nil us p = p
   hold-rest (cons t ts) us p = hold-rest ts us (p .1)
 
+  pub holds-core : (t : Tree) → Holds P t → Holds P (core t)
+  unfolding Holds
+  holds-core t p = to-core (Holds P) (λ n p. p) (λ n u p. p .0) t p
+
+  pub holds-cores : (ts : Trees) → HoldsAll P ts → HoldsAll P (cores ts)
+  unfolding Holds
+  holds-cores nil p = tt
+  holds-cores (cons t ts) p = (holds-core t (p .0), holds-cores ts (p .1))
+
   top-holds : (t : Tree) → Holds P t → HoldsAll P (topOf t)
   unfolding topOf Holds
   top-holds (ident x) p = (p, tt)
@@ -62,14 +73,16 @@ module _ (P : Ident → Type 0) where
   top-holds (letin n xs es b) p = (p, tt)
   top-holds (define n x b) p = (p, tt)
   top-holds (lambda n xs b) p = (p, tt)
-  top-holds (begin n es) p = p
+  top-holds (sequence (begins n) es) p = holds-cores es p
+  top-holds (sequence (ands n) es) p = (p, tt)
+  top-holds (sequence (whens b n) es) p = (p, tt)
   top-holds (call n g es) p = (p, tt)
   top-holds (set! n x e) p = (p, tt)
 
   pub tops-hold : (ts : Trees) → HoldsAll P ts → HoldsAll P (topLevel ts)
   unfolding topLevel Holds
   tops-hold nil p = tt
-  tops-hold (cons t ts) p = both-hold (topOf t) (topLevel ts) (top-holds t (p .0)) (tops-hold ts (p .1))
+  tops-hold (cons t ts) p = both-hold (topOf (core t)) (topLevel ts) (top-holds (core t) (holds-core t (p .0))) (tops-hold ts (p .1))
 
 -- from one property to another
 module _ (P Q : Ident → Type 0) (f : (x : Ident) → P x → Q x) where
@@ -83,7 +96,7 @@ module _ (P Q : Ident → Type 0) (f : (x : Ident) → P x → Q x) where
     holds-map (letin n xs es b) p = (all-map P Q f xs (p .0), hold-map es (p .1), holds-map b (p .2))
     holds-map (define n x b) p = (f x (p .0), holds-map b (p .1))
     holds-map (lambda n xs b) p = (all-map P Q f xs (p .0), holds-map b (p .1))
-    holds-map (begin n es) p = hold-map es p
+    holds-map (sequence n es) p = hold-map es p
     holds-map (call n g es) p = (holds-map g (p .0), hold-map es (p .1))
     holds-map (set! n x e) p = (f x (p .0), holds-map e (p .1))
 
@@ -134,7 +147,7 @@ module _ (l : List Record) where
         let dx = past i (_ ∷ []) _ 1 refl d ∙ append-assoc (map named xs) (flat b) q in
         let db = past (i + 1) (map named xs) _ (length xs) (length-map xs named) dx in
         (names-recorded (i + 1) xs _ (n .1) dx, tree-recorded (i + 1 + length xs) b q (n .2) db)
-    tree-recorded i (begin m es) q n d = trees-recorded (i + 1) es q (n .1) (past i (_ ∷ []) _ 1 refl d)
+    tree-recorded i (sequence m es) q n d = trees-recorded (i + 1) es q (n .1) (past i (_ ∷ []) _ 1 refl d)
     tree-recorded i (call m g es) q n d =
         let dg = past i (_ ∷ []) _ 1 refl d ∙ append-assoc (flat g) (flats es) q in
         (tree-recorded (i + 1) g _ (n .1) dg, trees-recorded (i + 1 + size g) es q (n .2) (past (i + 1) (flat g) _ (size g) (length-flat g) dg))

@@ -7,6 +7,7 @@ use mathlib.Core.Path.{_≡_, refl, sym, subst, _∙_}
 use native.Mathlib.Omega.{arith}
 use lib.Dec.{eqb, ltb}
 use Rattle.tree.specs.Tree.{Ident, Tree}
+use Rattle.tree.specs.Core.{core}
 use Rattle.scope_map.specs.ScopeMap.{Live, get, hasAtTop}
 use Rattle.scope_map.specs.ScopeMap as map
 use Rattle.semantic.specs.Information.{NONE, withUsageCount, markSet, markBuiltin, markRequired, markShadowed}
@@ -38,7 +39,7 @@ last-some P x p y q = subst P (Option·some-injective x y q) p
 
 define-uses : (classes : List ℕ) (k : IdentifierStatus) (a : ℕ) (x : Ident) (b : Tree) (s : State) → defineFact classes k a x b s .«usage_count» ≡ 0
 unfolding defineFact
-define-uses classes k a x b s = marked-uses (isBuiltin classes b) markBuiltin _ refl ∙ marked-uses (isRequired classes b) markRequired _ refl
+define-uses classes k a x b s = marked-uses (isBuiltin classes (core b)) markBuiltin _ refl ∙ marked-uses (isRequired classes (core b)) markRequired _ refl
 
 module _ {Q : Property} {F : ℕ → Type 0} (unused : F 0) where
   live-noted : (b : Bool) (i : ℕ) {s : State} → Each Q F s → Each Q F (noteLive b i s)

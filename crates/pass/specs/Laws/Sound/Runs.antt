@@ -6,7 +6,7 @@ use mathlib.Core.Option.{Option, none, some}
 use mathlib.Core.Path.{_≡_, refl}
 use native.Mathlib.Omega.{arith}
 use lib.ListN.{getD}
-use Rattle.tree.specs.Tree.{Ident, Tree, Trees, ident, const, if, letin, define, lambda, begin, call, set!, nil, cons, flats, size, sizes}
+use Rattle.tree.specs.Tree.{Ident, Tree, Trees, ident, const, if, letin, define, lambda, sequence, call, set!, nil, cons, flats, size, sizes, begins, ands, whens}
 use Rattle.tree.specs.TreeLaws.{length-flats}
 use Rattle.tree.specs.Accepted.{Accepted}
 use Rattle.tree.specs.Define.{topLevel}
@@ -15,7 +15,7 @@ use Rattle.semantic.specs.declared.FunctionInformation.{FunctionInformation}
 use Rattle.pass.specs.State.{Entry, Facts, State, noEntry, entryAt}
 use Rattle.pass.specs.Visit.{Flags, isLambda, enterChildren, visit, visitArguments, visitChildren, enterTops, visitTop, visitTops}
 use Rattle.pass.specs.Run.{rowsMost, itemsMost, noFacts, start, run, fresh}
-use Rattle.pass.specs.Sound.{Property, Lawful, usesIn, Each, Sound, Counted, Holds, HoldsAll, Listed, Inside, Opens, OpensArguments, OpensChildren, OpensDefine, OpensTop, OpensTops}
+use Rattle.pass.specs.Sound.{Property, Lawful, usesIn, Each, Sound, Counted, Holds, HoldsAll, Listed, Inside, Opens, OpensArguments, OpensChildren, OpensDefine, OpensTop, OpensTops, OpensTested}
 use Rattle.pass.specs.Laws.Sound.Lists.{same-each}
 use Rattle.pass.specs.Laws.Sound.Each.{Fine, fine}
 use Rattle.pass.specs.Laws.Sound.Names.{last-none}
@@ -66,7 +66,9 @@ module _ (L : Option FunctionInformation → Type 0) (any : (v : Option Function
     opens-any (letin n xs es b) f s = (arguments-any es _ _, opens-any b _ _)
     opens-any (define n x b) f s = opens-any b _ _
     opens-any (lambda n xs b) f s = (any _, opens-any b _ _)
-    opens-any (begin n es) f s = children-any es _ _
+    opens-any (sequence (begins n) es) f s = children-any es _ _
+    opens-any (sequence (ands n) es) f s = children-any es _ _
+    opens-any (sequence (whens b n) es) f s = tested-any es _ _
     opens-any (call n g es) f s = (arguments-any es _ _, opens-any g _ _)
     opens-any (set! n x e) f s = opens-any e _ _
 
@@ -77,6 +79,10 @@ module _ (L : Option FunctionInformation → Type 0) (any : (v : Option Function
     pub children-any : (ts : Trees) (f : Flags) (s : State) → OpensChildren L classes ts f s
     children-any nil f s = tt
     children-any (cons t ts) f s = (opens-any t _ _, children-any ts _ _)
+
+    tested-any : (ts : Trees) (f : Flags) (s : State) → OpensTested L classes ts f s
+    tested-any nil f s = tt
+    tested-any (cons t ts) f s = (opens-any t _ _, children-any ts _ _)
 
   define-any : (l : Bool) (x : Ident) (b : Tree) (s : State) → OpensDefine L classes l x b s
   define-any true x b s = opens-any b _ _
@@ -90,7 +96,7 @@ module _ (L : Option FunctionInformation → Type 0) (any : (v : Option Function
   top-any (letin n xs es b) s = opens-any (letin n xs es b) _ _
   top-any (define n x b) s = define-any (isLambda b) x b s
   top-any (lambda n xs b) s = opens-any (lambda n xs b) _ _
-  top-any (begin n es) s = opens-any (begin n es) _ _
+  top-any (sequence n es) s = opens-any (sequence n es) _ _
   top-any (call n g es) s = opens-any (call n g es) _ _
   top-any (set! n x e) s = opens-any (set! n x e) _ _
 

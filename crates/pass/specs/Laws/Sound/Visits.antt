@@ -5,14 +5,16 @@ use mathlib.Core.Bool.{Bool, true, false}
 use mathlib.Core.Option.{Option, none}
 use native.Mathlib.Omega.{arith}
 use lib.ListN.{length}
-use Rattle.tree.specs.Tree.{Ident, Tree, Trees, ident, const, if, letin, define, lambda, begin, call, set!, nil, cons, many, size, sizes}
+use Rattle.tree.specs.Tree.{Ident, Tree, Trees, ident, const, if, letin, define, lambda, sequence, call, set!, nil, cons, many, size, sizes, begins, ands, whens}
+use Rattle.tree.specs.Core.{cores}
+use Rattle.pass.specs.Laws.Sound.Holds.{holds-cores}
 use Rattle.semantic.specs.Information.{NONE}
 use Rattle.semantic.specs.declared.FunctionInformation.{FunctionInformation}
 use Rattle.semantic.specs.declared.IdentifierStatus.the-variants.{Global, LocallyDefinedFunction}
 use Rattle.pass.specs.State.{State, rowAt}
 use Rattle.pass.specs.Lambda.{functionIn, atBottom}
-use Rattle.pass.specs.Visit.{Flags, topFlags, notTail, sameTail, pushed, letBodyFlags, bodyFlags, argumentFlags, isLambda, headFlags, isNil, childFlags, defineFlags, enterIfLambda, enterChild, enterChildren, visit, visitArguments, visitChildren, enterTopLambda, enterTop, enterTops, visitTopDefine, visitTop, visitTops}
-use Rattle.pass.specs.Sound.{Property, Lawful, Counting, Each, Holds, HoldsAll, Listed, Opens, OpensArguments, OpensChildren, OpensDefine, OpensTop, OpensTops}
+use Rattle.pass.specs.Visit.{Flags, topFlags, notTail, sameTail, pushed, letBodyFlags, bodyFlags, argumentFlags, isLambda, headFlags, isNil, childFlags, defineFlags, enterIfLambda, enterChild, enterChildren, visit, visitArguments, visitChildren, enterTopLambda, enterTop, enterTops, visitTopDefine, visitTop, visitTops, inBegin, inAnd, isAlone, visitTested}
+use Rattle.pass.specs.Sound.{Property, Lawful, Counting, Each, Holds, HoldsAll, Listed, Opens, OpensArguments, OpensChildren, OpensDefine, OpensTop, OpensTops, OpensTested}
 use Rattle.pass.specs.Laws.Sound.Each.{each-context}
 use Rattle.pass.specs.Laws.Sound.Names.{each-grow, each-read, each-mutate, each-define, each-value}
 use Rattle.pass.specs.Laws.Sound.Scopes.{each-enter-lambda, each-leave-lambda, each-enter-let, each-leave-let}
@@ -33,7 +35,7 @@ module _ {Q : Property} {F : ℕ → Type 0} (unused : F 0) (classes : List ℕ)
       go true = each-define unused classes LocallyDefinedFunction NONE x b (p .0) h
       go false = h
   each-child (lambda n xs b) s p h = h
-  each-child (begin n es) s p h = h
+  each-child (sequence n es) s p h = h
   each-child (call n g es) s p h = h
   each-child (set! n x e) s p h = h
 
@@ -54,7 +56,7 @@ module _ {Q : Property} {F : ℕ → Type 0} (unused : F 0) (classes : List ℕ)
       go true = each-define unused classes Global NONE x b (p .0) h
       go false = h
   each-top (lambda n xs b) s p h = h
-  each-top (begin n es) s p h = h
+  each-top (sequence n es) s p h = h
   each-top (call n g es) s p h = h
   each-top (set! n x e) s p h = h
 
@@ -93,8 +95,11 @@ module _ {Q : Property} (lawful : Lawful Q) {F : ℕ → ℕ → Type 0} (counti
         let in-lambda = each-enter-lambda lawful (counting .none k) n xs (listed (functionIn (rowAt s (n .at))) (o .0)) (p .0) h in
         let body = each-visit b (bodyFlags n (length xs) f) _ k (p .1) (o .1) in-lambda in
         each-grow counting (k + size b) _ (omega arith) (each-leave-lambda lawful (counting .none (k + size b)) n xs b (f .escape) body)
-    each-visit (begin n es) f s k p o h =
-        each-grow counting (k + sizes es) _ (omega arith) (visited-children es f _ k p o (each-children (counting .none k) classes es s p h))
+    each-visit (sequence (begins n) es) f s k p o h =
+        each-grow counting (k + sizes es) _ (omega arith)
+        (visited-children es (inBegin f) _ k p o (each-children (counting .none k) classes (cores es) s (holds-cores (Q .ident) es p) h))
+    each-visit (sequence (ands n) es) f s k p o h = each-grow counting (k + sizes es) _ (omega arith) (visited-children es (inAnd (isAlone es) f) s k p o h)
+    each-visit (sequence (whens b n) es) f s k p o h = each-grow counting (k + sizes es) _ (omega arith) (visited-tested es f s k p o h)
     each-visit (call n g es) f s k p o h =
         let j = k + sizes es in
         let args = visited-arguments es (argumentFlags f) s k (p .1) (o .0) h in
@@ -119,6 +124,14 @@ module _ {Q : Property} (lawful : Lawful Q) {F : ℕ → ℕ → Type 0} (counti
         let first = each-visit t (childFlags (isNil ts) f) s k (p .0) (o .0) h in
         each-grow counting (k + size t + sizes ts) _ (omega arith) (visited-children ts f _ (k + size t) (p .1) (o .1) first)
 
+    visited-tested : (ts : Trees) (f : Flags) (s : State) (k : ℕ) → HoldsAll (Q .ident) ts → OpensTested L classes ts f s → Each Q (F k) s
+        → Each Q (F (k + sizes ts)) (visitTested classes ts f s)
+    visited-tested nil f s k p o h = each-grow counting k _ (omega arith) h
+    visited-tested (cons t ts) f s k p o h =
+        let first = each-visit t (notTail f) s k (p .0) (o .0) h in
+        let entered = each-children (counting .none (k + size t)) classes (cores ts) _ (holds-cores (Q .ident) ts (p .1)) first in
+        each-grow counting (k + size t + sizes ts) _ (omega arith) (visited-children ts (inBegin f) _ (k + size t) (p .1) (o .1) entered)
+
   -- The top level
 
   top-define : (l : Bool) (x : Ident) (b : Tree) (s : State) (k : ℕ) → Q .ident x → Holds (Q .ident) b → OpensDefine L classes l x b s → Each Q (F k) s
@@ -135,7 +148,7 @@ module _ {Q : Property} (lawful : Lawful Q) {F : ℕ → ℕ → Type 0} (counti
   each-visit-top (letin n xs es b) s k p o h = each-visit (letin n xs es b) topFlags s k p o h
   each-visit-top (define n x b) s k p o h = each-grow counting (k + size b) _ (omega arith) (top-define (isLambda b) x b s k (p .0) (p .1) o h)
   each-visit-top (lambda n xs b) s k p o h = each-visit (lambda n xs b) topFlags s k p o h
-  each-visit-top (begin n es) s k p o h = each-visit (begin n es) topFlags s k p o h
+  each-visit-top (sequence n es) s k p o h = each-visit (sequence n es) topFlags s k p o h
   each-visit-top (call n g es) s k p o h = each-visit (call n g es) topFlags s k p o h
   each-visit-top (set! n x e) s k p o h = each-visit (set! n x e) topFlags s k p o h
 

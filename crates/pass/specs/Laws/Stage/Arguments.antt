@@ -8,8 +8,9 @@ use native.Mathlib.Omega.{arith}
 use borrow.Author.Tests.{lt-ltb}
 use lib.ListN.{length, length-append}
 use lib.Dec.{eqb, ltb}
-use Rattle.tree.specs.Tree.{Ident, Node, Tree, Trees, ident, const, if, letin, define, lambda, begin, call, set!, nil, cons, many, bit, size, sizes, Num, Nums}
+use Rattle.tree.specs.Tree.{Ident, Node, Tree, Trees, ident, const, if, letin, define, lambda, sequence, call, set!, nil, cons, many, bit, size, sizes, Num, Nums, begins, ands, whens}
 use Rattle.tree.specs.TreeLaws.{size-pos}
+use Rattle.tree.specs.Core.{core, andOf, cores}
 use Rattle.scope_map.specs.ScopeMap.{ScopeMap, Live, layerIn, belowLayer, popLayer, newestLayer, remove}
 use Rattle.scope_map.specs.SizeLaws.{define-size, remove-size, pop-size}
 use Rattle.semantic.specs.Information.{NONE}
@@ -21,8 +22,8 @@ use Rattle.pass.specs.State.{Entry, Capture, State, withContext, withNam
 use Rattle.pass.specs.Read.{enter, enterDefine, enterTopLevelValue, mutate}
 use Rattle.pass.specs.Lists.{capturedMost, storeCaptured, storeArguments, rewriteCaptured}
 use Rattle.pass.specs.Lambda.{isHeap, noteHeap, enterName, enterNames, functionIn, openCaptures, openScope, enterParameters, enterLambda, itemsOf, closeScope, closeCaptures, makeFunction, amendFunction, functionEnds, leaveLambda, openLet, closeLet, atBottom, enterLet, leaveNames, entered, makeLet, leaveLet}
-use Rattle.pass.specs.Visit.{Flags, notTail, sameTail, pushed, letBodyFlags, bodyFlags, argumentFlags, isLambda, headFlags, isNil, childFlags, defineFlags, clearContext, beforeDefine, afterDefine, enterChild, enterChildren, visit, visitArguments, visitChildren}
-use Rattle.pass.specs.Stage.{due, entering, enterings}
+use Rattle.pass.specs.Visit.{Flags, notTail, sameTail, pushed, letBodyFlags, bodyFlags, argumentFlags, isLambda, headFlags, isNil, childFlags, defineFlags, clearContext, beforeDefine, afterDefine, enterChild, enterChildren, visit, visitArguments, visitChildren, inBegin, inAnd, isAlone, visitTested}
+use Rattle.pass.specs.Stage.{due, entering, enterings, enteringForm}
 use Rattle.pass.specs.Laws.Changes.{keeps-depth}
 use Rattle.pass.specs.Laws.Scopes.{Any, lambda-depth, let-stays}
 use Rattle.pass.specs.Laws.Visits.{stays, before-changes, children-changes, clear-changes}
@@ -198,16 +199,25 @@ few true = omega arith
 few false = omega arith
 
 -- no more names enter before the visits than there are records
+form-one : (t : Tree) → enteringForm t ≤ 1
+form-one (ident x) = omega arith
+form-one (const n q) = omega arith
+form-one (if n a b c) = omega arith
+form-one (letin n xs es b) = omega arith
+form-one (define n x b) = few (isLambda b)
+form-one (lambda n xs b) = omega arith
+form-one (sequence n es) = omega arith
+form-one (call n h es) = omega arith
+form-one (set! n x e) = omega arith
+
 pub entered-one : (t : Tree) → entering t ≤ 1
-entered-one (ident x) = omega arith
-entered-one (const n q) = omega arith
-entered-one (if n a b c) = omega arith
-entered-one (letin n xs es b) = omega arith
-entered-one (define n x b) = few (isLambda b)
-entered-one (lambda n xs b) = omega arith
-entered-one (begin n es) = omega arith
-entered-one (call n h es) = omega arith
-entered-one (set! n x e) = omega arith
+entered-one t = form-one (core t)
+
+-- an and of one child enters the name that the child does
+and-entering : (m : Node) (es : Trees) → enteringForm (andOf es m) ≤ enterings es
+and-entering m nil = omega arith
+and-entering m (cons t nil) = omega arith
+and-entering m (cons t (cons u us)) = omega arith
 
 pub entered-few : (ts : Trees) → enterings ts ≤ sizes ts
 unfolding size
@@ -215,15 +225,15 @@ entered-few nil = omega arith
 entered-few (cons t ts) = omega (arith, entered-one t, size-pos t, entered-few ts)
 
 module _ (classes : List ℕ) where
-  child-due : (t : Tree) (s : State) → Grown (entering t) s (enterChild classes t s)
+  child-due : (t : Tree) (s : State) → Grown (enteringForm t) s (enterChild classes t s)
   child-due t =
-      by-child classes (λ u g. (s : State) → Grown (entering u) s (g s)) (λ u s. atMost (omega arith) (none-due s))
+      by-child classes (λ u g. (s : State) → Grown (enteringForm u) s (g s)) (λ u s. atMost (omega arith) (none-due s))
       (λ n x b e s. rw e (define-due classes LocallyDefinedFunction NONE x b s)) t
 
-  pub children-due : (ts : Trees) (s : State) → Grown (enterings ts) s (enterChildren classes ts s)
+  pub children-due : (ts : Trees) (s : State) → Grown (enterings ts) s (enterChildren classes (cores ts) s)
   unfolding enterChildren
   children-due nil s = none-due s
-  children-due (cons t ts) s = child-due t s ⟫ children-due ts _
+  children-due (cons t ts) s = child-due (core t) s ⟫ children-due ts _
 
   pub before-due : (direct lambda : Bool) (x : Ident) (b : Tree) (s : State) → Grown 1 s (beforeDefine classes direct lambda x b s)
   before-due true true x b s = atMost (omega arith) (same-due refl refl)
@@ -287,10 +297,12 @@ module _ (classes : List ℕ) where
           visit-due (i + 1 + length xs) b (n .2) (bodyFlags m (length xs) f) u (omega arith),
           leave-lambda-due m xs b (f .escape) w (omega arith) .by,
         )
-    visit-due i (begin m es) n f s h =
-        let u = enterChildren classes es s in
-        let g = stays (children-changes {own = Any} classes es s (trees-any es)) h in
-        omega (arith, children-due es s .by, children-visited-due (i + 1) es (n .1) f u g)
+    visit-due i (sequence (begins m) es) n f s h =
+        let u = enterChildren classes (cores es) s in
+        let g = stays (children-changes {own = Any} classes (cores es) s (trees-any (cores es))) h in
+        omega (arith, children-due es s .by, children-visited-due (i + 1) es (n .1) (inBegin f) u g)
+    visit-due i (sequence (ands m) es) n f s h = omega (arith, children-visited-due (i + 1) es (n .1) (inAnd (isAlone es) f) s h, and-entering m es)
+    visit-due i (sequence (whens b m) es) n f s h = omega (arith, tested-due (i + 1) es (n .1) f s h)
     visit-due i (call m e es) n f s h =
         let u = visitArguments classes es (argumentFlags f) s in
         let g = stays (visited-arguments classes es (argumentFlags f) s h) h in
@@ -319,6 +331,22 @@ module _ (classes : List ℕ) where
     arguments-due i (cons t ts) n f s h =
         let u = visit classes t f s in
         omega (arith, visit-due i t (n .0) f s h, arguments-due (i + size t) ts (n .1) (pushed f) u (stays (visited classes t f s h) h))
+
+    -- a test and what follows it
+    tested-due : (i : ℕ) (ts : Trees) → Nums i ts → (f : Flags) (s : State) → 1 ≤ depth s
+        → due (visitTested classes ts f s) ≤ due s + sizes ts
+    tested-due i nil n f s h = omega arith
+    tested-due i (cons t ts) n f s h =
+        let v = visit classes t (notTail f) s in
+        let k = stays (visited classes t (notTail f) s h) h in
+        let u = enterChildren classes (cores ts) v in
+        let g = stays (children-changes {own = Any} classes (cores ts) v (trees-any (cores ts))) k in
+        omega (
+          arith,
+          visit-due i t (n .0) (notTail f) s h,
+          children-due ts v .by,
+          children-visited-due (i + size t) ts (n .1) (inBegin f) u g,
+        )
 
     pub children-visited-due : (i : ℕ) (ts : Trees) → Nums i ts → (f : Flags) (s : State) → 1 ≤ depth s
         → due (visitChildren classes ts f s) + enterings ts ≤ due s + sizes ts

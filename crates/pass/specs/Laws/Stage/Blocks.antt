@@ -3,7 +3,7 @@ use Prim.Native.Nat.{ℕ, _+_, _≤_, _<_}
 use mathlib.Core.Path.{_≡_, refl, ap, sym, subst, _∙_}
 use native.Mathlib.Omega.{arith}
 use lib.ListN.{length}
-use Rattle.tree.specs.Tree.{Tree, Trees, ident, const, if, letin, define, lambda, begin, call, set!, nil, cons, size, sizes, Num, Nums}
+use Rattle.tree.specs.Tree.{Tree, Trees, ident, const, if, letin, define, lambda, sequence, call, set!, nil, cons, size, sizes, Num, Nums}
 use Rattle.semantic.specs.Kinds.{functionIn, letIn}
 use Rattle.semantic.specs.Rows.{Row, Blank, Variable, Function, CallSite, Let}
 use Rattle.pass.specs.State.{State, rowAt}
@@ -36,7 +36,7 @@ module _ {F L G M : ℕ → Type 0} where
       g (k .at) (omega (arith, n .0)) (omega (arith, n .0)) (b .0),
       blocks-map (i + 1 + length xs) t (n .2) (λ x l h. g x (omega arith) (omega arith)) (λ x l h. m x (omega arith) (omega arith)) (b .1),
     )
-    blocks-map i (begin k es) n g m b = blocks-map-all (i + 1) es (n .1) (λ x l h. g x (omega arith) (omega arith)) (λ x l h. m x (omega arith) (omega arith)) b
+    blocks-map i (sequence k es) n g m b = blocks-map-all (i + 1) es (n .1) (λ x l h. g x (omega arith) (omega arith)) (λ x l h. m x (omega arith) (omega arith)) b
     blocks-map i (call k t es) n g m b = (
       blocks-map (i + 1) t (n .1) (λ x l h. g x (omega arith) (omega arith)) (λ x l h. m x (omega arith) (omega arith)) (b .0),
       blocks-map-all (i + 1 + size t) es (n .2) (λ x l h. g x (omega arith) (omega arith)) (λ x l h. m x (omega arith) (omega arith)) (b .1),

@@ -8,7 +8,8 @@ use native.Mathlib.Omega.{arith}
 use lib.ListN.{length}
 use lib.Dec.{ltb}
 use Rattle.tree.specs.Check.{member}
-use Rattle.tree.specs.Tree.{Ident, Node, Tree, Trees, ident, const, if, letin, define, lambda, begin, call, set!, nil, cons, many, size, sizes, Num, Nums}
+use Rattle.tree.specs.Tree.{Ident, Node, Tree, Trees, ident, const, if, letin, define, lambda, sequence, call, set!, nil, cons, many, size, sizes, Num, Nums, begins, ands, whens}
+use Rattle.tree.specs.Core.{cores}
 use Rattle.scope_map.specs.ScopeMap.{ScopeMap, Live, newestLayer}
 use Rattle.semantic.specs.Information.{NONE}
 use Rattle.semantic.specs.Rows.{Row, Item}
@@ -17,7 +18,7 @@ use Rattle.pass.specs.State.{Capture, State, withContext, insert, rowAt,
 use Rattle.pass.specs.Read.{mutate}
 use Rattle.pass.specs.Lists.{addCaptured, capturedIn, capturedVars, sortById, storeArguments, rewriteCaptured}
 use Rattle.pass.specs.Lambda.{functionIn, enterLambda, makeFunction, amendFunction, functionEnds, nameIn, itemsOf, markLasts, closeScope, closeCaptures, endParameters, leaveLambda, atBottom, enterLet, entered, makeLet, leaveLet}
-use Rattle.pass.specs.Visit.{Flags, notTail, sameTail, pushed, letBodyFlags, bodyFlags, argumentFlags, isLambda, headFlags, isNil, childFlags, defineFlags, clearContext, beforeDefine, enterChildren, visit, visitArguments, visitChildren}
+use Rattle.pass.specs.Visit.{Flags, notTail, sameTail, pushed, letBodyFlags, bodyFlags, argumentFlags, isLambda, headFlags, isNil, childFlags, defineFlags, clearContext, beforeDefine, enterChildren, visit, visitArguments, visitChildren, inBegin, inAnd, isAlone, visitTested}
 use Rattle.pass.specs.Run.{itemsMost}
 use Rattle.pass.specs.Stage.{due, enterings}
 use Rattle.pass.specs.Laws.Order.{sorted-length}
@@ -150,14 +151,16 @@ module _ (classes : List ℕ) where
           visit-due classes (i + 1 + length xs) b (n .2) k u g,
           leave-lambda-top m xs b (f .escape) w,
         )
-    visit-top i (begin m es) n f s h l =
-        let u = enterChildren classes es s in
+    visit-top i (sequence (begins m) es) n f s h l =
+        let u = enterChildren classes (cores es) s in
         omega (
           arith,
-          children-apart classes es s .stored .captured,
-          children-top (i + 1) es (n .1) f u (stays (children-changes {own = Any} classes es s (trees-any es)) h)
+          children-apart classes (cores es) s .stored .captured,
+          children-top (i + 1) es (n .1) (inBegin f) u (stays (children-changes {own = Any} classes (cores es) s (trees-any (cores es))) h)
               (omega (arith, children-due classes es s .by)),
         )
+    visit-top i (sequence (ands m) es) n f s h l = omega (arith, children-top (i + 1) es (n .1) (inAnd (isAlone es) f) s h (omega arith))
+    visit-top i (sequence (whens b m) es) n f s h l = omega (arith, tested-top (i + 1) es (n .1) f s h (omega arith))
     visit-top i (call m e es) n f s h l =
         let u = visitArguments classes es (argumentFlags f) s in
         let k = headFlags e (many es) f in
@@ -189,6 +192,22 @@ module _ (classes : List ℕ) where
           arith,
           visit-top i t (n .0) f s h (omega arith),
           arguments-top (i + size t) ts (n .1) (pushed f) u (stays (visited classes t f s h) h) (omega arith),
+        )
+
+    tested-top : (i : ℕ) (ts : Trees) → Nums i ts → (f : Flags) (s : State) → 1 ≤ depth s → due s + sizes ts ≤ itemsMost
+        → visitTested classes ts f s .facts .capturedTop ≤ s .facts .capturedTop + itemsMost * sizes ts
+    tested-top i nil n f s h l = omega arith
+    tested-top i (cons t ts) n f s h l =
+        let v = visit classes t (notTail f) s in
+        let k = stays (visited classes t (notTail f) s h) h in
+        let u = enterChildren classes (cores ts) v in
+        let g = stays (children-changes {own = Any} classes (cores ts) v (trees-any (cores ts))) k in
+        let p = visit-due classes i t (n .0) (notTail f) s h in
+        omega (
+          arith,
+          visit-top i t (n .0) (notTail f) s h (omega arith),
+          children-apart classes (cores ts) v .stored .captured,
+          children-top (i + size t) ts (n .1) (inBegin f) u g (omega (arith, children-due classes ts v .by)),
         )
 
     pub children-top : (i : ℕ) (ts : Trees) → Nums i ts → (f : Flags) (s : State) → 1 ≤ depth s → due s + sizes ts ≤ itemsMost + enterings ts

@@ -8,8 +8,9 @@ use native.Mathlib.Omega.{arith}
 use borrow.Author.Tests.{lt-ltb, eq-eqb, ne-eqb}
 use lib.ListN.{length, replicate}
 use lib.Dec.{eqb, ltb}
-use Rattle.tree.specs.Tree.{Ident, Node, Tree, Trees, ident, const, if, letin, define, lambda, begin, call, set!, nil, cons, many}
+use Rattle.tree.specs.Tree.{Ident, Node, Tree, Trees, ident, const, if, letin, define, lambda, sequence, call, set!, nil, cons, many, begins, ands, whens}
 use Rattle.tree.specs.Accepted.{All}
+use Rattle.tree.specs.Core.{cores}
 use Rattle.scope_map.specs.ScopeMap.{ScopeMap, Live, belowLayer, popLayer, newestLayer}
 use Rattle.semantic.specs.Information.{NONE}
 use Rattle.semantic.specs.Rows.{Row, Item}
@@ -17,7 +18,7 @@ use Rattle.semantic.specs.declared.FunctionInformation.{FunctionInformation}
 use Rattle.pass.specs.State.{Capture, State, withContext, rowAt, insert, depth}
 use Rattle.pass.specs.Lists.{capturedMost, storeCaptured, storeArguments, rewriteCaptured}
 use Rattle.pass.specs.Lambda.{functionIn, openCaptures, enterLambda, closeCaptures, makeFunction, amendFunction, functionEnds, leaveLambda, atBottom, enterLet, entered, makeLet, leaveLet}
-use Rattle.pass.specs.Visit.{Flags, notTail, sameTail, pushed, letBodyFlags, bodyFlags, argumentFlags, isLambda, headFlags, isNil, childFlags, defineFlags, visit, visitArguments, visitChildren}
+use Rattle.pass.specs.Visit.{Flags, notTail, sameTail, pushed, letBodyFlags, bodyFlags, argumentFlags, isLambda, headFlags, isNil, childFlags, defineFlags, visit, visitArguments, visitChildren, inBegin, inAnd, isAlone, visitTested}
 use Rattle.pass.specs.Stage.{layersOf, Layered}
 use Rattle.pass.specs.Laws.Changes.{Changes}
 use Rattle.pass.specs.Laws.Scopes.{Any, lambda-depth, let-stays}
@@ -200,9 +201,11 @@ module _ (classes : List ℕ) where
         p ⟫ visit-stacked b (defineFlags f) _ g ⟫ after-apart classes (f .direct) (isLambda b) (s .context) x b _ .stacked
     visit-stacked (lambda n xs b) f s h =
         leave-lambda-stacked n xs b (f .escape) h (lambda-opened n xs s) (visit-stacked b (bodyFlags n (length xs) f) _ (layered-in-lambda n xs s h))
-    visit-stacked (begin n es) f s h =
-        let p = children-apart classes es s .stacked in
-        p ⟫ children-stacked es f _ (next h (children-changes {own = Any} classes es s (trees-any es)) p)
+    visit-stacked (sequence (begins n) es) f s h =
+        let p = children-apart classes (cores es) s .stacked in
+        p ⟫ children-stacked es (inBegin f) _ (next h (children-changes {own = Any} classes (cores es) s (trees-any (cores es))) p)
+    visit-stacked (sequence (ands n) es) f s h = children-stacked es (inAnd (isAlone es) f) s h
+    visit-stacked (sequence (whens b n) es) f s h = tested-stacked es f s h
     visit-stacked (call n e es) f s h =
         let p = arguments-stacked-visited es (argumentFlags f) s h in
         let g = next h (visited-arguments classes es (argumentFlags f) s (h .scope)) p in
@@ -221,3 +224,11 @@ module _ (classes : List ℕ) where
     children-stacked (cons t ts) f s h =
         let g = childFlags (isNil ts) f in
         let p = visit-stacked t g s h in p ⟫ children-stacked ts f _ (next h (visited classes t g s (h .scope)) p)
+
+    pub tested-stacked : (ts : Trees) (f : Flags) (s : State) → Layered s → Stacked s (visitTested classes ts f s)
+    tested-stacked nil f s h = as-stacked refl
+    tested-stacked (cons t ts) f s h =
+        let p = visit-stacked t (notTail f) s h in
+        let g = next h (visited classes t (notTail f) s (h .scope)) p in
+        let q = children-apart classes (cores ts) _ .stacked in
+        p ⟫ q ⟫ children-stacked ts (inBegin f) _ (next g (children-changes {own = Any} classes (cores ts) _ (trees-any (cores ts))) q)

@@ -4,7 +4,7 @@ use mathlib.Core.List.{List}
 use mathlib.Core.Bool.{Bool, true, false}
 use mathlib.Core.Option.{Option}
 use mathlib.Core.Path.{_≡_, refl}
-use Rattle.tree.specs.Tree.{Ident, Node, Tree, ident, const, if, letin, define, lambda, begin, call, set! }
+use Rattle.tree.specs.Tree.{Ident, Node, Tree, ident, const, if, letin, define, lambda, sequence, call, set! }
 use Rattle.semantic.specs.Information.{NONE}
 use Rattle.semantic.specs.Rows.{Row, Blank, Variable, Function, CallSite, Let, Item}
 use Rattle.semantic.specs.declared.IdentifierStatus.the-variants.{LocallyDefinedFunction, Global}
@@ -37,7 +37,7 @@ module _ (classes : List ℕ) (P : Tree → (State → State) → Type 0) where
       go true e = d n x b e
       go false e = o (define n x b)
   by-child o d (lambda n xs b) = o (lambda n xs b)
-  by-child o d (begin n es) = o (begin n es)
+  by-child o d (sequence n es) = o (sequence n es)
   by-child o d (call n h es) = o (call n h es)
   by-child o d (set! n x e) = o (set! n x e)
 
@@ -54,7 +54,7 @@ module _ (classes : List ℕ) (P : Tree → (State → State) → Type 0) where
       go true e = d n x b e
       go false e = o (define n x b)
   by-top-name o d (lambda n xs b) = o (lambda n xs b)
-  by-top-name o d (begin n es) = o (begin n es)
+  by-top-name o d (sequence n es) = o (sequence n es)
   by-top-name o d (call n h es) = o (call n h es)
   by-top-name o d (set! n x e) = o (set! n x e)
 
@@ -68,6 +68,6 @@ module _ (classes : List ℕ) (P : Tree → (State → State) → Type 0) where
   by-top v d (letin n xs es b) = v (letin n xs es b)
   by-top v d (define n x b) = d n x b
   by-top v d (lambda n xs b) = v (lambda n xs b)
-  by-top v d (begin n es) = v (begin n es)
+  by-top v d (sequence n es) = v (sequence n es)
   by-top v d (call n h es) = v (call n h es)
   by-top v d (set! n x e) = v (set! n x e)

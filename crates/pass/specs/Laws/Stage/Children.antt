@@ -3,16 +3,18 @@ use Prim.Native.Nat.{ℕ, _+_, _≤_, _<_}
 use mathlib.Core.List.{List}
 use mathlib.Core.Path.{_≡_, refl}
 use native.Mathlib.Omega.{arith}
-use Rattle.tree.specs.Tree.{Tree, Trees, ident, const, if, letin, define, lambda, begin, call, set!, nil, cons, size, sizes, Num, Nums}
+use Rattle.tree.specs.Tree.{Tree, Trees, ident, const, if, letin, define, lambda, sequence, call, set!, nil, cons, size, sizes, Num, Nums}
 use Rattle.semantic.specs.Information.{NONE}
 use Rattle.semantic.specs.Rows.{Row}
+use Rattle.tree.specs.Core.{core, cores}
+use Rattle.tree.specs.CoreLaws.{to-core, from-core, num-core}
 use Rattle.semantic.specs.declared.IdentifierStatus.the-variants.{LocallyDefinedFunction, Global}
 use Rattle.pass.specs.State.{State}
 use Rattle.pass.specs.Visit.{enterChild, enterChildren, enterTop}
 use Rattle.pass.specs.Stage.{Blocks, BlocksIn, BlocksAllIn}
 use Rattle.pass.specs.Laws.Changes.{Changes, same}
 use Rattle.pass.specs.Laws.Names.{define-changes}
-use Rattle.pass.specs.Laws.Visits.{children-changes}
+use Rattle.pass.specs.Laws.Visits.{children-changes, writes-cores}
 use Rattle.pass.specs.Laws.Ranges.{trees-writes}
 use Rattle.pass.specs.Laws.Keeps.{Off}
 use Rattle.pass.specs.Laws.Stage.Cases.{by-child, by-top-name}
@@ -27,7 +29,7 @@ NameOf (if n a b c) y = ⊥
 NameOf (letin n xs es b) y = ⊥
 NameOf (define n x b) y = y ≡ x .at
 NameOf (lambda n xs b) y = ⊥
-NameOf (begin n es) y = ⊥
+NameOf (sequence n es) y = ⊥
 NameOf (call n h es) y = ⊥
 NameOf (set! n x e) y = ⊥
 
@@ -39,7 +41,7 @@ named-within i (if m a b c) n y e = absurd e
 named-within i (letin m xs es b) n y e = absurd e
 named-within i (define m x b) n y e = (omega (arith, e, n .1), omega (arith, e, n .1))
 named-within i (lambda m xs b) n y e = absurd e
-named-within i (begin m es) n y e = absurd e
+named-within i (sequence m es) n y e = absurd e
 named-within i (call m h es) n y e = absurd e
 named-within i (set! m x e) n y d = absurd d
 
@@ -58,7 +60,7 @@ module _ {F L : Row → Type 0} (kind : Kind F L) where
   named-blocks i (letin m xs es t) n c b = blocks-last kind i (letin m xs es t) n (changes-lasting c (λ x l h o. o)) b
   named-blocks i (define m x t) n c b = blocks-last kind (i + 2) t (n .2) (changes-lasting c (λ y l h e. omega (arith, e, n .1))) b
   named-blocks i (lambda m xs t) n c b = blocks-last kind i (lambda m xs t) n (changes-lasting c (λ x l h o. o)) b
-  named-blocks i (begin m es) n c b = blocks-last kind i (begin m es) n (changes-lasting c (λ x l h o. o)) b
+  named-blocks i (sequence m es) n c b = blocks-last kind i (sequence m es) n (changes-lasting c (λ x l h o. o)) b
   named-blocks i (call m t es) n c b = blocks-last kind i (call m t es) n (changes-lasting c (λ x l h o. o)) b
   named-blocks i (set! m x t) n c b = blocks-last kind i (set! m x t) n (changes-lasting c (λ y l h o. o)) b
 
@@ -73,14 +75,24 @@ module _ (classes : List ℕ) where
 
   -- all of them
   module _ {F L : Row → Type 0} (kind : Kind F L) where
-    pub children-blocks : (i : ℕ) (ts : Trees) → Nums i ts → (s : State) → BlocksAllIn F L s ts → BlocksAllIn F L (enterChildren classes ts s) ts
+    -- the blocks of a tree are those of what it is
+    core-blocks : (i : ℕ) (t : Tree) → Num i t → {s u : State} → Changes (NameOf (core t)) s u → BlocksIn F L s t → BlocksIn F L u t
+    unfolding Blocks
+    core-blocks i t n {s} {u} c b =
+        let m = num-core i t n in
+        from-core (BlocksIn F L u) (λ n b. tt) (λ n t b. (b, tt)) t
+        (named-blocks kind (m .0) (core t) (m .2) c (to-core (BlocksIn F L s) (λ n b. tt) (λ n t b. b .0) t b))
+
+    pub children-blocks : (i : ℕ) (ts : Trees) → Nums i ts → (s : State) → BlocksAllIn F L s ts → BlocksAllIn F L (enterChildren classes (cores ts) s) ts
     unfolding enterChildren Blocks Num size
     children-blocks i nil n s b = tt
     children-blocks i (cons t ts) n s b =
-        let u = enterChild classes t s in
-        let c = child-named t s in
-        let d = children-changes classes ts u (trees-writes (Off i (i + size t)) (i + size t) ts (n .1) (λ x l h p q. omega arith)) in (
-          blocks-last kind i t (n .0) (changes-lasting d (λ x l h o. o l h)) (named-blocks kind i t (n .0) c (b .0)),
+        let u = enterChild classes (core t) s in
+        let c = child-named (core t) s in
+        let m = num-core i t (n .0) in
+        let d = children-changes classes (cores ts) u (writes-cores _ _ ts (trees-writes (Off i (i + size t)) (i + size t) ts (n .1) (λ x l h p q. omega arith))) in (
+          blocks-last kind i t (n .0) (changes-lasting d (λ x l h o. o l h)) (core-blocks i t (n .0) c (b .0)),
           children-blocks (i + size t) ts (n .1) u
-              (blocks-last-all kind (i + size t) ts (n .1) (named-other i t (n .0) c (i + size t) (i + size t + sizes ts) (λ x l h p q. omega arith)) (b .1)),
+              (blocks-last-all kind (i + size t) ts (n .1)
+              (named-other (m .0) (core t) (m .2) c (i + size t) (i + size t + sizes ts) (λ x l h p q. omega (arith, m .3))) (b .1)),
         )

@@ -8,7 +8,8 @@ use native.Mathlib.Omega.{arith}
 use borrow.Author.Tests.{ltb-false}
 use lib.ListN.{length}
 use lib.Dec.{ltb}
-use Rattle.tree.specs.Tree.{Ident, Node, Tree, Trees, ident, const, if, letin, define, lambda, begin, call, set!, nil, cons, many}
+use Rattle.tree.specs.Tree.{Ident, Node, Tree, Trees, ident, const, if, letin, define, lambda, sequence, call, set!, nil, cons, many, begins, ands, whens}
+use Rattle.tree.specs.Core.{cores}
 use Rattle.scope_map.specs.ScopeMap.{ScopeMap, Live}
 use Rattle.semantic.specs.Information.{NONE}
 use Rattle.semantic.specs.Rows.{Row, Function, Let, Item}
@@ -16,7 +17,7 @@ use Rattle.semantic.specs.declared.FunctionInformation.{FunctionInformation}
 use Rattle.pass.specs.State.{Capture, State, withFacts, noteTen, orKept, rowAt, insert, depth}
 use Rattle.pass.specs.Lists.{capturedMost, storeCaptured, storeArguments, rewriteCaptured, sortById, amendList}
 use Rattle.pass.specs.Lambda.{functionIn, enterLambda, closeScope, closeCaptures, makeFunction, amendFunction, functionEnds, nowUsed, keptOf, capturedList, markLasts, endParameters, leaveLambda, atBottom, entered, makeLet, leaveLet}
-use Rattle.pass.specs.Visit.{Flags, notTail, sameTail, pushed, letBodyFlags, bodyFlags, argumentFlags, isLambda, headFlags, isNil, childFlags, defineFlags, visit, visitArguments, visitChildren}
+use Rattle.pass.specs.Visit.{Flags, notTail, sameTail, pushed, letBodyFlags, bodyFlags, argumentFlags, isLambda, headFlags, isNil, childFlags, defineFlags, visit, visitArguments, visitChildren, inBegin, inAnd, isAlone, visitTested}
 use Rattle.pass.specs.Stage.{listLength, lists}
 use Rattle.pass.specs.Laws.Stage.Cases.{by-let}
 use Rattle.pass.specs.Laws.Stage.Lists.{Shorter, same-rows, shorter-then, shorter-put, lists-shorter, lists-put, amended-long}
@@ -189,7 +190,9 @@ module _ (classes : List ℕ) where
         ⟫ stored-filled (after-apart classes (f .direct) (isLambda b) (s .context) x b _ .stored)
     visit-filled (lambda n xs b) f s =
         stored-filled (enter-lambda-stored n xs s) ⟫ visit-filled b (bodyFlags n (length xs) f) _ ⟫ leave-lambda-filled n xs b (f .escape) _
-    visit-filled (begin n es) f s = stored-filled (children-apart classes es s .stored) ⟫ children-filled es f _
+    visit-filled (sequence (begins n) es) f s = stored-filled (children-apart classes (cores es) s .stored) ⟫ children-filled es (inBegin f) _
+    visit-filled (sequence (ands n) es) f s = children-filled es (inAnd (isAlone es) f) s
+    visit-filled (sequence (whens b n) es) f s = tested-filled es f s
     visit-filled (call n e es) f s =
         arguments-filled es (argumentFlags f) s ⟫ visit-filled e (headFlags e (many es) f) _ ⟫ stored-filled (call-still n e es f _ .apart .stored)
     visit-filled (set! n x e) f s =
@@ -203,3 +206,8 @@ module _ (classes : List ℕ) where
     pub children-filled : (ts : Trees) (f : Flags) (s : State) → Filled s (visitChildren classes ts f s)
     children-filled nil f s = stored-filled (as-full refl refl refl refl)
     children-filled (cons t ts) f s = visit-filled t (childFlags (isNil ts) f) s ⟫ children-filled ts f _
+
+    pub tested-filled : (ts : Trees) (f : Flags) (s : State) → Filled s (visitTested classes ts f s)
+    tested-filled nil f s = stored-filled (as-full refl refl refl refl)
+    tested-filled (cons t ts) f s =
+        visit-filled t (notTail f) s ⟫ stored-filled (children-apart classes (cores ts) _ .stored) ⟫ children-filled ts (inBegin f) _

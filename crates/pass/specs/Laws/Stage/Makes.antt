@@ -4,23 +4,24 @@ use mathlib.Core.List.{List}
 use mathlib.Core.Path.{refl, _∙_}
 use native.Mathlib.Omega.{arith}
 use lib.ListN.{length}
-use Rattle.tree.specs.Tree.{Ident, Node, Tree, Trees, ident, const, if, letin, define, lambda, begin, call, set!, nil, cons, many, size, sizes, Num, Nums}
+use Rattle.tree.specs.Tree.{Ident, Node, Tree, Trees, ident, const, if, letin, define, lambda, sequence, call, set!, nil, cons, many, size, sizes, Num, Nums, begins, ands, whens}
 use Rattle.semantic.specs.Information.{NONE}
+use Rattle.tree.specs.Core.{cores}
 use Rattle.semantic.specs.Rows.{Row}
 use Rattle.pass.specs.State.{State, withContext, rowAt, depth}
 use Rattle.pass.specs.Lambda.{enterLambda, leaveLambda, atBottom, enterLet, leaveLet}
-use Rattle.pass.specs.Visit.{Flags, notTail, sameTail, pushed, letBodyFlags, bodyFlags, argumentFlags, isLambda, headFlags, isNil, childFlags, defineFlags, beforeDefine, enterChildren, clearContext, visit, visitArguments, visitChildren}
+use Rattle.pass.specs.Visit.{Flags, notTail, sameTail, pushed, letBodyFlags, bodyFlags, argumentFlags, isLambda, headFlags, isNil, childFlags, defineFlags, beforeDefine, enterChildren, clearContext, visit, visitArguments, visitChildren, inBegin, inAnd, isAlone, visitTested}
 use Rattle.pass.specs.Stage.{Blocks, BlocksIn, BlocksAllIn, FunctionWithin, LetWithin}
 use Rattle.pass.specs.Laws.Changes.{Changes, same, _⨾_, context, keeps-lengths}
 use Rattle.pass.specs.Laws.Names.{read-changes, mutate-changes}
 use Rattle.pass.specs.Laws.Moves.{Moves, by, _⨟_, moves-key, moves-lengths, into-lambda, out-of-lambda, into-let, out-of-let}
 use Rattle.pass.specs.Laws.Scopes.{Any, names-any, lambda-depth, let-stays}
-use Rattle.pass.specs.Laws.Visits.{stays, before-changes, after-changes, children-changes, clear-changes, call-changes, visit-changes, arguments-visited, children-visited}
+use Rattle.pass.specs.Laws.Visits.{stays, before-changes, after-changes, children-changes, clear-changes, call-changes, visit-changes, arguments-visited, children-visited, writes-cores}
 use Rattle.pass.specs.Laws.Ranges.{names-writes, tree-writes, trees-writes, trees-any}
 use Rattle.pass.specs.Laws.Keeps.{Off, visited, visited-arguments}
 use Rattle.pass.specs.Laws.Stage.Lists.{Lasting}
 use Rattle.pass.specs.Laws.Stage.Still.{_⨾_ as _then_, as-full, read-still, mutate-still, call-still}
-use Rattle.pass.specs.Laws.Stage.Entering.{context-apart, after-apart, enter-let-apart}
+use Rattle.pass.specs.Laws.Stage.Entering.{context-apart, after-apart, enter-let-apart, children-apart}
 use Rattle.pass.specs.Laws.Stage.Filled.{Filled, _⟫_, stored-filled, leave-lambda-filled, leave-let-filled, visit-filled, arguments-filled, children-filled}
 use Rattle.pass.specs.Laws.Stage.Blocks.{within, blocks-last, blocks-last-all}
 use Rattle.pass.specs.Laws.Stage.Children.{children-blocks}
@@ -157,10 +158,12 @@ module _ (classes : List ℕ) {F L : Row → Type 0} {c a : ℕ} (ends : Ends F 
               (hence-before p (omega arith) (omega arith) (leave-lambda-filled m xs t (f .escape) y)
               (out-of-lambda m xs t (f .escape) y (λ x z. omega (arith, n .0)))),
         )
-    visit-makes i (begin m es) n f s h l b w p =
-        let d = children-changes {own = Any} classes es s (trees-any es) in
-        children-make (i + 1) es (n .1) f (enterChildren classes es s) (stays d h) (omega (arith, keeps-lengths d .rows))
+    visit-makes i (sequence (begins m) es) n f s h l b w p =
+        let d = children-changes {own = Any} classes (cores es) s (trees-any (cores es)) in
+        children-make (i + 1) es (n .1) (inBegin f) (enterChildren classes (cores es) s) (stays d h) (omega (arith, keeps-lengths d .rows))
         (children-blocks classes (ends .kind) (i + 1) es (n .1) s b) w (hence-of p (i + 1) (i + 1 + sizes es) (omega arith) (omega arith))
+    visit-makes i (sequence (ands m) es) n f s h l b w p = children-make (i + 1) es (n .1) (inAnd (isAlone es) f) s h (omega arith) b w (hence-of p (i + 1) (i + 1 + sizes es) (omega arith) (omega arith))
+    visit-makes i (sequence (whens q m) es) n f s h l b w p = tested-make (i + 1) es (n .1) f s h (omega arith) b w (hence-of p (i + 1) (i + 1 + sizes es) (omega arith) (omega arith))
     visit-makes i (call m e es) n f s h l b w p =
         let u = visitArguments classes es (argumentFlags f) s in
         let d = visited-arguments classes es (argumentFlags f) s h in
@@ -199,6 +202,24 @@ module _ (classes : List ℕ) {F L : Row → Type 0} {c a : ℕ} (ends : Ends F 
               (by (arguments-visited classes ts (pushed f) u (trees-writes (Off i k) k ts (n .1) (λ x y z y′ z′. omega arith)) g))),
           arguments-make k ts (n .1) (pushed f) u g (omega (arith, keeps-lengths d .rows))
               (blocks-last-all (ends .kind) k ts (n .1) (to-next classes i t ts n f s h .part) (b .1)) w
+              (hence-of p k (k + sizes ts) (omega arith) (omega arith)),
+        )
+
+    tested-make : (i : ℕ) (ts : Trees) → Nums i ts → (f : Flags) (s : State) → 1 ≤ depth s → i + sizes ts ≤ length (s .facts .rows) → BlocksAllIn F L s ts
+        → (w : State) → Hence c a i (i + sizes ts) (visitTested classes ts f s) w → BlocksAllIn (FunctionWithin c a) (LetWithin a) w ts
+    tested-make i nil n f s h l b w p = tt
+    tested-make i (cons t ts) n f s h l b w p =
+        let e = notTail f in
+        let u = visit classes t e s in
+        let d = visited classes t e s h in
+        let g = stays d h in
+        let k = i + size t in
+        let y = children-changes classes (cores ts) u (writes-cores _ _ ts (trees-writes (Off i k) k ts (n .1) (λ x y z y′ z′. omega arith))) in (
+          visit-makes i t (n .0) e s h (omega arith) (b .0) w
+              (hence-before p (omega arith) (omega arith) (stored-filled (children-apart classes (cores ts) u .stored) ⟫ children-filled classes ts (inBegin f) _)
+              (by (y ⨾ children-visited classes ts (inBegin f) _ (trees-writes (Off i k) k ts (n .1) (λ x y z y′ z′. omega arith)) (stays y g)))),
+          children-make k ts (n .1) (inBegin f) (enterChildren classes (cores ts) u) (stays y g) (omega (arith, keeps-lengths d .rows, keeps-lengths y .rows))
+              (children-blocks classes (ends .kind) k ts (n .1) u (blocks-last-all (ends .kind) k ts (n .1) (to-next classes i t ts n e s h .part) (b .1))) w
               (hence-of p k (k + sizes ts) (omega arith) (omega arith)),
         )
 

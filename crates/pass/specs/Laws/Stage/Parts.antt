@@ -1,17 +1,19 @@
 -- The stage of each part of a tree, in the state in which the visit of the tree visits it.
 use Prim.Native.Nat.{ℕ, suc, _+_, _-_}
 use mathlib.Core.List.{List}
+use mathlib.Core.Bool.{Bool}
 use mathlib.Core.Path.{refl}
 use native.Mathlib.Omega.{arith}
 use lib.ListN.{length}
-use Rattle.tree.specs.Tree.{Ident, Node, Tree, Trees, if, letin, define, begin, call, set!, cons, many, size, sizes, Num, Nums}
+use Rattle.tree.specs.Tree.{Ident, Node, Tree, Trees, if, letin, define, sequence, call, set!, nil, cons, many, size, sizes, Num, Nums, begins, ands, whens}
 use Rattle.tree.specs.TreeLaws.{size-pos}
+use Rattle.tree.specs.Core.{cores}
 use Rattle.semantic.specs.Information.{NONE}
 use Rattle.semantic.specs.Rows.{Row}
 use Rattle.pass.specs.State.{State, withContext, depth}
 use Rattle.pass.specs.Lambda.{enterLet}
-use Rattle.pass.specs.Visit.{Flags, notTail, sameTail, pushed, letBodyFlags, argumentFlags, isLambda, headFlags, isNil, childFlags, defineFlags, beforeDefine, enterChildren, clearContext, visit, visitArguments}
-use Rattle.pass.specs.Stage.{Blocks, BlocksIn, enterings, Layered, Unmade, Made, Staged, Stage, StageArguments, StageChildren}
+use Rattle.pass.specs.Visit.{Flags, notTail, sameTail, pushed, letBodyFlags, argumentFlags, isLambda, headFlags, isNil, childFlags, defineFlags, beforeDefine, enterChildren, clearContext, visit, visitArguments, inBegin, inAnd, isAlone}
+use Rattle.pass.specs.Stage.{Blocks, BlocksIn, enterings, Layered, Unmade, UnmadeAll, Made, MadeAll, Staged, Stage, StageArguments, StageChildren}
 use Rattle.pass.specs.Laws.Scopes.{Any}
 use Rattle.pass.specs.Laws.Visits.{before-changes, children-changes, clear-changes}
 use Rattle.pass.specs.Laws.Ranges.{trees-any}
@@ -37,6 +39,16 @@ both-last kind i t u n m c b = (
 )
 
 module _ (classes : List ℕ) where
+  -- the names of the trees from record i on enter
+  entered-children : (i : ℕ) (f : Flags) (s : State) (es : Trees) → Nums i es → Staged i (sizes es) (1 + sizes es) (UnmadeAll s es) (MadeAll s es) (f .function) s
+      → StageChildren i es (inBegin f) (enterChildren classes (cores es) s)
+  entered-children i f s es n w =
+      let h = w .layered in
+      let p = children-apart classes (cores es) s in
+      onward w (omega arith) (omega arith) (next h (children-changes {own = Any} classes (cores es) s (trees-any (cores es))) (p .stacked)) (p .stacked)
+      (to-children classes i es n s) (children-blocks classes blank i es n s) (children-blocks classes made i es n s)
+      (λ b. p .stored) (omega (arith, children-due classes es s .by, entered-few es)) (λ z. omega (arith, p .stored .captured))
+
   module _ (i : ℕ) (f : Flags) (s : State) where
     -- Arguments and initial expressions
 
@@ -65,14 +77,33 @@ module _ (classes : List ℕ) where
         (omega (arith, entered-few ts, entered-one t)) (omega (arith, entered-few ts, entered-one t, size-pos t))
         (λ c b. blocks-last-all blank (i + size t) ts (n .1) c b) (λ c b. blocks-last-all made (i + size t) ts (n .1) c b)
 
-    pub begin-children : (m : Node) (es : Trees) → Num i (begin m es) → Stage i (begin m es) f s → StageChildren (i + 1) es f (enterChildren classes es s)
+    pub begin-children : (m : Node) (es : Trees) → Num i (sequence (begins m) es) → Stage i (sequence (begins m) es) f s
+        → StageChildren (i + 1) es (inBegin f) (enterChildren classes (cores es) s)
     unfolding size Blocks Num
-    begin-children m es n w =
-        let h = w .layered in
-        let p = children-apart classes es s in
-        onward w (omega arith) (omega arith) (next h (children-changes {own = Any} classes es s (trees-any es)) (p .stacked)) (p .stacked)
-        (to-children classes i es (n .1) s) (children-blocks classes blank (i + 1) es (n .1) s) (children-blocks classes made (i + 1) es (n .1) s)
-        (λ b. p .stored) (omega (arith, children-due classes es s .by, entered-few es)) (λ z. omega (arith, p .stored .captured))
+    begin-children m es n w = entered-children (i + 1) f s es (n .1) (here w (omega arith) (omega arith) (omega arith) (λ u. u) (λ v. v))
+
+    -- an and: no names have entered, so there is room enough
+    pub and-children : (m : Node) (es : Trees) → Stage i (sequence (ands m) es) f s → StageChildren (i + 1) es (inAnd (isAlone es) f) s
+    unfolding size Blocks
+    and-children m es w = here w (omega arith) (omega arith) (omega (arith, entered-few es)) (λ u. u) (λ v. v)
+
+    -- a when or an unless: the test, then what follows it
+    pub when-test : (b : Bool) (m : Node) (t : Tree) (ts : Trees) → Stage i (sequence (whens b m) (cons t ts)) f s → Stage (i + 1) t (notTail f) s
+    unfolding size Blocks
+    when-test b m t ts w = here w (omega arith) (omega arith) (omega arith) (λ u. u .0) (λ v. v .0)
+
+    pub when-tested : (b : Bool) (m : Node) (t : Tree) (ts : Trees) → Num i (sequence (whens b m) (cons t ts)) → Stage i (sequence (whens b m) (cons t ts)) f s
+        → Staged (i + 1 + size t) (sizes ts) (1 + sizes ts) (UnmadeAll (visit classes t (notTail f) s) ts) (MadeAll (visit classes t (notTail f) s) ts) (f .function) (visit classes t (notTail f) s)
+    unfolding size Blocks Num
+    when-tested b m t ts n w =
+        past-tree classes (i + 1) t (n .1 .0) (sizes ts) (1 + sizes ts) {r = size t + sizes ts} (notTail f)
+        (here w (omega arith) (omega arith) (omega arith) (λ u. u) (λ v. v)) (omega arith) (omega arith)
+        (λ c b. blocks-last-all blank (i + 1 + size t) ts (n .1 .1) c b) (λ c b. blocks-last-all made (i + 1 + size t) ts (n .1 .1) c b)
+
+    pub when-children : (b : Bool) (m : Node) (t : Tree) (ts : Trees) → Num i (sequence (whens b m) (cons t ts)) → Stage i (sequence (whens b m) (cons t ts)) f s
+        → StageChildren (i + 1 + size t) ts (inBegin f) (enterChildren classes (cores ts) (visit classes t (notTail f) s))
+    unfolding Num
+    when-children b m t ts n w = entered-children (i + 1 + size t) f (visit classes t (notTail f) s) ts (n .1 .1) (when-tested b m t ts n w)
 
     -- if
 

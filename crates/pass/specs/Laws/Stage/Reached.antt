@@ -6,11 +6,12 @@ use lib.ListN.{length}
 use Rattle.tree.specs.Tree.{Ident, Node, Tree, Trees, if, letin, define, lambda, call, cons, size, sizes, Num, Nums}
 use Rattle.semantic.specs.Information.{NONE}
 use Rattle.pass.specs.State.{State, withContext, depth}
+use Rattle.tree.specs.Core.{cores}
 use Rattle.pass.specs.Lambda.{enterLambda, enterLet}
 use Rattle.pass.specs.Visit.{Flags, notTail, sameTail, argumentFlags, isLambda, clearContext, beforeDefine, enterChildren, visit, visitArguments}
 use Rattle.pass.specs.Laws.Changes.{Changes, same, _⨾_, context}
 use Rattle.pass.specs.Laws.Moves.{Moves, by, _⨟_, moves-key, into-lambda, into-let}
-use Rattle.pass.specs.Laws.Visits.{stays, before-changes, children-changes, clear-changes, visit-changes, arguments-visited}
+use Rattle.pass.specs.Laws.Visits.{stays, before-changes, children-changes, clear-changes, visit-changes, arguments-visited, writes-cores}
 use Rattle.pass.specs.Laws.Ranges.{names-writes, tree-writes, trees-writes}
 use Rattle.pass.specs.Laws.Keeps.{Off}
 use Rattle.pass.specs.Laws.Stage.Lists.{Lasting}
@@ -53,10 +54,10 @@ module _ (classes : List ℕ) where
   to-next i t ts n f s h = to-rest i t (sizes ts) (n .0) f s h
 
   -- to the children of a begin
-  pub to-children : (i : ℕ) (es : Trees) → Nums (i + 1) es → (s : State) → Lasting 0 i s (enterChildren classes es s)
+  pub to-children : (i : ℕ) (es : Trees) → Nums i es → (s : State) → Lasting 0 i s (enterChildren classes (cores es) s)
   to-children i es n s =
       reached {k = 0} {m = 0}
-      (by (children-changes classes es s (trees-writes (Beside i 0 0) (i + 1) es n (λ x l u. (omega arith, λ p q. omega arith))))) .before
+      (by (children-changes classes (cores es) s (writes-cores _ _ es (trees-writes (Beside i 0 0) i es n (λ x l u. (omega arith, λ p q. omega arith)))))) .before
 
   -- the parts of an if
   pub to-second : (i : ℕ) (m : Node) (a b c : Tree) → Num i (if m a b c) → (f : Flags) (s : State) → 1 ≤ depth s

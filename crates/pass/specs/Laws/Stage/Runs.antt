@@ -5,7 +5,7 @@ use mathlib.Core.Option.{none}
 use mathlib.Core.Path.{_≡_, refl, ap}
 use native.Mathlib.Omega.{arith}
 use lib.ListN.{length-replicate}
-use Rattle.tree.specs.Tree.{Tree, Trees, ident, const, if, letin, define, lambda, begin, call, set!, nil, cons, sizes, Nums}
+use Rattle.tree.specs.Tree.{Tree, Trees, ident, const, if, letin, define, lambda, sequence, call, set!, nil, cons, sizes, Nums}
 use Rattle.tree.specs.Define.{topLevel}
 use Rattle.semantic.specs.Rows.{Blank}
 use Rattle.pass.specs.State.{Facts, rowAt}
@@ -41,7 +41,7 @@ module _ {F L : ℕ → Type 0} (f : (x : ℕ) → F x) (l : (x : ℕ) → L x) 
     blocks-of (letin n xs es b) = (l (n .at), blocks-all-of es, blocks-of b)
     blocks-of (define n x b) = blocks-of b
     blocks-of (lambda n xs b) = (f (n .at), blocks-of b)
-    blocks-of (begin n es) = blocks-all-of es
+    blocks-of (sequence n es) = blocks-all-of es
     blocks-of (call n h es) = (blocks-of h, blocks-all-of es)
     blocks-of (set! n x e) = blocks-of e
 

@@ -6,14 +6,15 @@ use mathlib.Core.Option.{Option, none, some}
 use mathlib.Core.Path.{_≡_, refl, subst, _∙_}
 use native.Mathlib.Omega.{arith}
 use lib.ListN.{length}
-use Rattle.tree.specs.Tree.{Ident, Node, Tree, Trees, ident, const, if, letin, define, lambda, begin, call, set!, nil, cons, many, size, sizes, Num, Nums}
+use Rattle.tree.specs.Tree.{Ident, Node, Tree, Trees, ident, const, if, letin, define, lambda, sequence, call, set!, nil, cons, many, size, sizes, Num, Nums, begins, ands, whens}
+use Rattle.tree.specs.Core.{cores}
 use Rattle.scope_map.specs.ScopeMap.{ScopeMap}
 use Rattle.semantic.specs.Information.{NONE}
 use Rattle.semantic.specs.Rows.{Row, Item}
 use Rattle.semantic.specs.declared.FunctionInformation.{FunctionInformation}
 use Rattle.pass.specs.State.{Capture, State, withContext, rowAt, depth}
 use Rattle.pass.specs.Lambda.{functionIn, enterLambda, functionEnds, leaveLambda, atBottom, enterLet, entered, makeLet, leaveLet}
-use Rattle.pass.specs.Visit.{Flags, notTail, sameTail, pushed, letBodyFlags, bodyFlags, argumentFlags, isLambda, headFlags, isNil, childFlags, defineFlags, beforeDefine, enterChildren, clearContext, visit, visitArguments, visitChildren}
+use Rattle.pass.specs.Visit.{Flags, notTail, sameTail, pushed, letBodyFlags, bodyFlags, argumentFlags, isLambda, headFlags, isNil, childFlags, defineFlags, beforeDefine, enterChildren, clearContext, visit, visitArguments, visitChildren, inBegin, inAnd, isAlone, visitTested}
 use Rattle.pass.specs.Run.{itemsMost}
 use Rattle.pass.specs.Stage.{Blocks, ListsWithin, FunctionWithin, LetWithin, Made, MadeAll}
 use Rattle.pass.specs.Laws.Rows.{key}
@@ -124,10 +125,12 @@ module _ (classes : List ℕ) where
         (blocks-last made (i + 1 + length xs) t (n .2) (to-lambda-body classes i m xs t n s .part) (b .1))
         ⟫ leave-lambda-stored m xs t (f .escape) (visit classes t k u)
         (made .function (rowAt (visit classes t k u) (m .at)) (rowAt s (m .at)) (lambda-row i m xs t n k s h) (b .0))
-    visit-stored i (begin m es) n f s h b =
-        children-apart classes es s .stored
-        ⟫ children-stored (i + 1) es (n .1) f (enterChildren classes es s) (stays (children-changes {own = Any} classes es s (trees-any es)) h)
-        (children-blocks classes made (i + 1) es (n .1) s b)
+    visit-stored i (sequence (begins m) es) n f s h b =
+        children-apart classes (cores es) s .stored
+        ⟫ children-stored (i + 1) es (n .1) (inBegin f) (enterChildren classes (cores es) s)
+        (stays (children-changes {own = Any} classes (cores es) s (trees-any (cores es))) h) (children-blocks classes made (i + 1) es (n .1) s b)
+    visit-stored i (sequence (ands m) es) n f s h b = children-stored (i + 1) es (n .1) (inAnd (isAlone es) f) s h b
+    visit-stored i (sequence (whens q m) es) n f s h b = tested-stored (i + 1) es (n .1) f s h b
     visit-stored i (call m e es) n f s h b =
         arguments-all-stored (i + 1 + size e) es (n .2) (argumentFlags f) s h (b .1)
         ⟫ visit-stored (i + 1) e (n .1) (headFlags e (many es) f) (visitArguments classes es (argumentFlags f) s)
@@ -147,6 +150,16 @@ module _ (classes : List ℕ) where
         visit-stored i t (n .0) f s h (b .0)
         ⟫ arguments-all-stored (i + size t) ts (n .1) (pushed f) (visit classes t f s) (stays (visited classes t f s h) h)
         (blocks-last-all made (i + size t) ts (n .1) (to-next classes i t ts n f s h .part) (b .1))
+
+    pub tested-stored : (i : ℕ) (ts : Trees) → Nums i ts → (f : Flags) (s : State) → 1 ≤ depth s → MadeAll s ts → Stored s (visitTested classes ts f s)
+    tested-stored i nil n f s h b = as-full refl refl refl refl
+    tested-stored i (cons t ts) n f s h b =
+        let u = visit classes t (notTail f) s in
+        visit-stored i t (n .0) (notTail f) s h (b .0)
+        ⟫ children-apart classes (cores ts) u .stored
+        ⟫ children-stored (i + size t) ts (n .1) (inBegin f) (enterChildren classes (cores ts) u)
+        (stays (children-changes {own = Any} classes (cores ts) u (trees-any (cores ts))) (stays (visited classes t (notTail f) s h) h))
+        (children-blocks classes made (i + size t) ts (n .1) u (blocks-last-all made (i + size t) ts (n .1) (to-next classes i t ts n (notTail f) s h .part) (b .1)))
 
     pub children-stored : (i : ℕ) (ts : Trees) → Nums i ts → (f : Flags) (s : State) → 1 ≤ depth s → MadeAll s ts → Stored s (visitChildren classes ts f s)
     children-stored i nil n f s h b = as-full refl refl refl refl

@@ -6,7 +6,8 @@ use mathlib.Core.Option.{Option, none, some}
 use mathlib.Core.Path.{_≡_, refl, ap, _∙_}
 use native.Mathlib.Omega.{arith}
 use lib.Dec.{eqb, ltb}
-use Rattle.tree.specs.Tree.{Ident, Node, Tree, Trees, ident, const, if, letin, define, lambda, begin, call, set!, nil, cons}
+use Rattle.tree.specs.Tree.{Ident, Node, Tree, Trees, ident, const, if, letin, define, lambda, sequence, call, set!, nil, cons}
+use Rattle.tree.specs.Core.{core, cores}
 use Rattle.scope_map.specs.ScopeMap.{ScopeMap, Live, hasAtTop, pushLayer}
 use Rattle.scope_map.specs.ScopeMap as map
 use Rattle.semantic.specs.Information.{NONE}
@@ -189,7 +190,7 @@ argument-still (if n a b c) s = still
 argument-still (letin n xs es b) s = still
 argument-still (define n x b) s = still
 argument-still (lambda n xs b) s = still
-argument-still (begin n es) s = still
+argument-still (sequence n es) s = still
 argument-still (call n h es) s = still
 argument-still (set! n x e) s = still
 
@@ -212,13 +213,13 @@ call-fact-still (if m a b c) n tail k s = site-still n _ _ s
 call-fact-still (letin m xs es b) n tail k s = site-still n _ _ s
 call-fact-still (define m x b) n tail k s = site-still n _ _ s
 call-fact-still (lambda m xs b) n tail k s = site-still n _ _ s
-call-fact-still (begin m es) n tail k s = site-still n _ _ s
+call-fact-still (sequence m es) n tail k s = site-still n _ _ s
 call-fact-still (call m h es) n tail k s = site-still n _ _ s
 call-fact-still (set! m x e) n tail k s = site-still n _ _ s
 
 pub call-still : (n : Node) (h : Tree) (es : Trees) (f : Flags) (s : State) → Still s (endCall n h es f s)
 unfolding endCall
-call-still n h es f s = tail-still (f .tail && ltb 1 (depth s)) es s ⨾ call-fact-still h n _ (f .counter) _
+call-still n h es f s = tail-still (f .tail && ltb 1 (depth s)) (cores es) s ⨾ call-fact-still (core h) n _ (f .counter) _
 
 -- Names enter: all is still but the live names
 

@@ -5,7 +5,7 @@ use mathlib.Core.Option.{Option, none, some}
 use mathlib.Core.Path.{_≡_, _∙_, subst}
 use native.Mathlib.Omega.{arith}
 use lib.ListN.{length}
-use Rattle.tree.specs.Tree.{Ident, Node, Tree, Trees, letin, define, lambda, begin, call, set!, many, size, Num}
+use Rattle.tree.specs.Tree.{Ident, Node, Tree, Trees, letin, define, lambda, sequence, call, set!, many, size, Num, Sequence}
 use Rattle.tree.specs.TreeLaws.{size-pos, many-sizes}
 use Rattle.semantic.specs.Kinds.{functionIn, letIn}
 use Rattle.semantic.specs.declared.FunctionInformation.{FunctionInformation}
@@ -91,7 +91,7 @@ module _ {P : Ident → Type 0} (small : (x : Ident) → P x → x .at < rowsMos
   module _ (i : ℕ) (f : Flags) (s : State) where
     -- begin
 
-    pub begin-enters : (n : Node) (es : Trees) → Visitable P i (begin n es) f s → NamesEnter P (many es) s
+    pub begin-enters : (n : Sequence) (es : Trees) → Visitable P i (sequence n es) f s → NamesEnter P (many es) s
     unfolding size
     begin-enters n es w = record {
       reliable = reliable w;

@@ -6,6 +6,7 @@ use mathlib.Core.Option.{Option}
 use native.Mathlib.Omega.{arith}
 use lib.ListN.{length}
 use Rattle.tree.specs.Tree.{Ident, Node, Tree, Trees, many, size, sizes, Num, Nums}
+use Rattle.tree.specs.Core.{cores}
 use Rattle.pass.specs.State.{State, depth}
 use Rattle.pass.specs.Read.{enterTopLevelValue}
 use Rattle.pass.specs.Lambda.{enterLambda, enterLet}
@@ -43,8 +44,8 @@ module _ (classes : List ℕ) where
   pub before-live : (direct lambda : Bool) (x : Ident) (b : Tree) (s : State) → living (beforeDefine classes direct lambda x b s) ≤ living s + 1
   before-live direct lambda x b s = live-more (before-due classes direct lambda x b s) (before-apart classes direct lambda x b s .stored)
 
-  pub children-live : (ts : Trees) (s : State) → living (enterChildren classes ts s) ≤ living s + enterings ts
-  children-live ts s = live-more (children-due classes ts s) (children-apart classes ts s .stored)
+  pub children-live : (ts : Trees) (s : State) → living (enterChildren classes (cores ts) s) ≤ living s + enterings ts
+  children-live ts s = live-more (children-due classes ts s) (children-apart classes (cores ts) s .stored)
 
   -- At top level
 

@@ -4,15 +4,15 @@ use mathlib.Core.List.{List}
 use mathlib.Core.Bool.{Bool, true, false}
 use mathlib.Core.Option.{Option, none, some}
 use lib.ListN.{length}
-use Rattle.tree.specs.Tree.{Ident, Node, Tree, Trees, ident, const, if, letin, define, lambda, begin, call, set!, nil, cons, size, sizes, Num, Nums}
+use Rattle.tree.specs.Tree.{Ident, Node, Tree, Trees, ident, const, if, letin, define, lambda, sequence, call, set!, nil, cons, size, sizes, Num, Nums, begins, ands, whens}
 use Rattle.semantic.specs.Kinds.{functionIn}
 use Rattle.semantic.specs.declared.FunctionInformation.{FunctionInformation}
 use Rattle.pass.specs.State.{State, rowAt}
 use Rattle.pass.specs.Visit.{Flags, topFlags, isLambda}
-use Rattle.pass.specs.Sound.{Inside, Opens, OpensArguments, OpensChildren, OpensDefine, OpensTop, OpensTops}
+use Rattle.pass.specs.Sound.{Inside, Opens, OpensArguments, OpensChildren, OpensDefine, OpensTop, OpensTops, OpensTested}
 use Rattle.pass.specs.Stage.{EntersWithin, Stage, StageArguments, StageChildren, StageTops}
 use Rattle.pass.specs.Laws.Tops.{Spread}
-use Rattle.pass.specs.Laws.Stage.Parts.{first-argument, next-arguments, first-child, next-children, begin-children, if-first, if-second, if-third, let-initials, let-body, define-body, call-arguments, call-head, set-expression}
+use Rattle.pass.specs.Laws.Stage.Parts.{first-argument, next-arguments, first-child, next-children, begin-children, and-children, when-test, when-children, if-first, if-second, if-third, let-initials, let-body, define-body, call-arguments, call-head, set-expression}
 use Rattle.pass.specs.Laws.Stage.Lambdas.{lambda-body, lambda-enters}
 use Rattle.pass.specs.Laws.Stage.Top.{lambda-define-body, value-define-body}
 use Rattle.pass.specs.Laws.Stage.Tops.{first-top, next-tops}
@@ -42,7 +42,9 @@ module _ (classes : List ℕ) where
       found-inside s (functionIn (rowAt s (m .at))) (lambda-enters classes i f s m xs b n w),
       opens (i + 1 + length xs) b (n .2) _ _ (lambda-body classes i f s m xs b n w),
     )
-    opens i (begin m es) n f s w = opens-children (i + 1) es (n .1) _ _ (begin-children classes i f s m es n w)
+    opens i (sequence (begins m) es) n f s w = opens-children (i + 1) es (n .1) _ _ (begin-children classes i f s m es n w)
+    opens i (sequence (ands m) es) n f s w = opens-children (i + 1) es (n .1) _ _ (and-children classes i f s m es w)
+    opens i (sequence (whens b m) es) n f s w = opens-tested i b m es n f s w
     opens i (call m e es) n f s w = (
       opens-arguments (i + 1 + size e) es (n .2) _ _ (call-arguments classes i f s m e es w),
       opens (i + 1) e (n .1) _ _ (call-head classes i f s m e es n w),
@@ -53,6 +55,14 @@ module _ (classes : List ℕ) where
     opens-arguments i nil n f s w = tt
     opens-arguments i (cons t ts) n f s w =
         (opens i t (n .0) _ _ (first-argument classes i f s t ts w), opens-arguments (i + size t) ts (n .1) _ _ (next-arguments classes i f s t ts n w))
+
+    opens-tested : (i : ℕ) (b : Bool) (m : Node) (ts : Trees) → Num i (sequence (whens b m) ts) → (f : Flags) (s : State) → Stage i (sequence (whens b m) ts) f s
+        → OpensTested Inside classes ts f s
+    opens-tested i b m nil n f s w = tt
+    opens-tested i b m (cons t ts) n f s w = (
+      opens (i + 1) t (n .1 .0) _ _ (when-test classes i f s b m t ts w),
+      opens-children (i + 1 + size t) ts (n .1 .1) _ _ (when-children classes i f s b m t ts n w),
+    )
 
     pub opens-children : (i : ℕ) (ts : Trees) → Nums i ts → (f : Flags) (s : State) → StageChildren i ts f s → OpensChildren Inside classes ts f s
     opens-children i nil n f s w = tt
@@ -75,7 +85,7 @@ module _ (classes : List ℕ) where
   opens-top k (letin m xs es b) n s w = opens k (letin m xs es b) n topFlags s w
   opens-top k (define m x b) n s w = opens-define (isLambda b) k m x b n s w
   opens-top k (lambda m xs b) n s w = opens k (lambda m xs b) n topFlags s w
-  opens-top k (begin m es) n s w = opens k (begin m es) n topFlags s w
+  opens-top k (sequence m es) n s w = opens k (sequence m es) n topFlags s w
   opens-top k (call m e es) n s w = opens k (call m e es) n topFlags s w
   opens-top k (set! m x e) n s w = opens k (set! m x e) n topFlags s w
 

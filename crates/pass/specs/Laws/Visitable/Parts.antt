@@ -5,19 +5,21 @@ use mathlib.Core.Bool.{Bool, true, false, cond}
 use mathlib.Core.Path.{ap}
 use native.Mathlib.Omega.{arith}
 use lib.ListN.{length}
-use Rattle.tree.specs.Tree.{Ident, Node, Tree, Trees, if, letin, define, lambda, begin, call, set!, cons, many, size, sizes, Num}
+use Rattle.tree.specs.Tree.{Ident, Node, Tree, Trees, if, letin, define, lambda, sequence, call, set!, cons, many, size, sizes, Num, begins, ands, whens}
 use Rattle.tree.specs.TreeLaws.{size-pos, many-sizes}
+use Rattle.tree.specs.Core.{cores}
+use Rattle.pass.specs.Laws.Sound.Holds.{holds-cores}
 use Rattle.scope_map.specs.ScopeMap.{ScopeMap}
 use Rattle.semantic.specs.Information.{NONE}
 use Rattle.pass.specs.State.{State, withContext, depth}
 use Rattle.pass.specs.Lambda.{enterLambda, enterLet}
-use Rattle.pass.specs.Visit.{Flags, notTail, sameTail, pushed, letBodyFlags, bodyFlags, argumentFlags, isLambda, headFlags, isNil, childFlags, defineFlags, beforeDefine, enterChildren, clearContext, visit, visitArguments}
+use Rattle.pass.specs.Visit.{Flags, notTail, sameTail, pushed, letBodyFlags, bodyFlags, argumentFlags, isLambda, headFlags, isNil, childFlags, defineFlags, beforeDefine, enterChildren, clearContext, visit, visitArguments, inBegin, inAnd, isAlone}
 use Rattle.pass.specs.Run.{rowsMost}
 use Rattle.pass.specs.Sound.{Holds, Opens}
 use Rattle.pass.specs.Stage.{afterInitials}
 use Rattle.pass.specs.Visitable.{Visitable, VisitableArguments, VisitableChildren}
 use Rattle.pass.specs.Laws.Visits.{stays}
-use Rattle.pass.specs.Laws.Keeps.{visited-arguments}
+use Rattle.pass.specs.Laws.Keeps.{visited, visited-arguments}
 use Rattle.pass.specs.Laws.Sound.Known.{knowing, sound-context, sound-enter-lambda, sound-enter-let, sound-clear}
 use Rattle.pass.specs.Laws.Sound.Calls.{each-before}
 use Rattle.pass.specs.Laws.Sound.Runs.{enter-sound}
@@ -88,7 +90,7 @@ module _ {P : Ident → Type 0} (small : (x : Ident) → P x → x .at < rowsMos
         stage = stage.next-children classes i f s t ts (w .num) (w .stage);
       }
 
-  pub begin-children : (n : Node) (es : Trees) → Visitable P i (begin n es) f s → VisitableChildren P (i + 1) es f (enterChildren classes es s)
+  pub begin-children : (n : Node) (es : Trees) → Visitable P i (sequence (begins n) es) f s → VisitableChildren P (i + 1) es (inBegin f) (enterChildren classes (cores es) s)
   unfolding Num size Holds
   begin-children n es w =
       let l = children-live classes es s in
@@ -96,10 +98,51 @@ module _ {P : Ident → Type 0} (small : (x : Ident) → P x → x .at < rowsMos
         num = w .num .1;
         inside = omega arith;
         holds = w .holds;
-        sound = enter-sound small classes es s (w .holds) (w .sound);
-        ample = ample-on (further-children (w .stage .layered .scope) classes es) (w .ample) (omega (arith, entered-few es));
+        sound = enter-sound small classes (cores es) s (holds-cores P es (w .holds)) (w .sound);
+        ample = ample-on (further-children (w .stage .layered .scope) classes (cores es)) (w .ample) (omega (arith, entered-few es));
         stage = stage.begin-children classes i f s n es (w .num) (w .stage);
       }
+
+  pub and-children : (n : Node) (es : Trees) → Visitable P i (sequence (ands n) es) f s → VisitableChildren P (i + 1) es (inAnd (isAlone es) f) s
+  unfolding Num size Holds
+  and-children n es w = record {
+    num = w .num .1;
+    inside = omega arith;
+    holds = w .holds;
+    sound = w .sound;
+    ample = ample-on further-same (w .ample) (omega (arith, entered-few es));
+    stage = stage.and-children classes i f s n es (w .stage);
+  }
+
+  -- when, unless: the test, then what follows
+
+  module _ (b : Bool) (n : Node) (t : Tree) (ts : Trees) (w : Visitable P i (sequence (whens b n) (cons t ts)) f s) where
+    pub when-test : Visitable P (i + 1) t (notTail f) s
+    unfolding Num size Holds
+    when-test = record {
+      num = w .num .1 .0;
+      inside = omega arith;
+      holds = w .holds .0;
+      sound = w .sound;
+      ample = ample-on further-same (w .ample) (omega arith);
+      stage = stage.when-test classes i f s b n t ts (w .stage);
+    }
+
+    pub when-children : VisitableChildren P (i + 1 + size t) ts (inBegin f) (enterChildren classes (cores ts) (visit classes t (notTail f) s))
+    unfolding Num size Holds
+    when-children =
+        let u = visit classes t (notTail f) s in
+        let l = children-live classes ts u in
+        let h = stays (visited classes t (notTail f) s (w .stage .layered .scope)) (w .stage .layered .scope) in
+        record {
+          num = w .num .1 .1;
+          inside = omega arith;
+          holds = w .holds .1;
+          sound = enter-sound small classes (cores ts) u (holds-cores P ts (w .holds .1)) (visited-sound small classes when-test);
+          ample = ample-on (further-then (visited-further small classes when-test) (further-children h classes (cores ts))) (w .ample)
+              (omega (arith, visited-live small classes when-test, entered-few ts));
+          stage = stage.when-children classes i f s b n t ts (w .num) (w .stage);
+        }
 
   -- if
 

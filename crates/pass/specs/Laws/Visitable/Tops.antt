@@ -3,7 +3,7 @@ use Prim.Native.Nat.{ℕ, _+_, _<_}
 use mathlib.Core.List.{List}
 use mathlib.Core.Path.{_≡_, sym, _∙_}
 use native.Mathlib.Omega.{arith}
-use Rattle.tree.specs.Tree.{Ident, Node, Tree, Trees, ident, const, if, letin, define, lambda, begin, call, set!, cons, size, Num}
+use Rattle.tree.specs.Tree.{Ident, Node, Tree, Trees, ident, const, if, letin, define, lambda, sequence, call, set!, cons, size, Num}
 use Rattle.tree.specs.TreeLaws.{size-pos}
 use Rattle.pass.specs.State.{State, withContext}
 use Rattle.pass.specs.Read.{enterTopLevelValue}
@@ -31,7 +31,7 @@ one-place (if a b c d) m n = sym (m .0) ∙ n .0
 one-place (letin a xs es b) m n = sym (m .0) ∙ n .0
 one-place (define a x b) m n = sym (m .0) ∙ n .0
 one-place (lambda a xs b) m n = sym (m .0) ∙ n .0
-one-place (begin a es) m n = sym (m .0) ∙ n .0
+one-place (sequence a es) m n = sym (m .0) ∙ n .0
 one-place (call a e es) m n = sym (m .0) ∙ n .0
 one-place (set! a x e) m n = sym (m .0) ∙ n .0
 

@@ -11,14 +11,14 @@ use Rattle.tree.proofs.form.looked_up.Statement.{statement}
 use Rattle.tree.proofs.form.looked_up.Tie as tie
 
 abbrev fixed : List ℕ
-fixed = 0 ∷ 0 ∷ 0 ∷ 3 ∷ 1 ∷ 2 ∷ 1 ∷ 0 ∷ 0 ∷ 2 ∷ []
+fixed = 0 ∷ 0 ∷ 0 ∷ 3 ∷ 1 ∷ 2 ∷ 1 ∷ 0 ∷ 0 ∷ 2 ∷ 0 ∷ 0 ∷ 0 ∷ []
 
 abbrev counted : List ℕ
-counted = 0 ∷ 0 ∷ 0 ∷ 0 ∷ 2 ∷ 0 ∷ 1 ∷ 1 ∷ 1 ∷ 0 ∷ []
+counted = 0 ∷ 0 ∷ 0 ∷ 0 ∷ 2 ∷ 0 ∷ 1 ∷ 1 ∷ 1 ∷ 0 ∷ 1 ∷ 1 ∷ 1 ∷ []
 
-rule : (f c : ℕ) → f ≤ 9 → getD fixed f 0 + getD counted f 0 * c ≡ childrenOf f c
+rule : (f c : ℕ) → f ≤ 12 → getD fixed f 0 + getD counted f 0 * c ≡ childrenOf f c
 unfolding formOf namesOf othersOf childrenOf
-rule f c h = each (λ n. getD fixed n 0 + getD counted n 0 * c ≡ childrenOf n c) 10 (omega arith) f (omega arith)
+rule f c h = each (λ n. getD fixed n 0 + getD counted n 0 * c ≡ childrenOf n c) 13 (omega arith) f (omega arith)
 
 wide-requires : tie.Need-wide-requires
 wide-requires c κs = search needs

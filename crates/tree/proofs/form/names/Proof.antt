@@ -12,14 +12,14 @@ use Rattle.tree.proofs.form.names.Statement.{statement}
 use Rattle.tree.proofs.form.names.Tie as tie
 
 abbrev fixed : List ℕ
-fixed = 0 ∷ 0 ∷ 0 ∷ 0 ∷ 0 ∷ 1 ∷ 0 ∷ 0 ∷ 0 ∷ 1 ∷ []
+fixed = 0 ∷ 0 ∷ 0 ∷ 0 ∷ 0 ∷ 1 ∷ 0 ∷ 0 ∷ 0 ∷ 1 ∷ 0 ∷ 0 ∷ 0 ∷ []
 
 abbrev counted : List ℕ
-counted = 0 ∷ 0 ∷ 0 ∷ 0 ∷ 1 ∷ 0 ∷ 1 ∷ 0 ∷ 0 ∷ 0 ∷ []
+counted = 0 ∷ 0 ∷ 0 ∷ 0 ∷ 1 ∷ 0 ∷ 1 ∷ 0 ∷ 0 ∷ 0 ∷ 0 ∷ 0 ∷ 0 ∷ []
 
-rule : (f c : ℕ) → f ≤ 9 → getD fixed f 0 + getD counted f 0 * c ≡ namesOf f c
+rule : (f c : ℕ) → f ≤ 12 → getD fixed f 0 + getD counted f 0 * c ≡ namesOf f c
 unfolding formOf namesOf
-rule f c h = each (λ n. getD fixed n 0 + getD counted n 0 * c ≡ namesOf n c) 10 (omega arith) f (omega arith)
+rule f c h = each (λ n. getD fixed n 0 + getD counted n 0 * c ≡ namesOf n c) 13 (omega arith) f (omega arith)
 
 returns : tie.Need-returns
 unfolding namesOf

@@ -33,20 +33,31 @@ part-requires-9 c κs = search needs
 part-requires-10 : tie.Need-part-requires-10
 part-requires-10 c κs = search needs
 
+part-requires-11 : tie.Need-part-requires-11
+part-requires-11 c κs = search needs
+
+part-requires-12 : tie.Need-part-requires-12
+part-requires-12 c κs = search needs
+
+part-requires-13 : tie.Need-part-requires-13
+part-requires-13 c κs = search needs
+
 returns : tie.Need-returns
 returns c =
-    let d = c .before .before .before .before .before in
     rw (
-      c .part10 .ensures,
-      c .before .part9 .ensures,
-      c .before .before .part8 .ensures,
-      c .before .before .before .part7 .ensures,
-      c .before .before .before .before .part6 .ensures,
-      d .part5 .ensures,
-      d .before .part4 .ensures,
-      d .before .before .part3 .ensures,
-      d .before .before .before .part2 .ensures,
-      d .before .before .before .before .part .ensures,
+      c .part13 .ensures,
+      c .before .part12 .ensures,
+      c .before .before .part11 .ensures,
+      c .before .before .before .part10 .ensures,
+      c .before .before .before .before .part9 .ensures,
+      c .before .before .before .before .before .part8 .ensures,
+      c .before .before .before .before .before .before .part7 .ensures,
+      c .before .before .before .before .before .before .before .part6 .ensures,
+      c .before .before .before .before .before .before .before .before .part5 .ensures,
+      c .before .before .before .before .before .before .before .before .before .part4 .ensures,
+      c .before .before .before .before .before .before .before .before .before .before .part3 .ensures,
+      c .before .before .before .before .before .before .before .before .before .before .before .part2 .ensures,
+      c .before .before .before .before .before .before .before .before .before .before .before .before .part .ensures,
     )
 
 pub column-spec : {M : Type 1} → statement M
@@ -63,4 +74,7 @@ column-spec =
     part-requires-8
     part-requires-9
     part-requires-10
+    part-requires-11
+    part-requires-12
+    part-requires-13
     returns)

@@ -16,7 +16,7 @@ use Rattle.tree.proofs.limits.fit.Statement.{statement}
 use Rattle.tree.proofs.limits.fit.Tie as tie
 
 module _ (t : List (List ℕ)) (r : Record) {f : ℕ} (ef : f ≡ r .form) where
-  form-out : 9 < f → Tells false (Fields t r)
+  form-out : 12 < f → Tells false (Fields t r)
   form-out h = tells-no (λ w. omega (arith, w .known))
 
   module _ {i : ℕ} (ei : i ≡ r .id) {b : Bool} (u : Tells b (Between t f 0 i)) where
@@ -27,7 +27,7 @@ module _ (t : List (List ℕ)) (r : Record) {f : ℕ} (ef : f ≡ r .form) where
       count-out : m < c → Tells false (Fields t r)
       count-out h = tells-no (λ w. omega (arith, w .most, limit-at t 3 ef))
 
-      all-in : f ≤ 9 → b ≡ true → c ≤ m → {x l : ℕ} → x ≡ r .name → l ≡ limitOf t f 4 → Tells (ltb x l) (Fields t r)
+      all-in : f ≤ 12 → b ≡ true → c ≤ m → {x l : ℕ} → x ≡ r .name → l ≡ limitOf t f 4 → Tells (ltb x l) (Fields t r)
       all-in h z k {x} {l} ex el = record {
         yes = λ s. record {
           known = omega arith;

@@ -30,19 +30,32 @@ id-limit-requires-8 c κs = search needs
 id-limit-requires-9 : tie.Need-id-limit-requires-9
 id-limit-requires-9 c κs = search needs
 
+id-limit-requires-10 : tie.Need-id-limit-requires-10
+id-limit-requires-10 c κs = search needs
+
+id-limit-requires-11 : tie.Need-id-limit-requires-11
+id-limit-requires-11 c κs = search needs
+
+id-limit-requires-12 : tie.Need-id-limit-requires-12
+id-limit-requires-12 c κs = search needs
+
 returns : tie.Need-returns
 returns c =
     let d = c .before .before .before .before in
+    let e = d .before .before .before .before in
     rw (
-      c .id-limit9 .ensures,
-      c .before .id-limit8 .ensures,
-      c .before .before .id-limit7 .ensures,
-      c .before .before .before .id-limit6 .ensures,
-      d .id-limit5 .ensures,
-      d .before .id-limit4 .ensures,
-      d .before .before .id-limit3 .ensures,
-      d .before .before .before .id-limit2 .ensures,
-      d .before .before .before .before .id-limit .ensures,
+      c .id-limit12 .ensures,
+      c .before .id-limit11 .ensures,
+      c .before .before .id-limit10 .ensures,
+      c .before .before .before .id-limit9 .ensures,
+      d .id-limit8 .ensures,
+      d .before .id-limit7 .ensures,
+      d .before .before .id-limit6 .ensures,
+      d .before .before .before .id-limit5 .ensures,
+      e .id-limit4 .ensures,
+      e .before .id-limit3 .ensures,
+      e .before .before .id-limit2 .ensures,
+      e .before .before .before .id-limit .ensures,
     )
 
 pub id-column-spec : {M : Type 1} → statement M
@@ -58,4 +71,7 @@ id-column-spec =
     id-limit-requires-7
     id-limit-requires-8
     id-limit-requires-9
+    id-limit-requires-10
+    id-limit-requires-11
+    id-limit-requires-12
     returns)

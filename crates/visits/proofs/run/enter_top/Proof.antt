@@ -1,29 +1,49 @@
 -- `enter_top`: the children of a begin enter, or the define, or none.
 use mathlib.Core.Path.{_≡_, sym, _∙_}
+use native.Mathlib.Omega.{arith}
 use borrow.Author.Needs.{needs}
 use Rattle.tree.specs.RecordLaws.{nth}
-use Rattle.visits.proofs.TopsEnterCase.{inside, children-fit, child-fits, children-enter, child-enters, none-enters}
+use Rattle.visits.proofs.TopsEnterCase.{some-tree, children-fit, child-fits, children-enter, child-enters, none-enters}
+use Rattle.visits.proofs.Peeled.{reached}
 use Rattle.visits.proofs.run.enter_top.Statement.{statement}
 use Rattle.visits.proofs.run.enter_top.Tie as tie
 
+-- the places that are looked back to, each from one after it
+
+abbrev to-start : tie.After-core-at → tie.Start
+to-start c = c .before .before .before .before .before
+
+abbrev to-begin : tie.After-wide → tie.Then1
+to-begin c = c .before .before
+
+abbrev to-counted : tie.After-enter-defines → tie.After-wide
+to-counted c = c .before .before .before .before
+
+abbrev to-other : tie.After-enter-defines2 → tie.Else1
+to-other c = c .before .before .before .before .before
+
+core-at-requires : tie.Need-core-at-requires
+core-at-requires c κs = some-tree (c .before .before .before .before .pre)
+
 form-requires : tie.Need-form-requires
-form-requires c κs = inside (c .before .before .before .before .pre)
+form-requires c κs = reached (some-tree (to-start c .pre)) (c .core-at .ensures) .1
 
 count-requires : tie.Need-count-requires
-count-requires c κs = inside (c .before .before .before .before .before .before .pre)
+count-requires c κs = let found = c .before .before in reached (some-tree (to-start found .pre)) (found .core-at .ensures) .1
 
 wide-requires : tie.Need-wide-requires
 wide-requires c κs = search needs
 
 add-enter-defines : tie.Need-add-enter-defines
-add-enter-defines c = search needs
+add-enter-defines c = let found = to-begin c .before .before in omega (arith, reached (some-tree (to-start found .pre)) (found .core-at .ensures) .2)
 
 enter-defines-requires : tie.Need-enter-defines-requires
 enter-defines-requires c κs =
-    let size = c .before .before .before in
-    let test = size .before .before in
-    let start = test .before .before .before .before .before .before in
-    children-fit (start .pre) (sym (test .before .form .ensures) ∙ test .if1 .taken) (size .wide .ensures ∙ size .before .count .ensures)
+    let counted = c .before .before .before in
+    let test = to-begin counted in
+    let found = test .before .before in
+    children-fit (to-start found .pre) (found .core-at .ensures) (sym (test .before .form .ensures) ∙ test .if1 .taken)
+    (counted .wide .ensures ∙ counted .before .count .ensures)
 
 same-length : tie.Need-same-length
 same-length c = search needs
@@ -33,16 +53,22 @@ same-length-2 c = search needs
 
 returns : tie.Need-returns
 returns c =
-    let size = c .before .before .before .before .before .before .before .before in
-    let test = size .before .before in
-    children-enter (sym (test .before .form .ensures) ∙ test .if1 .taken) (size .wide .ensures ∙ size .before .count .ensures)
-    (c .before .before .before .before .enter-defines .ensures)
+    let entered = c .before .before .before .before in
+    let counted = to-counted entered in
+    let test = to-begin counted in
+    children-enter (test .before .before .core-at .ensures) (sym (test .before .form .ensures) ∙ test .if1 .taken)
+    (counted .wide .ensures ∙ counted .before .count .ensures) (entered .enter-defines .ensures)
 
-no-begin : (c : tie.Else1) → let o = c .before .before .before .before .before .before .args in nth (o .all .now) (o .at) .form ≡ 7 → ⊥
+no-begin : (c : tie.Else1) →
+    let found = c .before .before in
+    nth (to-start found .args .all .now) (found .core-at .result) .form ≡ 7 → ⊥
 no-begin c e = c .if1 .left (c .before .form .ensures ∙ e)
 
 enter-defines-requires-2 : tie.Need-enter-defines-requires-2
-enter-defines-requires-2 c κs = let test = c .before .before .before .before in child-fits (test .before .before .before .before .before .before .pre) (no-begin test)
+enter-defines-requires-2 c κs =
+    let other = c .before .before .before .before in
+    let found = other .before .before in
+    child-fits (to-start found .pre) (found .core-at .ensures) (no-begin other)
 
 same-length-3 : tie.Need-same-length-3
 same-length-3 c = search needs
@@ -51,15 +77,21 @@ same-length-4 : tie.Need-same-length-4
 same-length-4 c = search needs
 
 returns-2 : tie.Need-returns-2
-returns-2 c = child-enters (no-begin (c .before .before .before .before .before .before .before .before .before)) (c .before .before .before .before .enter-defines2 .ensures)
+returns-2 c =
+    let entered = c .before .before .before .before in
+    let other = to-other entered in
+    child-enters (other .before .before .core-at .ensures) (no-begin other) (entered .enter-defines2 .ensures)
 
 returns-3 : tie.Need-returns-3
-returns-3 c = none-enters (no-begin (c .before)) (λ e. c .if2 .left (c .before .before .form .ensures ∙ e))
+returns-3 c =
+    let other = c .before in
+    none-enters (other .before .before .core-at .ensures) (no-begin other) (λ e. c .if2 .left (other .before .form .ensures ∙ e))
 
 pub enter-top-spec : {M : Type 1} → statement M
 enter-top-spec =
     tie.close
     (tie.spec
+    core-at-requires
     form-requires
     count-requires
     wide-requires

@@ -8,9 +8,11 @@ use lib.ListN.{length, take, drop}
 use Rattle.table.specs.Part.{part}
 use Rattle.tree.specs.Record.{records}
 use Rattle.registers.specs.Registers.{held}
+use Rattle.walk.specs.Contract.{SomeTree}
 use Rattle.visits.specs.Contract.{tables}
 use Rattle.visits.specs.Tops.{TopsFit}
-use Rattle.visits.proofs.TopsCase.{room, Left, Next, all-left, few, begin-opened, next, next-fits, ahead, one-less, all-visited}
+use Rattle.visits.proofs.TopsCase.{room, Left, Next, all-left, few, some-tree, begin-opened, next, next-fits, ahead, one-less, all-visited}
+use Rattle.visits.proofs.Peeled.{reached}
 use Rattle.visits.proofs.run.visit_tops.Statement.{statement}
 use Rattle.visits.proofs.run.visit_tops.Tie as tie
 
@@ -29,61 +31,81 @@ len-requires c κs = tt
 loop-holds : tie.Need-loop-holds Inv-loop μ-loop
 loop-holds c = (refl, λ x. all-left x)
 
+-- the places that are looked back to, each from one after it
+
+abbrev to-start : tie.In-loop Inv-loop μ-loop → tie.Start Inv-loop μ-loop
+to-start c = c .before .before .before .before
+
+abbrev to-found : tie.After-wide Inv-loop μ-loop → tie.After-core-at Inv-loop μ-loop
+to-found c = c .before .before .before .before .before
+
+abbrev to-here : tie.After-visit-top Inv-loop μ-loop → tie.Joined1 Inv-loop μ-loop
+to-here c = c .before .before .before .before .before .before .before
+
 -- the record lies inside
-inside : (c : tie.In-loop Inv-loop μ-loop)
-    → c .before .loop .at < length (records (c .before .before .before .before .args .all .now .now))
+inside : (c : tie.In-loop Inv-loop μ-loop) → c .before .loop .at < length (records (to-start c .args .all .now .now))
 inside c = omega (arith, c .loop-test .taken, c .before .before .len .ensures)
 
+tree-there : (c : tie.In-loop Inv-loop μ-loop) → SomeTree (to-start c .args .all .now .now) (c .before .loop .at)
+tree-there c = some-tree (c .before .loop .inv .1 (to-start c .pre)) (inside c)
+
+core-at-requires : tie.Need-core-at-requires Inv-loop μ-loop
+core-at-requires c κs = tree-there c
+
+-- and the one that is found from it
+found : (c : tie.After-core-at Inv-loop μ-loop) →
+    let top = c .core-at .result in
+    (c .before .before .loop .at ≤ top) × (top < length (records (to-start (c .before) .args .all .now .now))) × (top < 4096)
+found c = reached (tree-there (c .before)) (c .core-at .ensures)
+
 form-requires : tie.Need-form-requires Inv-loop μ-loop
-form-requires c κs = inside (c .before)
+form-requires c κs = found (c .before) .1
 
 count-requires : tie.Need-count-requires Inv-loop μ-loop
-count-requires c κs = inside (c .before .before .before)
+count-requires c κs = found (c .before .before .before) .1
 
 wide-requires : tie.Need-wide-requires Inv-loop μ-loop
 wide-requires c κs = tt
 
 add-at : tie.Need-add-at Inv-loop μ-loop
-add-at c =
-    let test = c .before .before .before .before .before in
-    omega (arith, inside test, few (test .before .before .before .before .pre))
+add-at c = omega (arith, found (to-found c))
 
 loop-less : tie.Need-loop-less Inv-loop μ-loop
-loop-less c = omega (arith, inside (c .before .before .before .before .before))
+loop-less c = omega (arith, found (to-found c))
 
 loop-again : tie.Need-loop-again Inv-loop μ-loop
 loop-again c =
-    let test = c .before .before .before .before .before in
-    let kept = test .before .loop .inv in (
+    let top = to-found c in
+    let kept = top .before .before .loop .inv in (
       kept .0,
       λ x.
-          begin-opened (kept .1 x) (inside test) (c .before .before .before .before .if1 .taken)
+          begin-opened (kept .1 x) (inside (top .before)) (top .core-at .ensures) (c .before .before .before .before .if1 .taken)
           (sym (c .before .before .before .form .ensures) ∙ eqb-true _ 7 (c .before .before .if2 .taken)) (c .wide .ensures ∙ c .before .count .ensures),
     )
 
 -- its part of the records
 rest : (c : tie.Joined1 Inv-loop μ-loop) →
-    let all = c .before .before .before .before .before .args .all .now .now in
-    let start = 6 * c .before .before .loop .at in
+    let all = to-start (c .before .before) .args .all .now .now in
+    let start = 6 * c .before .core-at .result in
     take (length all - start) (drop start all) ≡ drop start all
-rest c = part (c .before .before .before .before .before .args .all .now .now) (6 * c .before .before .loop .at)
+rest c = part (to-start (c .before .before) .args .all .now .now) (6 * c .before .core-at .result)
 
 start : (c : tie.Joined1 Inv-loop μ-loop) →
-    let l = c .before .before .loop in
-    let all = c .before .before .before .before .before .args .all .now .now in
-    (6 * l .at + 6 ≤ length all) × (6 * l .at + 6 ≤ 24576)
+    let all = to-start (c .before .before) .args .all .now .now in
+    let start = 6 * c .before .core-at .result in
+    (start + 6 ≤ length all) × (start + 6 ≤ 24576)
 start c =
-    let o = c .before .before .before .before .before in
-    (room (o .args .all .now .now) (c .before .before .loop .at) (inside (c .before)), omega (arith, inside (c .before), few (o .pre)))
+    let f = found (c .before) in
+    (room (to-start (c .before .before) .args .all .now .now) (c .before .core-at .result) (f .1), omega (arith, f .2))
 
 -- the tree there is the next one
 turn : (c : tie.Joined1 Inv-loop μ-loop) →
-    let o = c .before .before .before .before .before .args in
-    let l = c .before .before .loop in
+    let o = to-start (c .before .before) .args in
+    let l = c .before .before .before .loop in
     (x : TopsFit (o .classes .now .now) (o .all .now .now) (held (o .r .now) (o .facts .now .now) (o .captured .now .now) (o .arguments .now .now) (o .work .now .now)))
-    → Next x (l .at) (l .inside) (held (l .r) (l .facts .now) (l .captured .now) (l .arguments .now) (l .work .now))
+    → Next x (c .before .core-at .result) (l .inside) (held (l .r) (l .facts .now) (l .captured .now) (l .arguments .now) (l .work .now))
 turn c x =
-    next (c .before .before .loop .inv .1 x) (inside (c .before))
+    next (c .before .before .before .loop .inv .1 x) (inside (c .before .before)) (c .before .core-at .ensures)
     (⊎-elim (λ w i e. eqb-false _ 7 (w .2 .left) (w .1 .ensures ∙ e)) (λ w i e. w .left i) (c .if1 .came))
 
 mul-start : tie.Need-mul-start Inv-loop μ-loop
@@ -104,31 +126,27 @@ part-visit-top-end c = omega (arith, start c)
 visit-top-requires : tie.Need-visit-top-requires Inv-loop μ-loop
 visit-top-requires c κs =
     let here = c .before .before .before .before .before .before in
-    next-fits (turn here (here .before .before .before .before .before .pre)) (rest here)
+    next-fits (turn here (to-start (here .before .before) .pre)) (rest here)
 
 visited : (c : tie.After-visit-top Inv-loop μ-loop) →
-    let n = length (records (c .before .before .before .before .before .before .before .before .before .before .before .before .args .all .now .now)) in
-    (0 < c .visit-top .result) × (c .before .before .before .before .before .before .before .before .before .loop .at + c .visit-top .result ≤ n) × (n ≤ 4096)
-visited c =
-    let o = c .before .before .before .before .before .before .before .before .before .before .before .before in
-    let h = c .before .before .before .before .before .before .before in
-    let a = ahead (turn h (o .pre)) (rest h) (c .visit-top .ensures .0 .used) in
-    (a .0, a .1, few (o .pre))
+    let found = to-here c .before in
+    (0 < c .visit-top .result) × (found .core-at .result + c .visit-top .result ≤ length (records (to-start (found .before) .args .all .now .now)))
+visited c = let here = to-here c in ahead (turn here (to-start (here .before .before) .pre)) (rest here) (c .visit-top .ensures .0 .used)
 
 add-at-2 : tie.Need-add-at-2 Inv-loop μ-loop
-add-at-2 c = omega (arith, visited c)
+add-at-2 c = omega (arith, visited c, few (to-start (to-here c .before .before) .pre))
 
 one-less-requires : tie.Need-one-less-requires Inv-loop μ-loop
 one-less-requires c κs = tt
 
 loop-less-2 : tie.Need-loop-less-2 Inv-loop μ-loop
-loop-less-2 c = omega (arith, visited (c .before))
+loop-less-2 c = omega (arith, visited (c .before), found (to-here (c .before) .before))
 
 loop-again-2 : tie.Need-loop-again-2 Inv-loop μ-loop
 loop-again-2 c =
     let called = c .before in
-    let here = called .before .before .before .before .before .before .before in (
-      called .visit-top .ensures .1 ∙ here .before .before .loop .inv .0,
+    let here = to-here called in (
+      called .visit-top .ensures .1 ∙ here .before .before .before .loop .inv .0,
       λ x.
           one-less (turn here x) (rest here) (called .visit-top .ensures .0) (c .one-less .ensures),
     )
@@ -145,6 +163,7 @@ visit-tops-spec =
     μ-loop
     len-requires
     loop-holds
+    core-at-requires
     form-requires
     count-requires
     wide-requires

@@ -1,73 +1,16 @@
--- `body_at`: by the form's number.
-use borrow.Author.Needs.{needs}
-use native.Mathlib.Omega.{arith}
-use mathlib.Core.Path.{sym, _∙_}
-use Rattle.tree.specs.StandsLaws.{root}
-use Rattle.walk.proofs.Bodies.{head-stands, ident-body, lambda-body, call-body, other-body}
+-- `body_at`: what the tree that is reached says.
+use Rattle.walk.proofs.Bodies.{reached, some-tree, body-tells}
 use Rattle.walk.proofs.body.body_at.Statement.{statement}
 use Rattle.walk.proofs.body.body_at.Tie as tie
 
-form-requires : tie.Need-form-requires
-form-requires c κs = root (c .before .before .pre .stands) .inside
+core-at-requires : tie.Need-core-at-requires
+core-at-requires c κs = some-tree (c .before .before .pre)
 
-id-requires : tie.Need-id-requires
-id-requires c κs = root (c .before .before .before .before .pre .stands) .inside
-
-plain-body-requires : tie.Need-plain-body-requires
-plain-body-requires c κs = search needs
-
-plain-body-requires-2 : tie.Need-plain-body-requires-2
-plain-body-requires-2 c κs = search needs
-
-is-builtin-requires : tie.Need-is-builtin-requires
-is-builtin-requires c κs = search needs
-
-add-is-ident-of : tie.Need-add-is-ident-of
-add-is-ident-of c = search needs
-
-is-ident-of-requires : tie.Need-is-ident-of-requires
-is-ident-of-requires c κs =
-    let m = c .before in
-    let d = m .before in
-    (head-stands (sym (d .form .ensures) ∙ m .match .keys3) (d .before .before .before .pre), omega arith)
-
-plain-body-requires-3 : tie.Need-plain-body-requires-3
-plain-body-requires-3 c κs = search needs
+form-at-requires : tie.Need-form-at-requires
+form-at-requires c κs = reached (c .core-at .ensures) (c .before .before .before .pre)
 
 returns : tie.Need-returns
-returns c =
-    let m = c .before .before in
-    ident-body _ _ _ (m .before .form .ensures) (m .match .keys1) (c .before .id .ensures) (c .plain-body .ensures)
-
-returns-2 : tie.Need-returns-2
-returns-2 c =
-    let m = c .before in
-    lambda-body _ _ _ (m .before .form .ensures) (m .match .keys2) (c .plain-body2 .ensures)
-
-returns-3 : tie.Need-returns-3
-returns-3 c =
-    let m = c .before .before in
-    call-body _ _ _ (m .before .form .ensures) (m .match .keys3) (c .before .is-builtin .ensures) (c .is-ident-of .ensures)
-
-returns-4 : tie.Need-returns-4
-returns-4 c =
-    let m = c .before in
-    let h = m .match .rest in
-    other-body _ _ _ (m .before .form .ensures) (h .0 .0 .1) (h .0 .1) (h .1) (c .plain-body3 .ensures)
+returns c = body-tells _ _ (c .before .core-at .ensures) (c .form-at .ensures)
 
 pub body-at-spec : {M : Type 1} → statement M
-body-at-spec =
-    tie.close
-    (tie.spec
-    form-requires
-    id-requires
-    plain-body-requires
-    plain-body-requires-2
-    is-builtin-requires
-    add-is-ident-of
-    is-ident-of-requires
-    plain-body-requires-3
-    returns
-    returns-2
-    returns-3
-    returns-4)
+body-at-spec = tie.close (tie.spec core-at-requires form-at-requires returns)
