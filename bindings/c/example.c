@@ -1,6 +1,6 @@
 /*
  * Analyses (define f (lambda (x) (f x))), says the facts of each record in words and compares them with those of document 01.
- * Then a script that is refused, with the reason. Exit status 1 where anything differs. Built and run by bindings/run.
+ * Then two scripts that are refused, with the reason. Exit status 1 where anything differs. Built and run by bindings/run.
  */
 #include <stdio.h>
 #include <string.h>
@@ -55,6 +55,13 @@ static const uint32_t twice[][SCHEME_ANALYSIS_RECORD_WIDTH] = {
     {SCHEME_ANALYSIS_FORM_IDENTIFIER, 6, 0, 0, 25, 26},
 };
 static const uint8_t twice_classes[] = {0};
+
+/* (and x (when)): the when has no test */
+static const uint32_t untested[][SCHEME_ANALYSIS_RECORD_WIDTH] = {
+    {SCHEME_ANALYSIS_FORM_AND, 0, 0, 2, 0, 14},
+    {SCHEME_ANALYSIS_FORM_IDENTIFIER, 1, 0, 0, 5, 6},
+    {SCHEME_ANALYSIS_FORM_WHEN, 0, 0, 0, 7, 13},
+};
 
 static const char *kind_in_words(uint32_t kind)
 {
@@ -200,15 +207,20 @@ static int sample_is_right(void)
     return define_is_blank() && variables_are_right() && function_is_right() && call_is_right();
 }
 
-/* Whether it is refused as document 01 says: 9 at record 3 */
-static int refusal_is_right(void)
+/* Whether the one is refused as document 01 says, 9 at record 3, and the other as document 02 says, 16 at record 2 */
+static int refusals_are_right(void)
 {
-    size_t at;
+    size_t at, untested_at;
     uint32_t answer = scheme_analysis_fresh_in(&tables, twice[0], NUMBERS(twice), twice_classes, sizeof twice_classes, &at);
+    uint32_t untested_answer =
+        scheme_analysis_fresh_in(&tables, untested[0], NUMBERS(untested), twice_classes, sizeof twice_classes, &untested_at);
 
     printf("(lambda (x) (let ((x 1)) x))\n");
     say_refusal(answer, at);
-    return answer == SCHEME_ANALYSIS_REFUSED_LIVE_NAME && at == 3;
+    printf("(and x (when))\n");
+    say_refusal(untested_answer, untested_at);
+    return answer == SCHEME_ANALYSIS_REFUSED_LIVE_NAME && at == 3 && untested_answer == SCHEME_ANALYSIS_REFUSED_NO_TEST &&
+           untested_at == 2;
 }
 
 /* Whether ids lead to their records, and ids that no record has to none: those of twice are 1 to 6, at the records 0 to 5 */
@@ -228,17 +240,22 @@ static int records_are_found(void)
     return scheme_analysis_record_of(sample[0], NUMBERS(sample), 0) == NONE && scheme_analysis_record_of(NULL, 0, 1) == NONE;
 }
 
-/* Whether the answers 0 to 12 have each a reason of their own, and all other numbers one more */
+/* Whether the answers 0 to 12 and 16 have each a reason of their own, and all other numbers one more */
 static int reasons_differ(void)
 {
-    const uint32_t other = SCHEME_ANALYSIS_REFUSED_NO_CAPTURE_OFFSET + 1;
+    const char *other = scheme_analysis_reason(NONE);
     uint32_t a, b;
 
-    for (a = 0; a <= other; a++)
-        for (b = 0; b < a; b++)
+    for (a = 0; a <= SCHEME_ANALYSIS_REFUSED_NO_TEST + 1; a++) {
+        int is_answer = a <= SCHEME_ANALYSIS_REFUSED_NO_CAPTURE_OFFSET || a == SCHEME_ANALYSIS_REFUSED_NO_TEST;
+
+        if ((strcmp(scheme_analysis_reason(a), other) != 0) != is_answer)
+            return 0;
+        for (b = 0; is_answer && b < a; b++)
             if (strcmp(scheme_analysis_reason(a), scheme_analysis_reason(b)) == 0)
                 return 0;
-    return strcmp(scheme_analysis_reason(other), scheme_analysis_reason(NONE)) == 0;
+    }
+    return 1;
 }
 
 static int stated(int right, const char *what)
@@ -251,7 +268,7 @@ static int stated(int right, const char *what)
 int main(void)
 {
     int facts = stated(sample_is_right(), "the facts are not document 01's");
-    int refusal = stated(refusal_is_right(), "the refusal is not document 01's");
+    int refusal = stated(refusals_are_right(), "a refusal is not the documents'");
     int records = stated(records_are_found(), "an id leads to another record");
     int reasons = stated(reasons_differ(), "two answers have the same reason");
 

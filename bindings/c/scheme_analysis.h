@@ -33,9 +33,9 @@ extern "C" {
  * The version of this interface. It stands in the names of the library's symbols, so that a header and an archive of
  * different versions fail at link time: the symbol that is undefined then has the header's version.
  */
-#define SCHEME_ANALYSIS_VERSION 1
-#define scheme_analysis_fresh scheme_analysis_fresh_v1
-#define scheme_analysis_settled scheme_analysis_settled_v1
+#define SCHEME_ANALYSIS_VERSION 2
+#define scheme_analysis_fresh scheme_analysis_fresh_v2
+#define scheme_analysis_settled scheme_analysis_settled_v2
 
 /*
  * Sizes
@@ -80,6 +80,9 @@ enum {
  *     7 begin        count expressions                              0     0             0 to 255
  *     8 call         count: the head, then the arguments            yes   0             1 to 255
  *     9 set!         name, expression                               0     0             0
+ *     10 and         count expressions                              0     0             0 to 255
+ *     11 when        count: the test, then what follows             0     0             1 to 255
+ *     12 unless      count: the test, then what follows             0     0             1 to 255
  *
  * An id is 1 to 4294967294, and no two records have the same. Names are numbered from 0. The names of a let, define, lambda or
  * set! are records of form 1. from and to are a position in the script's text: carried to the facts, and never consulted.
@@ -87,6 +90,17 @@ enum {
  * (define f (lambda (x) (f x))), where f is name 0 and x is name 1:
  *
  *     5,0,0,0,0,29   1,1,0,0,8,9   6,2,0,1,10,28   1,3,1,0,19,20   8,4,0,2,22,27   1,5,0,0,23,24   1,6,1,0,25,26
+ *
+ * Forms 10 to 12 have no facts. All others are those of the script that has these in their place:
+ *
+ *     (and)              #t
+ *     (and e)            e
+ *     (and e1 e2 ..)     (if e1 (and e2 ..) #f)
+ *     (when e es ..)     (if e (begin es ..) (begin))
+ *     (unless e es ..)   (if e (begin) (begin es ..))
+ *
+ * So (define f (and (lambda () 1))) defines a lambda, and a define in a when is an inner one. Limits are those of the script as
+ * it is given.
  */
 enum scheme_analysis_form {
     SCHEME_ANALYSIS_FORM_IDENTIFIER = 1,
@@ -97,7 +111,10 @@ enum scheme_analysis_form {
     SCHEME_ANALYSIS_FORM_LAMBDA = 6,
     SCHEME_ANALYSIS_FORM_BEGIN = 7,
     SCHEME_ANALYSIS_FORM_CALL = 8,
-    SCHEME_ANALYSIS_FORM_SET = 9
+    SCHEME_ANALYSIS_FORM_SET = 9,
+    SCHEME_ANALYSIS_FORM_AND = 10,
+    SCHEME_ANALYSIS_FORM_WHEN = 11,
+    SCHEME_ANALYSIS_FORM_UNLESS = 12
 };
 
 /*
@@ -112,7 +129,8 @@ enum scheme_analysis_class {
 
 /*
  * The answer: 0, or the number of a refusal. *at is then the first record that it applies to, and 0 where it names none, as
- * after 0. Each check from 1 to 10 covers the whole script before the next. _X stands for SCHEME_ANALYSIS_X below.
+ * after 0. Each check from 1 to 7, then 16, then each from 8 to 10, covers the whole script before the next. _X stands for
+ * SCHEME_ANALYSIS_X below.
  *
  * Refusal 9 meets legal Scheme: (lambda () (let ((a 1)) (let ((a 2)) a))). A lambda opens a scope, and so does a let outside
  * all scopes. Any other let, and an inner define, binds its names in the scope around it, the let until its body ends, the
@@ -131,11 +149,12 @@ enum scheme_analysis_answer {
 
     /* Every number of every table is 0: */
     SCHEME_ANALYSIS_REFUSED_TOO_MANY = 2,           /* too many records or names: above _MOST_RECORDS or _MOST_NAMES */
-    SCHEME_ANALYSIS_REFUSED_FIELD = 3,              /* a field of a record is not as above; a call's count of 0 is 7 */
+    SCHEME_ANALYSIS_REFUSED_FIELD = 3,              /* a field of a record is not as above; a count of 0 is 7 or 16 */
     SCHEME_ANALYSIS_REFUSED_MISSING = 4,            /* children are missing at the end: *at is the number of records */
     SCHEME_ANALYSIS_REFUSED_DEEP = 5,               /* an expression is nested too deep: above _DEEPEST */
     SCHEME_ANALYSIS_REFUSED_NOT_A_NAME = 6,         /* another form stands where a name should */
     SCHEME_ANALYSIS_REFUSED_EMPTY_CALL = 7,         /* a call has count 0 */
+    SCHEME_ANALYSIS_REFUSED_NO_TEST = 16,           /* a when or unless has count 0 */
     SCHEME_ANALYSIS_REFUSED_REPEATED_ID = 8,        /* an earlier record has the same id */
     SCHEME_ANALYSIS_REFUSED_LIVE_NAME = 9,          /* a name is bound where it is live in the same scope: *at is that name */
     SCHEME_ANALYSIS_REFUSED_TOO_MANY_CAPTURED = 10, /* too many captured entries: *at is the lambda that passes _MOST_CAPTURED */
@@ -157,6 +176,7 @@ static inline const char *scheme_analysis_reason(uint32_t answer)
     case SCHEME_ANALYSIS_REFUSED_DEEP: return "an expression is nested too deep";
     case SCHEME_ANALYSIS_REFUSED_NOT_A_NAME: return "another form stands where a name should";
     case SCHEME_ANALYSIS_REFUSED_EMPTY_CALL: return "a call has count 0";
+    case SCHEME_ANALYSIS_REFUSED_NO_TEST: return "a when or unless has count 0";
     case SCHEME_ANALYSIS_REFUSED_REPEATED_ID: return "an earlier record has the same id";
     case SCHEME_ANALYSIS_REFUSED_LIVE_NAME: return "a name is bound where it is live in the same scope";
     case SCHEME_ANALYSIS_REFUSED_TOO_MANY_CAPTURED: return "too many captured entries";

@@ -1,10 +1,12 @@
 #!/usr/bin/env python3
 """Writes the inputs that the program `listing_main` prints the text of, and the texts.
 
-The texts of accepted trees are the Rust's, asked of the oracle. Bad lines and
-refusals are not the Rust's: they are expected from a reading of document 01 in
-Python, here (`first_bad`) and in tools/trial/reading.py. That the captured
-entries pass 4,096 is seen in the Rust's own lists.
+The texts of accepted trees are the Rust's, asked of the oracle; a tree with
+`and`, `when` or `unless` is given to it expanded (tools/trial/expansion.py), and
+the lines go by the tree's own records. Bad lines and refusals are not the
+Rust's: they are expected from a reading of the documents in Python, here (`read`)
+and in tools/trial/reading.py. That the captured entries pass 4,096 is seen in the
+Rust's own lists.
 
 In the file stdin the inputs are parted by `---` and LF, wherever those stand,
 so that an input may end without LF; the texts in stdout are parted alike.
@@ -19,11 +21,12 @@ TRIAL = os.path.join(HERE, "..", "trial")
 sys.path.insert(0, TRIAL)
 
 import damage
+import expansion
 import random_trees
 import reading
 import rust
 import trees
-from trees import BEGIN, CALL, CONST, IF, LAMBDA, ident
+from trees import AND, BEGIN, CALL, CONST, IF, LAMBDA, UNLESS, WHEN, ident
 
 RECORDS_MOST = 512
 PARTING = "---\n"
@@ -39,6 +42,7 @@ def options():
     p.add_argument("--oracle", required=True, metavar="FOLDER", help="the folder of the oracle's program `oracle` (its bin/)")
     p.add_argument("--into", default=os.path.join(HERE, "..", "..", "crates", "listing_main"), metavar="FOLDER", help="where the files stdin and stdout go (crates/listing_main)")
     p.add_argument("--random", type=int, default=50, metavar="N", help="how many random trees (50)")
+    p.add_argument("--expanded", type=int, default=20, metavar="N", help="how many more with `and`, `when` or `unless` (20)")
     p.add_argument("--records", type=int, default=24, metavar="N", help="their most records (24)")
     p.add_argument("--damaged", type=int, default=40, metavar="N", help="how many damaged trees (40)")
     return p.parse_args()
@@ -128,9 +132,10 @@ def good_lines():
 
 
 def refused():
-    """Refusals 2 to 8, at the limits and one past them where they have any, and where two apply."""
+    """Refusals 2 to 8 and 16, at the limits and one past them where they have any, and where two apply."""
     out = [
-        head() + EMPTY * 512 + line(10), head(*[0] * 1024) + line(1, 1, 1023), head(*[0] * 1025) + line(10), head(0) + EMPTY * 9 + line(10),
+        head() + EMPTY * 512 + line(13), head(*[0] * 1024) + line(1, 1, 1023), head(*[0] * 1025) + line(13), head(0) + EMPTY * 9 + line(13),
+        head() + line(7, count=1) + line(11), head() + line(12) + line(8, 1), head() + line(2, 1) * 2 + line(11), head() + line(12) + line(5) + line(2, 1) + line(2, 2),
         head(0) + line(4294967295), head() + line(1, 1), head() + line(7, 0, 1), head() + line(7, 1), head() + line(2, 0), head() + line(2, 4294967295), head() + line(2, 1, 2),
         head() + line(5), head() + line(6, 1, count=2), head() + line(7, count=2) + line(8, 1) * 2, head() + line(5) + EMPTY + EMPTY,
     ]
@@ -157,10 +162,24 @@ def wide():
     return [of_trees([e], 1) for e in calls + halves] + [of_trees(*r) for r in rows] + [trees.text(c) for c in trees.limits()]
 
 
+def rows():
+    """512 records whose expansion has more, and one record more; the widest `and`; tail calls in what follows many tests."""
+    call = (CALL, 0, (), (ident(0),))
+
+    def of(form, *kids):
+        return (form, 0, (), kids)
+
+    most = (LAMBDA, 0, (0,), (of(AND, *[of(WHEN, call)] * 85, *[of(UNLESS, call, call)] * 49),))
+    tests = [(LAMBDA, 0, (), (of(AND, *[of(WHEN, *[call] * n)] * n, of(UNLESS, *[call] * n)),)) for n in (1, 2, 3, 7)]
+    widest = (LAMBDA, 0, (0,), (of(AND, *[ident(0)] * 254, of(AND, call)),))
+    return [of_trees([most, *[ident(0)] * n], 1) for n in (9, 10)] + [of_trees([e], 1) for e in tests + [widest]]
+
+
 def inputs(o):
     cases = trees.scripts(os.path.join(TRIAL, "scripts.txt"))
     cases += [random_trees.at_random(seed, o.records) for seed in range(o.random)]
-    out = [EXAMPLE, head()] + [trees.text(c) for c in cases] + good_lines() + wide() + refused() + bad_lines()
+    cases += [random_trees.at_random(seed, o.records, expanded=True) for seed in range(o.expanded)]
+    out = [EXAMPLE, head()] + [trees.text(c) for c in cases] + good_lines() + wide() + rows() + refused() + bad_lines()
     return out + [trees.text(trees.Case("", [0] * n, grouped(ns))) for n, ns in damage.copies(cases, o.damaged) if len(ns) % 6 == 0]
 
 
@@ -195,18 +214,24 @@ def texts(oracle, some):
     found = [read(text) for text in some]
     out = [before_the_run(*f) for f in found]
     asked = [i for i, text in enumerate(out) if text is None]
-    for i, facts in zip(asked, rust.ask(oracle, [found[i][1] for i in asked], "facts")):
-        nine, ends = reading.walk(found[i][1].records)
+    expanded = [expansion.expand(found[i][1]) for i in asked]
+    for i, (tree, written), facts in zip(asked, expanded, rust.ask(oracle, [tree for tree, _ in expanded], "facts")):
+        nine, ends = reading.walk(tree.records)
         ten = over_limit(facts, ends)
         if nine is not None:
-            out[i] = refused_text(9, nine)
+            out[i] = refused_text(9, written[nine])
         elif ten is not None:
-            out[i] = refused_text(10, ten)
+            out[i] = refused_text(10, written[ten])
         elif facts.startswith(("panic=", "malformed")):
             raise rust.Unknown(facts)
         else:
-            out[i] = facts
+            out[i] = by_written(facts, written)
     return out
+
+
+def by_written(facts, written):
+    """The lines of an expansion's facts, with the records as written."""
+    return re.sub(r"^at=(\d+)", lambda at: "at=%d" % expansion.written_record(int(at[1]), written), facts, flags=re.M)
 
 
 def main():

@@ -9,7 +9,7 @@ from collections import namedtuple
 import random
 
 from layered import Maker, Style
-from trees import BEGIN, CALL, CONST, Case, DEFINE, IF, LAMBDA, LET, SET, ident, records_of
+from trees import AND, BEGIN, CALL, CONST, Case, DEFINE, IF, LAMBDA, LET, SET, UNLESS, WHEN, ident, records_of
 
 # A case and the refusals that it has to have, fresh and settled; 0 is none.
 Large = namedtuple("Large", "case fresh settled")
@@ -44,6 +44,11 @@ def assign(name, value=ZERO):
 
 def reads(names):
     return begin(*map(ident, names))
+
+
+def row(form, *kids):
+    """An `and`, `when` or `unless`."""
+    return (form, 0, (), tuple(kids))
 
 
 # ---- ids and positions
@@ -164,6 +169,20 @@ def tall():
     return [function([0], tree)]
 
 
+def rows():
+    """`and`s of 200 in one another's last places, with a lambda now and then: the expansion nests 2,000 deep. Then `when`s and `unless`es
+    of 200 that hold an `and` of one around a lambda define, which calls itself through another."""
+    tree = call(row(AND, ident(0)), row(AND, ident(1)), ident(2))
+    for n in range(10):
+        tree = row(AND, *[ident(k % 3) for k in range(198)], call(ident(n % 3), ident(0)), tree)
+        tree = function([n % 3], tree) if n % 3 == 2 else tree
+    inner = row(AND, define(3, row(AND, function([4], call(row(AND, row(AND, ident(3))), row(AND, ident(4)))))))
+    out = [function([0, 1, 2], tree)]
+    for form in WHEN, UNLESS:
+        out.append(function([0], row(form, ident(0), *[call(ident(3), ident(0))] * 100, inner, *[ident(3)] * 90, call(ident(3)))))
+    return out
+
+
 # ---- at random
 
 # Weights of the forms: even; captures; captures that are set; inner defines; calls; a plain program.
@@ -173,6 +192,10 @@ SETS = (0, 4, 0, 6, 7, 0, 5)
 INNER = (1, 2, 4, 5, 4, 1, 1)
 CALLS = (2, 1, 1, 2, 1, 7, 1)
 PLAIN = (3, 3, 0, 3, 3, 9, 1)
+# With and, when, unless: a plain program; inner defines; captures that are set.
+PLAIN_ROWS = PLAIN + (6, 3, 3)
+INNER_ROWS = INNER + (4, 4, 4)
+SETS_ROWS = SETS + (4, 3, 3)
 
 
 def classes_of(rng, n, choice):
@@ -211,6 +234,10 @@ def cases():
         at_random("refused 11", 6, 1500, 50, Style(SETS, 20, 0, 8), mixed, settled=11),
         at_random("refused 12", 8, 1500, 50, Style(SETS, 20, 0, 8), mixed, settled=12),
         at_random("refused 9", 1, 1200, 40, Style(EVEN, 1, 50, 8), mixed, late=[twice], fresh=9, settled=9),
+        large("rows", 11, [0] * 5, rows(), falling),
+        at_random("rows at random", 3, 4096, 200, Style(PLAIN_ROWS, 0, 30, 64), mixed, (0, 0, 0, 1, 2, 4, 8)),
+        at_random("inner defines in rows", 5, 1500, 60, Style(INNER_ROWS, 1, 30, 24), mixed),
+        at_random("mutated in rows", 3, 1500, 50, Style(SETS_ROWS, 20, 0, 8), mixed),
         at_random("far apart", 2, 1100, 60, Style(EVEN, 1, 50, 8), far_apart, (0, 0, 0, 1, 2, 4, 8, 15), places=2**32),
     ]
 
@@ -224,14 +251,16 @@ def changed(records, at, place, value):
 
 
 def damaged():
-    """How many names, the records, and the refusal, 2 to 8, which is met late or at a limit."""
+    """How many names, the records, and the refusal, 2 to 8 or 16, which is met late or at a limit."""
     maker = Maker(random.Random(9), 40, Style(EVEN, 1, 50, 8))
     good = large("", 9, (), maker.tree(1000) + [function([0], ident(0)), call(ident(0))], mixed).case.records
     deeper = large("", 9, (), [begin(), begin(*tower())], mixed).case.records
     empty = (BEGIN, 0, 0, 0, 5, 6)
+    untested = [(WHEN, 0, 0, 0, 5, 6), (UNLESS, 0, 0, 0, 7, 8)]
     last = len(good) - 1
     first_id = next(r[1] for r in good if r[1])
     return [
         (0, [empty] * 4097, 2), (1025, [empty] * 1000, 2), (40, changed(good, last, 2, 40), 3), (40, good[:-1], 4), (125, deeper, 5),
         (40, changed(good, last - 3, 0, CONST), 6), (40, changed(good, last - 1, 3, 0), 7), (40, changed(good, last, 1, first_id), 8),
+        (40, good + untested, 16), (40, untested + changed(good, last, 1, first_id), 16), (40, untested + changed(good, last - 1, 3, 0), 7),
     ]

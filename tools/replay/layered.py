@@ -2,12 +2,12 @@
 no binder has the name of another one that is live in its layer, which would be refusal 9."""
 from collections import namedtuple
 
-from trees import BEGIN, CALL, CONST, DEFINE, IF, LAMBDA, LET, SET, ident
+from trees import AND, BEGIN, CALL, CONST, DEFINE, IF, LAMBDA, LET, SET, UNLESS, WHEN, ident
 
 NESTING_MOST = 64
 COUNT_MOST = 255
 
-# What a tree leans to. weights: of if, let, define, lambda, begin, call, set!; set_local: how many of 100 set!s may have
+# What a tree leans to. weights: of if, let, define, lambda, begin, call, set!, and perhaps of and, when, unless; set_local: how many of 100 set!s may have
 # a parameter or let name as their target; defines: how many of 100 top-level expressions are defines; pieces: about how
 # many top-level expressions there are.
 Style = namedtuple("Style", "weights set_local defines pieces")
@@ -17,8 +17,13 @@ def size_of(e):
     return 1 + len(e[2]) + sum(map(size_of, e[3]))
 
 
+def core(e):
+    """An `and` of one child is that child."""
+    return core(e[3][0]) if e[0] == AND and len(e[3]) == 1 else e
+
+
 def is_lambda_define(e):
-    return e[0] == DEFINE and e[3][0][0] == LAMBDA
+    return core(e)[0] == DEFINE and core(core(e)[3][0])[0] == LAMBDA
 
 
 class Maker:
@@ -85,7 +90,7 @@ class Maker:
         """At most `size` records, its own at this nesting."""
         if size == 1 or nesting == NESTING_MOST:
             return self.atom()
-        form = self.rng.choices(range(IF, SET + 1), self.style.weights)[0]
+        form = self.rng.choices(range(IF, IF + len(self.style.weights)), self.style.weights)[0]
         if form == IF and size >= 4:
             return (IF, 0, (), self.every(self.shares(size - 1, 3), nesting))
         if form == LET:
@@ -95,17 +100,27 @@ class Maker:
         if form == LAMBDA:
             return self.function(size, nesting)
         if form == BEGIN:
-            return self.begin(size, nesting)
+            return (BEGIN, 0, (), self.begin(self.sizes(size), nesting))
+        if form == AND:
+            return (AND, 0, (), self.every(self.sizes(size), nesting))
+        if form in (WHEN, UNLESS):
+            sizes = self.sizes(size)
+            test = self.every(sizes[:1], nesting)
+            return (form, 0, (), test + self.begin(sizes[1:], nesting))
         if form == SET and size >= 3:
             value = self.expression(size - 2, nesting + 1)
             return (SET, 0, (self.target(),), (value,))
         return self.call(size, nesting)
 
+    def sizes(self, size):
+        """Of some children of an expression of this size."""
+        return self.shares(size - 1, self.count(1, size - 1))
+
     def every(self, sizes, nesting):
         return tuple(self.expression(n, nesting + 1) for n in sizes)
 
     def call(self, size, nesting):
-        sizes = self.shares(size - 1, self.count(1, size - 1))
+        sizes = self.sizes(size)
         arguments = self.every(sizes[1:], nesting)
         if self.percent(40):
             head = self.expression(sizes[0], nesting + 1)
@@ -151,7 +166,7 @@ class Maker:
         else:
             body = ident(self.name()) if way == 1 else self.expression(size - 2, nesting + 1)
         name = self.binder()
-        if name is None or body[0] == LAMBDA:
+        if name is None or core(body)[0] == LAMBDA:
             return body
         self.layers[-1].append(name)
         return (DEFINE, 0, (name,), (body,))
@@ -163,19 +178,19 @@ class Maker:
         self.context = around
         return (DEFINE, 0, (name,), (body,))
 
-    def begin(self, size, nesting):
-        """Its lambda defines enter first; one made later would enter too late: of such a one the lambda alone."""
-        sizes = self.shares(size - 1, self.count(1, size - 1))
+    def begin(self, sizes, nesting):
+        """The children of a begin, or what follows a test. Lambda defines enter first; one made later would enter too late: of
+        such a one the lambda alone."""
         room = nesting + 2 < NESTING_MOST and self.style.weights[2] > 0
         plan = [self.binders(1) if room and n >= 4 and self.percent(30) else () for n in sizes]
-        return (BEGIN, 0, (), tuple(self.begun(names, n, nesting + 1) for names, n in zip(plan, sizes)))
+        return tuple(self.begun(names, n, nesting + 1) for names, n in zip(plan, sizes))
 
     def begun(self, names, size, nesting):
         """A child of a begin: the lambda define whose name has entered, or anything."""
         if names:
             return self.lambda_define(names[0], size, nesting)
         kid = self.expression(size, nesting)
-        return kid[3][0] if is_lambda_define(kid) else kid
+        return core(kid)[3][0] if is_lambda_define(kid) else kid
 
     def tree(self, size):
         """Top-level expressions of exactly `size` records together."""

@@ -2,11 +2,13 @@
 """Writes the Rust's answers that the program `replay` holds the port to, and what it then says.
 
 Each case is a tree with the facts that the Rust gives after one run and after
-two, every field; a panic of its second run stands for refusal 11 or 12. The
+two, every field; a panic of its second run stands for refusal 11 or 12. A tree
+with `and`, `when` or `unless` is given to it expanded, by document 02 as
+tools/trial/expansion.py reads it, and the facts go by the tree's own records. The
 trees are the scripts of tools/trial/scripts.txt, small random ones and the
 large ones of large.py. Refusal 9 is not the Rust's: it is expected from a
-reading of document 01 in Python, tools/trial/reading.py, as are refusals 1 to 8
-of damaged trees. Neither is refusal 10: it is counted on the Rust's lists.
+reading of the documents in Python, tools/trial/reading.py, as are refusals 1 to 8
+and 16 of damaged trees. Neither is refusal 10: it is counted on the Rust's lists.
 
 The input is in parts: the small trees, each large one, the damaged large ones.
 A line of 8 bytes says how many bytes a part has. The rest is numbers. A case:
@@ -28,6 +30,7 @@ TRIAL = os.path.join(HERE, "..", "trial")
 sys.path.insert(0, TRIAL)
 
 import damage
+import expected
 import large
 import random_trees
 import reading
@@ -43,6 +46,7 @@ def options():
     p.add_argument("--oracle", required=True, metavar="FOLDER", help="the folder of the oracle's program `oracle` (its bin/)")
     p.add_argument("--into", default=os.path.join(HERE, "..", "..", "crates", "replay"), metavar="FOLDER", help="where the files stdin and stdout go (crates/replay)")
     p.add_argument("--random", type=int, default=360, metavar="N", help="how many small random trees (360)")
+    p.add_argument("--expanded", type=int, default=40, metavar="N", help="how many more with `and`, `when` or `unless` (40)")
     p.add_argument("--seed", type=int, default=0, metavar="N", help="the seed of the first of them (0)")
     p.add_argument("--records", type=int, default=18, metavar="N", help="their most records (18)")
     p.add_argument("--damaged", type=int, default=60, metavar="N", help="how many small damaged trees (60)")
@@ -78,37 +82,32 @@ def refused(names, records, refusal):
     return tree([0] * names, records) + [list(refusal)] * 2
 
 
-# ---- what is expected
-
-def expected_of(case, one, two):
-    nine, ends = reading.walk(case.records)
-    if nine is not None:
-        return (rust.Facts((9, nine)),) * 2
-    fresh = rust.parse(one, case, ends)
-    ten = rust.over_limit(fresh, ends)
-    if ten is not None:
-        return (rust.Facts((10, ten)),) * 2
-    return fresh, rust.parse(two, case, ends, fresh)
-
-
-def answers(oracle, cases):
-    return map(expected_of, cases, rust.ask(oracle, cases, 1), rust.ask(oracle, cases, 2))
-
-
 # ---- the parts, each how many trees it has and its lines
 
 def small(o, oracle):
     some = trees.scripts(os.path.join(TRIAL, "scripts.txt"))
     some += [random_trees.at_random(seed, o.records) for seed in range(o.seed, o.seed + o.random)]
+    some += [random_trees.at_random(seed, o.records, expanded=True) for seed in range(o.seed, o.seed + o.expanded)]
+    limits = limits_of_rows()
+    some += [trees.Case("limit", [0] * names, grouped(numbers)) for names, numbers in limits if not reading.refusal(names, numbers)]
     lines, count = [], len(some)
-    for case, both in zip(some, answers(oracle, some)):
+    for case, both in zip(some, expected.answers(oracle, some)):
         lines += tree(case.classes, case.records) + facts(both[0]) + facts(both[1])
-    for names, numbers in damage.copies(some, o.damaged):
+    for names, numbers in limits + damage.copies(some, o.damaged):
         refusal = reading.refusal(names, numbers)
         if refusal and len(numbers) % 6 == 0:
-            lines += refused(names, [numbers[i:i + 6] for i in range(0, len(numbers), 6)], refusal)
+            lines += refused(names, grouped(numbers), refusal)
             count += 1
     return count, lines
+
+
+def grouped(numbers):
+    return [tuple(numbers[i:i + 6]) for i in range(0, len(numbers), 6)]
+
+
+def limits_of_rows():
+    """Forms 10 to 12 at their limits, and beside check 16: numbers of names, and numbers."""
+    return [limit for form in (10, 11, 12) for limit in damage.expanded_limits(form)]
 
 
 def title(case, both):
@@ -129,7 +128,7 @@ def title(case, both):
 def large_parts(oracle):
     some = large.cases()
     cases = [l.case for l in some]
-    for l, both in zip(some, answers(oracle, cases)):
+    for l, both in zip(some, expected.answers(oracle, cases)):
         told = tuple(f.refused[0] if f.refused else 0 for f in both)
         if told != (l.fresh, l.settled):
             raise rust.Unknown("%s: refused %s" % (l.case.label, told))

@@ -60,8 +60,8 @@ class Maker:
         if d == 0 or self.left <= 0:
             return self.identifier(sc) if self.rng.random() < 0.6 else self.const()
         self.left -= 1
-        make = self.rng.choices([self.identifier, self.conditional, self.let, self.closure, self.sequence, self.call, self.assign],
-                                [3, 3, 4, 2, 2, 6, 2])[0]
+        make = self.rng.choices([self.identifier, self.conditional, self.let, self.closure, self.sequence, self.call, self.assign,
+                                 self.conjunction, self.tested], [3, 3, 4, 2, 2, 6, 2, 3, 3])[0]
         return make(sc) if make == self.identifier else make(d - 1, sc)
 
     def conditional(self, d, sc):
@@ -91,6 +91,19 @@ class Maker:
     def sequence(self, d, sc):
         return Node("begin", [self.expression(d, sc) for _ in range(self.rng.choice([0, 1, 2, 2, 3]))])
 
+    def conjunction(self, d, sc):
+        return Node("and", [self.expression(d, sc) for _ in range(self.rng.choice([0, 1, 1, 2, 2, 3]))])
+
+    def tested(self, d, sc):
+        test = self.expression(min(d, 1), sc)
+        return Node(self.rng.choice(["when", "unless"]), [test] + [self.expression(d, sc) for _ in range(self.rng.choice([0, 1, 1, 2]))])
+
+    def in_ands(self, t):
+        """Now and then in an `and` of one, or two."""
+        for _ in range(self.rng.choice([0, 0, 0, 0, 0, 1, 2])):
+            t = Node("and", [t])
+        return t
+
     def call(self, d, sc):
         known = self.procedures(sc)
         roll = self.rng.random()
@@ -104,7 +117,7 @@ class Maker:
             k, head = self.rng.randrange(3), self.expression(d, sc)
         if self.rng.random() < 0.01:
             k += 1
-        return Node("call", [head] + [self.expression(min(d, 2), sc) for _ in range(k)])
+        return Node("call", [self.in_ands(head)] + [self.expression(min(d, 2), sc) for _ in range(k)])
 
     def assign(self, d, sc):
         own = [n for n, (t, level) in sc.seen().items() if level == sc.level and t is None]
@@ -118,7 +131,7 @@ class Maker:
         if self.rng.random() < 0.7:
             k = self.rng.randrange(1, 3)
             self.globals[name] = k
-            return Node("define", [self.recursive(name, k)], [ident(name)])
+            return Node("define", [self.in_ands(self.recursive(name, k))], [ident(name)])
         body = self.expression(2, Scope())
         self.globals[name] = None
         return Node("define", [body], [ident(name)])
@@ -130,13 +143,14 @@ class Maker:
         if self.rng.random() < 0.5:
             return Node("lambda", [self.expression(4, sc)], [ident(n) for n in names])
         again = Node("call", [ident(name), Node("const", false=True)] + [self.expression(2, sc) for _ in names[1:]])
-        test = Node("if", [ident(names[0]), again, self.expression(3, sc)])
+        form = self.rng.choice(["if", "if", "and", "when"])
+        test = Node(form, [ident(names[0]), again] if form != "if" else [ident(names[0]), again, self.expression(3, sc)])
         return Node("lambda", [test], [ident(n) for n in names])
 
     def script(self):
-        top = [self.define() for _ in range(self.rng.choice([0, 1, 1, 2, 3]))]
+        top = [self.in_ands(self.define()) for _ in range(self.rng.choice([0, 1, 1, 2, 3]))]
         if top and self.rng.random() < 0.2:
-            top = [Node("begin", top)]
+            top = [self.in_ands(Node("begin", top))]
         for _ in range(self.rng.choice([1, 1, 2])):
             self.left = max(self.left, 12)
             top.append(self.call(4, Scope()) if self.rng.random() < 0.6 else self.expression(4, Scope()))
@@ -174,8 +188,8 @@ class Wild(Maker):
         if d == 0 or self.left <= 0:
             return self.name() if self.rng.random() < 0.8 else self.const()
         self.left -= 1
-        form = self.rng.choices(["ident", "const", "if", "let", "lambda", "begin", "call", "set!", "define"],
-                                [3, 1, 1, 3, 5, 2, 4, 4, 3 if self.defines else 0])[0]
+        form = self.rng.choices(["ident", "const", "if", "let", "lambda", "begin", "call", "set!", "and", "when", "unless", "define"],
+                                [3, 1, 1, 3, 5, 2, 4, 4, 3, 1, 1, 3 if self.defines else 0])[0]
         some = lambda n: [self.any(d - 1) for _ in range(n)]
         if form == "ident":
             return self.name()
@@ -188,13 +202,14 @@ class Wild(Maker):
             return Node("lambda", some(1), [self.name() for _ in range(self.rng.choice([0, 0, 1, 1, 2]))])
         if form in ("set!", "define"):
             return Node(form, some(1), [self.name()])
-        return Node(form, some({"if": 3}.get(form) or self.rng.randrange(1, 4) - (form == "begin")))
+        return Node(form, some({"if": 3}.get(form) or self.rng.randrange(1, 4) - (form in ("begin", "and"))))
 
     def nest(self):
         """Lambdas three deep with a set! after the innermost: where refusal 12 arises."""
         some = lambda: [self.name() for _ in range(self.rng.choice([0, 0, 1]))]
         inner = Node("lambda", [self.any(2)], some())
-        middle = Node("lambda", [Node("begin", [inner, Node("set!", [self.any(1)], [self.name()]), self.any(2)])], some())
+        row = self.rng.choice(["begin", "begin", "and", "when", "unless"])
+        middle = Node("lambda", [Node(row, [inner, Node("set!", [self.any(1)], [self.name()]), self.any(2)])], some())
         return Node("lambda", [Node("begin", [self.any(1), middle, self.any(2)])], [self.name()])
 
     def script(self):
@@ -202,8 +217,8 @@ class Wild(Maker):
         for _ in range(self.rng.randrange(1, 4)):
             t = self.any(5) if self.rng.random() < 0.7 else self.nest()
             if self.rng.random() < 0.4:
-                t = Node("define", [t], [self.name()])
-            top.append(Node("begin", [t]) if self.rng.random() < 0.1 else t)
+                t = self.in_ands(Node("define", [self.in_ands(t)], [self.name()]))
+            top.append(self.in_ands(Node("begin", [t])) if self.rng.random() < 0.1 else t)
         return top
 
 

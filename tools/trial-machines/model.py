@@ -2,6 +2,8 @@
 
 import sys
 
+from tree import core, walk
+
 sys.setrecursionlimit(100000)
 
 
@@ -14,6 +16,10 @@ class Spent(Exception):
 
 
 UNSPECIFIED = ("unspecified",)
+
+
+def is_false(value):
+    return value[0] == "const" and value[2]
 
 
 class Plain:
@@ -66,7 +72,7 @@ class Plain:
 
     def eval_if(self, e, env):
         test = self.eval(e.kids[0], env)
-        return self.eval(e.kids[2] if test[0] == "const" and test[2] else e.kids[1], env)
+        return self.eval(e.kids[2] if is_false(test) else e.kids[1], env)
 
     def eval_let(self, e, env):
         return self.eval(e.kids[-1], bind(e.names, [self.push(k, env) for k in e.kids[:-1]], env))
@@ -78,11 +84,28 @@ class Plain:
     def eval_lambda(self, e, env):
         return ("lambda", e, env)
 
-    def eval_begin(self, e, env):
+    def in_turn(self, kids, env):
         value = UNSPECIFIED
-        for k in e.kids:
+        for k in kids:
             value = self.eval(k, env)
         return value
+
+    def eval_begin(self, e, env):
+        return self.in_turn(e.kids, env)
+
+    def eval_and(self, e, env):
+        value = ("const", 0, False)
+        for k in e.kids:
+            if is_false(value):
+                return ("const", 0, True)
+            value = self.eval(k, env)
+        return value
+
+    def eval_when(self, e, env):
+        return UNSPECIFIED if is_false(self.eval(e.kids[0], env)) else self.in_turn(e.kids[1:], env)
+
+    def eval_unless(self, e, env):
+        return self.in_turn(e.kids[1:], env) if is_false(self.eval(e.kids[0], env)) else UNSPECIFIED
 
     def eval_call(self, e, env):
         values = [self.push(k, env) for k in e.kids[1:]]
@@ -112,10 +135,10 @@ def kind_of(value):
 # ---- structure
 
 def inner_defines(top):
-    def below(t, at_top):
-        own = t.form == "define" and not at_top
-        return own or any(below(k, at_top and t.form == "begin" and t in top) for k in t.kids)
-    return any(below(t, True) for t in top)
+    """Whether a define stands neither at top level nor directly in a begin there."""
+    tops = [core(t) for t in top]
+    direct = [core(k) for t in tops for k in (t.kids if t.form == "begin" else [t])]
+    return any(r.form == "define" for t in direct for k in t.kids for r in walk(k))
 
 
 class Bound:

@@ -1,4 +1,4 @@
-"""Trees of the nine forms: read from text, numbered, written as antt and as Scheme."""
+"""Trees: read from text, numbered, written as antt and as Scheme."""
 
 import re
 
@@ -17,7 +17,18 @@ def ident(name):
     return Node("ident", name=name)
 
 
-# ---- text: (if a b c) (let ((x e) ..) b) (define x b) (lambda (x ..) b) (begin ..) (set! x e), 7, #f
+# The forms whose children stand in a row, and what antt says of their node.
+SEQUENCES = {"begin": "begins", "and": "ands", "when": "whens true", "unless": "whens false"}
+
+
+def core(t):
+    """An `and` of one child is that child."""
+    while t.form == "and" and len(t.kids) == 1:
+        t = t.kids[0]
+    return t
+
+
+# ---- text: (if a b c) (let ((x e) ..) b) (define x b) (lambda (x ..) b) (begin ..) (set! x e) (and ..) (when e ..) (unless e ..), 7, #f
 
 def tokens(text):
     return re.findall(r"[()]|[^\s()]+", text)
@@ -52,8 +63,8 @@ def build(x):
         return Node("set!", [build(x[2])], [ident(x[1])])
     if head == "lambda":
         return Node("lambda", [build(x[2])], [ident(n) for n in x[1]])
-    if head == "begin":
-        return Node("begin", [build(y) for y in x[1:]])
+    if head in SEQUENCES:
+        return Node(head, [build(y) for y in x[1:]])
     return Node("call", [build(y) for y in x])
 
 
@@ -110,12 +121,14 @@ def antt(t):
         return f"({t.form} {node} ({antt_ident(t.names[0])}) {antt(t.kids[0])})"
     if t.form == "lambda":
         return f"(lambda {node} {antt_names(t.names)} {antt(t.kids[0])})"
-    if t.form == "begin":
-        return f"(begin {node} {antt_list(t.kids)})"
+    if t.form in SEQUENCES:
+        return f"(sequence ({SEQUENCES[t.form]} {node}) {antt_list(t.kids)})"
     return f"(call {node} {antt(t.kids[0])} {antt_list(t.kids[1:])})"
 
 
-# ---- Scheme: names are n0, n1, ..; a constant is its id; arguments and initial values go left to right, the head last
+# ---- Scheme: names are n0, n1, ..; a constant is its id, an `and` of none 0; arguments and initial values go left to right, the head last
+
+UNSPECIFIED = "(if #f #f)"
 
 def var(x):
     return f"n{x.code}"
@@ -143,16 +156,21 @@ def scheme(t):
     if t.form == "lambda":
         return f"(lambda ({' '.join(var(n) for n in t.names)}) {scheme(t.kids[0])})"
     if t.form == "begin":
-        return f"(begin {' '.join(scheme(k) for k in t.kids)})" if t.kids else "(if #f #f)"
+        return f"(begin {' '.join(scheme(k) for k in t.kids)})" if t.kids else UNSPECIFIED
+    if t.form == "and":
+        return f"(and {' '.join(scheme(k) for k in t.kids)})" if t.kids else "0"
+    if t.form in ("when", "unless"):
+        return f"({t.form} {' '.join(scheme(k) for k in t.kids)}{'' if t.kids[1:] else ' ' + UNSPECIFIED})"
     return in_order(t, t.kids[1:] + t.kids[:1], lambda ts: f"(begin (tick!) ({ts[-1]} {' '.join(ts[:-1])}))")
 
 
 def scheme_top(top):
     """The top-level forms. The children of a begin with defines stand in its place."""
     out = []
-    for t in top:
-        if t.form == "begin" and any(k.form == "define" for k in t.kids):
-            out += [scheme(k) for k in t.kids]
+    for t in map(core, top):
+        kids = [core(k) for k in t.kids]
+        if t.form == "begin" and any(k.form == "define" for k in kids):
+            out += [scheme(k) for k in kids]
         else:
             out.append(scheme(t))
     return out

@@ -27,7 +27,7 @@ HEADER = """use Prim.Native.Nat.{ℕ}
 use mathlib.Core.List.{List, [], _∷_}
 use mathlib.Core.Bool.{Bool, true, false}
 use mathlib.Core.Path.{_≡_, refl}
-use Rattle.tree.specs.Tree.{Ident, Node, Tree, Trees, ident, const, if, letin, define, lambda, begin, call, set!, nil, cons}
+use Rattle.tree.specs.Tree.{Ident, Node, Tree, Trees, ident, const, if, letin, define, lambda, sequence, begins, ands, whens, call, set!, nil, cons}
 use Rattle.trial.specs.InStep.{demand3, failsOutside}
 use Rattle.trial.specs.Claimed.{claims, claimsAnyhow}
 
@@ -165,8 +165,12 @@ def made(text):
 
 
 def runs(args):
-    """Both machines in step at every number of moments, and how the plain one ended, as model.py says."""
-    tops = [made(s) for s in scripts.WITHIN] + [generate.runnable(args.seed + s) for s in range(args.runs)]
+    """Both machines in step at every number of moments, and how the plain one ended, as model.py says; as scripts.RUNS says, where it does."""
+    told = [(line.split()[4:], [int(n) for n in line.split()[:4]]) for line in scripts.RUNS]
+    for words, outcome in told:
+        assert model.Plain(args.moments).run(made(" ".join(words))[0]) == outcome, words
+    tops = [made(" ".join(words)) for words, _ in told] + [made(s) for s in scripts.WITHIN]
+    tops += [generate.runnable(args.seed + s) for s in range(args.runs)]
     cases, ended = [], collections.Counter()
     for top, names in tops:
         outcome = model.Plain(args.moments).run(top)

@@ -1,19 +1,24 @@
 """Random trees, each made by its seed."""
 import random
 
-from trees import BEGIN, CALL, CONST, Case, DEFINE, IF, LAMBDA, LET, SET, ident, records_of
+from trees import AND, BEGIN, CALL, CONST, Case, DEFINE, IF, LAMBDA, LET, SET, UNLESS, has_expanded, ident, records_of
 
 # Weights of if, let, define, lambda, begin, call, set!: for captures, for inner defines,
 # for lets and set!s, for calls, for all alike.
 WEIGHTS = [(1, 1, 0, 8, 5, 0, 4), (0, 2, 4, 6, 4, 1, 2), (0, 5, 0, 5, 4, 1, 4), (2, 1, 1, 2, 1, 6, 1), (1, 1, 1, 1, 1, 1, 1)]
+# Of and, when, unless, where a tree is to have them.
+EXPANDED = [(1, 1, 1), (5, 1, 1), (2, 5, 5), (8, 0, 0)]
 LEAST = {IF: 4, DEFINE: 3, SET: 3}
 
 
 class Maker:
     """Makes expressions; `live` are the names bound around."""
 
-    def __init__(self, rng, names):
+    def __init__(self, rng, names, expanded):
         self.rng, self.names, self.weights = rng, names, rng.choice(WEIGHTS)
+        self.expanded = expanded
+        if expanded:
+            self.weights += rng.choice(EXPANDED)
         self.defined = []  # the names of top-level defines so far
 
     def name(self, live):
@@ -43,14 +48,16 @@ class Maker:
 
     def atom(self, live):
         if self.rng.random() < 0.12:
-            return self.rng.choice([(CONST, 0, (), ()), (CONST, 1, (), ()), (BEGIN, 0, (), ())])
+            atoms = [(CONST, 0, (), ()), (CONST, 1, (), ()), (BEGIN, 0, (), ())]
+            return self.rng.choice(atoms + [(AND, 0, (), ())] if self.expanded else atoms)
         return ident(self.name(live))
 
     def expression(self, size, live):
         if size == 1:
             return self.atom(live)
-        weights = [w if size >= LEAST.get(form, 2) else 0 for form, w in zip(range(IF, SET + 1), self.weights)]
-        return self.of_form(self.rng.choices(range(IF, SET + 1), weights)[0], size, live)
+        forms = range(IF, (UNLESS if self.expanded else SET) + 1)
+        weights = [w if size >= LEAST.get(form, 2) else 0 for form, w in zip(forms, self.weights)]
+        return self.of_form(self.rng.choices(forms, weights)[0], size, live)
 
     def of_form(self, form, size, live):
         bound, others = self.children(form, size, live)
@@ -81,7 +88,10 @@ class Maker:
         name = self.name(())
         self.defined.append(name)
         if self.rng.random() < 0.6 and size >= 4:
-            body = self.of_form(LAMBDA, size - 2, (name,))
+            ands = self.rng.choice([0, 0, 1, 2]) if self.expanded and size >= 6 else 0
+            body = self.of_form(LAMBDA, size - 2 - ands, (name,))
+            for _ in range(ands):
+                body = (AND, 0, (), (body,))
         elif self.rng.random() < 0.5:
             body = (CALL, 0, (), (ident(self.name(())), ident(self.name(())))[:1 + (size >= 5)])
         else:
@@ -110,12 +120,15 @@ class Maker:
         return self.of_form(form, size, ())
 
 
-def at_random(seed, most):
-    """Up to `most` records. Ids are a random choice, now and then with the smallest and the largest there are."""
+def at_random(seed, most, expanded=False):
+    """Up to `most` records, with an `and`, `when` or `unless` if so asked. Ids are a random choice, now and then with the
+    smallest and the largest there are."""
     rng = random.Random(seed)
     names = rng.choice([1, 2, 3, 3, 4, 5, 6])
     classes = [rng.choice([0, 2, 6, rng.randrange(16)]) if seed % 2 else 0 for _ in range(names)]
-    expressions = Maker(rng, names).top(rng.randint(most // 4, most))
+    expressions = Maker(rng, names, expanded).top(rng.randint(most // 4, most))
+    while expanded and not any(map(has_expanded, expressions)):
+        expressions = Maker(rng, names, expanded).top(rng.randint(most // 4, most))
     ids = rng.sample(range(2, 7 * most), most)
     if rng.random() < 0.1:
         ids[:2] = 4294967294, 1

@@ -1,10 +1,10 @@
-"""Document 01 read a second time, in plain Python: refusals 1 to 9, and the places of lists.
+"""Document 01 read a second time, in plain Python: refusals 1 to 9, and the places of lists; and refusal 16, from document 02.
 
 It shares nothing with the definitions but the documents.
 """
 from collections import namedtuple
 
-from trees import BEGIN, CALL, DEFINE, HAS_ID, IDENT, LAMBDA, LET, children
+from trees import BEGIN, CALL, DEFINE, HAS_COUNT, HAS_ID, IDENT, LAMBDA, LET, UNLESS, WHEN, children
 
 # A record with its children; `names` are the records of those that are names.
 Node = namedtuple("Node", "at form names kids")
@@ -12,11 +12,11 @@ Node = namedtuple("Node", "at form names kids")
 
 def field_fits(record, names):
     form, id, name, count, _, _ = record
-    if not 1 <= form <= 9:
+    if not 1 <= form <= 12:
         return False
     id_fits = 1 <= id <= 4294967294 if form in HAS_ID else id == 0
     name_below = {1: names, 2: 2}.get(form, 1)
-    count_most = 255 if form in (4, 6, 7, 8) else 0
+    count_most = 255 if form in HAS_COUNT else 0
     return id_fits and name < name_below and count <= count_most
 
 
@@ -44,7 +44,7 @@ def places(records):
 
 
 def refusal(names, numbers):
-    """Refusals 1 to 8 of a list of numbers: (number, record) or None."""
+    """Refusals 1 to 8 and 16 of a list of numbers: (number, record) or None."""
     if len(numbers) % 6 != 0:
         return (1, 0)
     records = [tuple(numbers[i:i + 6]) for i in range(0, len(numbers), 6)]
@@ -65,6 +65,9 @@ def refusal(names, numbers):
     for at, r in enumerate(records):
         if r[0] == CALL and r[3] == 0:
             return (7, at)
+    for at, r in enumerate(records):
+        if r[0] in (WHEN, UNLESS) and r[3] == 0:
+            return (16, at)
     ids = set()
     for at, r in enumerate(records):
         if r[1] and r[1] in ids:
@@ -100,7 +103,8 @@ class Twice(Exception):
 
 
 class Walk:
-    """The names that enter and leave layers, and the lambdas and lets that end, in the pass's order."""
+    """The names that enter and leave layers, and the lambdas and lets that end, in the pass's order; of trees without
+    forms 10 to 12."""
 
     def __init__(self, records):
         self.records = records

@@ -4,7 +4,7 @@ import os
 import re
 
 from reading import nodes
-from trees import BEGIN, CALL, CONST, DEFINE, IDENT, IF, LAMBDA, LET
+from trees import AND, BEGIN, CALL, CONST, DEFINE, IDENT, IF, LAMBDA, LET, UNLESS, WHEN
 
 # Of cases with more records only the fresh run is tried, for its refusal and how many entries its lists have.
 LARGE = 60
@@ -12,10 +12,14 @@ LARGE = 60
 HEAD = """use mathlib.Core.List.{List, [], _∷_, _++_}
 use mathlib.Core.Bool.{true, false}
 use mathlib.Core.Path.{_≡_, refl}
-use Rattle.tree.specs.Tree.{Trees, ident, const, if, letin, define, lambda, begin, call, set!, nil, cons}
+use Rattle.tree.specs.Tree.{Trees, ident, const, if, letin, define, lambda, sequence, begins, ands, whens, call, set!, nil, cons}
 use Rattle.trial.specs.Seen.{x, n, copies, cell, seenFresh, seenSettled, countsFresh, recordsOf, checked, restFresh, restSettled}
 
 """
+
+
+# The forms that are sequences, by what they say of their node.
+SEQUENCES = {BEGIN: "begins", AND: "ands", WHEN: "whens true", UNLESS: "whens false"}
 
 
 def unfoldable(folder, crates):
@@ -84,8 +88,8 @@ def term(records):
             return "(letin %s %s %s %s)" % (here, listed(names), trees(kids[:-1]), kids[-1])
         if node.form == LAMBDA:
             return "(lambda %s %s %s)" % (here, listed(names), kids[0])
-        if node.form == BEGIN:
-            return "(begin %s %s)" % (here, trees(kids))
+        if node.form in SEQUENCES:
+            return "(sequence (%s %s) %s)" % (SEQUENCES[node.form], here, trees(kids))
         if node.form == CALL:
             return "(call %s %s %s)" % (here, kids[0], trees(kids[1:]))
         return "(%s %s %s %s)" % ("define" if node.form == DEFINE else "set!", here, names[0], kids[0])
@@ -142,7 +146,7 @@ def case_lemmas(number, case, fresh, settled, whole):
 
 
 def check_lemma(number, names, numbers, refused):
-    """A lemma `checked0` that the checks 1 to 8 answer `refused`. Runs of equal records are written as such."""
+    """A lemma `checked0` that the checks 1 to 8 and 16 answer `refused`. Runs of equal records are written as such."""
     records = [numbers[i:i + 6] for i in range(0, len(numbers), 6)]
     parts = ["copies %d %s" % (len(list(run)), number_list(record)) for record, run in groupby(records)]
     text = " ++ ".join("(%s)" % p for p in parts + ["[]"])

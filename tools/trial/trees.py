@@ -8,8 +8,12 @@ from functools import lru_cache
 from itertools import permutations, product
 import re
 
-IDENT, CONST, IF, LET, DEFINE, LAMBDA, BEGIN, CALL, SET = range(1, 10)
+IDENT, CONST, IF, LET, DEFINE, LAMBDA, BEGIN, CALL, SET, AND, WHEN, UNLESS = range(1, 13)
 HAS_ID = (IDENT, CONST, LET, LAMBDA, CALL)
+EXPANDED = (AND, WHEN, UNLESS)  # what the Rust is not given, but expanded
+COUNTED = (BEGIN, CALL, AND, WHEN, UNLESS)  # whose count is that of the children, none of them a name's place
+HAS_COUNT = (LET, LAMBDA) + COUNTED
+NEEDS_A_CHILD = (CALL, WHEN, UNLESS)
 
 # classes: one byte a name. records: (form, id, name, count, from, to).
 Case = namedtuple("Case", "label classes records")
@@ -20,15 +24,20 @@ def ident(name):
 
 
 def children(form, count):
-    """How many children are names, and how many are not. Document 01's table."""
-    return {
-        IDENT: (0, 0), CONST: (0, 0), IF: (0, 3), LET: (count, count + 1), DEFINE: (1, 1),
-        LAMBDA: (count, 1), BEGIN: (0, count), CALL: (0, count), SET: (1, 1),
-    }[form]
+    """How many children are names, and how many are not. Document 01's table, and order 7 of document 02."""
+    if form in COUNTED:
+        return 0, count
+    return {IDENT: (0, 0), CONST: (0, 0), IF: (0, 3), LET: (count, count + 1), DEFINE: (1, 1), LAMBDA: (count, 1), SET: (1, 1)}[form]
 
 
 def count_of(form, names, kids):
-    return {LET: len(names), LAMBDA: len(names), BEGIN: len(kids), CALL: len(kids)}.get(form, 0)
+    if form in COUNTED:
+        return len(kids)
+    return len(names) if form in HAS_COUNT else 0
+
+
+def has_expanded(e):
+    return e[0] in EXPANDED or any(map(has_expanded, e[3]))
 
 
 def records_of(expressions, id_of, place_of):
@@ -68,32 +77,32 @@ def from_text(label, lines):
 # ---- all small trees
 
 @lru_cache(None)
-def of_size(size, names):
-    """All expressions of exactly `size` records over `names` names."""
+def of_size(size, names, last_form):
+    """All expressions of exactly `size` records over `names` names, of the forms up to this one."""
     out = []
     if size == 1:
         out += [ident(n) for n in range(names)] + [(CONST, q, (), ()) for q in (0, 1)]
-    for form in range(IF, SET + 1):
-        for count in range(size) if form in (LET, LAMBDA, BEGIN, CALL) else [0]:
+    for form in range(IF, last_form + 1):
+        for count in range(size) if form in HAS_COUNT else [0]:
             bound, others = children(form, count)
-            if form == CALL and count == 0:
+            if form in NEEDS_A_CHILD and count == 0:
                 continue
             for ns in product(range(names), repeat=bound):
-                for kids in sequences(size - 1 - bound, others, names):
+                for kids in sequences(size - 1 - bound, others, names, last_form):
                     out.append((form, 0, ns, kids))
     return out
 
 
 @lru_cache(None)
-def sequences(size, parts, names):
+def sequences(size, parts, names, last_form):
     """All sequences of `parts` expressions with `size` records together."""
     if parts == 0:
         return [()] if size == 0 else []
     return [
         (e,) + rest
         for first in range(1, size - parts + 2)
-        for e in of_size(first, names)
-        for rest in sequences(size - first, parts - 1, names)
+        for e in of_size(first, names, last_form)
+        for rest in sequences(size - first, parts - 1, names, last_form)
     ]
 
 
@@ -101,18 +110,27 @@ CLASSES = [(0, 0), (1, 0), (8, 1), (6, 9)]
 
 
 def small(most, names):
-    """Every tree of up to `most` records over `names` names. Records have the ids from 10
-    on, in every second tree shuffled, and positions that are all different. The classes
-    change from tree to tree, over four choices."""
+    """Every tree of up to `most` records over `names` names without forms 10 to 12, then every
+    one of fewer records that has one. Records have the ids from 10 on, in every second tree
+    shuffled, and positions that are all different. The classes change from tree to tree, over
+    four choices."""
+    yield from of_forms(most, names, SET)
+    yield from of_forms(most - 1, names, UNLESS)
+
+
+def of_forms(most, names, last_form):
+    """Those of the forms up to this one; of those up to 12 the ones that have 10, 11 or 12."""
     number = 0
     for size in range(most + 1):
         orders = list(permutations(range(size)))
         for parts in range(size + 1):
-            for expressions in sequences(size, parts, names):
+            for expressions in sequences(size, parts, names, last_form):
+                if last_form == UNLESS and not any(map(has_expanded, expressions)):
+                    continue
                 order = orders[number // 2 % len(orders)] if number % 2 else orders[0]
                 classes = (CLASSES[number // 3 % len(CLASSES)] * names)[:names]
                 records = records_of(expressions, lambda at: 10 + order[at], lambda at: (100 + 2 * at, 101 + 2 * at))
-                yield Case("small %d" % number, list(classes), records)
+                yield Case("small %d of forms up to %d" % (number, last_form), list(classes), records)
                 number += 1
 
 
@@ -139,6 +157,9 @@ def parse(source):
     return out
 
 
+ROWS = {"begin": BEGIN, "and": AND, "when": WHEN, "unless": UNLESS}
+
+
 def from_script(label, source):
     """A script with `name:class` words before it, as `car:1 (car 7)`. Ids neither rise nor fall."""
     classes = dict(re.findall(r"(\S+):(\d+)", source))
@@ -160,8 +181,8 @@ def from_script(label, source):
             return (DEFINE if word == "define" else SET, 0, (number(s[1]),), (expression(s[2]),))
         if word == "lambda":
             return (LAMBDA, 0, tuple(map(number, s[1])), (expression(s[2]),))
-        if word == "begin":
-            return (BEGIN, 0, (), tuple(map(expression, s[1:])))
+        if word in ROWS:
+            return (ROWS[word], 0, (), tuple(map(expression, s[1:])))
         return (CALL, 0, (), tuple(map(expression, s)))
 
     expressions = [expression(s) for s in parse(re.sub(r"\S+:\d+", "", source))]

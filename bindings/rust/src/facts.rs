@@ -85,7 +85,7 @@ impl fmt::Debug for Facts<'_> {
 /// The fact of a record: `SemanticInformationType`.
 #[derive(Clone, Copy, Debug)]
 pub enum Row<'t> {
-    /// None. Constants, if, define, begin and set! have none, and neither has a call whose head is a constant.
+    /// None. Constants, if, define, begin, set!, and, when and unless have none, and neither has a call whose head is a constant.
     Blank,
     /// Of an identifier.
     Variable(SemanticInformation<'t>),

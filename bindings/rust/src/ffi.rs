@@ -61,7 +61,7 @@ macro_rules! operation {
     };
 }
 
-const _: () = assert!(VERSION == 1, "the symbols below are of version 1");
+const _: () = assert!(VERSION == 2, "the symbols below are of version 2");
 
-operation!(fresh, "scheme_analysis_fresh_v1");
-operation!(settled, "scheme_analysis_settled_v1");
+operation!(fresh, "scheme_analysis_fresh_v2");
+operation!(settled, "scheme_analysis_settled_v2");

@@ -21,9 +21,25 @@
 //! | 7 begin | count expressions | 0 | 0 | 0 to 255 |
 //! | 8 call | count: the head, then the arguments | yes | 0 | 1 to 255 |
 //! | 9 set! | name, expression | 0 | 0 | 0 |
+//! | 10 and | count expressions | 0 | 0 | 0 to 255 |
+//! | 11 when | count: the test, then what follows | 0 | 0 | 1 to 255 |
+//! | 12 unless | count: the test, then what follows | 0 | 0 | 1 to 255 |
 //!
 //! An id is 1 to 4294967294, and no two records have the same. Names are numbered from 0. The names of a let, define, lambda or
 //! set! are records of form 1. from and to are a position in the script's text: carried to the facts, and never consulted.
+//!
+//! Forms 10 to 12 have no facts. All others are those of the script that has these in their place:
+//!
+//! | given | stands for |
+//! |---|---|
+//! | `(and)` | `#t` |
+//! | `(and e)` | `e` |
+//! | `(and e1 e2 ..)` | `(if e1 (and e2 ..) #f)` |
+//! | `(when e es ..)` | `(if e (begin es ..) (begin))` |
+//! | `(unless e es ..)` | `(if e (begin) (begin es ..))` |
+//!
+//! So `(define f (and (lambda () 1)))` defines a lambda, and a define in a when is an inner one. Limits are those of the script as
+//! it is given.
 //!
 //! # Classes
 //!
@@ -181,7 +197,7 @@ pub use storage::{Storage, Tables};
 
 /// The version of the interface: of the records, the tables and the two functions. The library's symbols have it in their names,
 /// so that a crate and a library of different versions do not link.
-pub const VERSION: u32 = 1;
+pub const VERSION: u32 = 2;
 
 /// How many numbers a record has.
 pub const RECORD_WIDTH: usize = 6;

@@ -16,12 +16,27 @@ pub enum Form {
     Begin = 7,
     Call = 8,
     Set = 9,
+    And = 10,
+    When = 11,
+    Unless = 12,
 }
 
 impl Form {
     /// All of them, by number from 1.
-    pub const ALL: [Form; 9] =
-        [Form::Identifier, Form::Constant, Form::If, Form::Let, Form::Define, Form::Lambda, Form::Begin, Form::Call, Form::Set];
+    pub const ALL: [Form; 12] = [
+        Form::Identifier,
+        Form::Constant,
+        Form::If,
+        Form::Let,
+        Form::Define,
+        Form::Lambda,
+        Form::Begin,
+        Form::Call,
+        Form::Set,
+        Form::And,
+        Form::When,
+        Form::Unless,
+    ];
 
     /// The form of a number; `None` where no form has it.
     pub fn of(number: u32) -> Option<Form> {
@@ -54,7 +69,7 @@ pub struct Record {
     pub id: u32,
     /// An identifier's name number; 1 on the constant `#f`; else 0.
     pub name: u32,
-    /// How many names a let or lambda has, or children a begin or call; else 0.
+    /// How many names a let or lambda has, or children a begin, call, and, when or unless; else 0.
     pub count: u32,
     /// Where it starts in the script's text.
     pub from: u32,
@@ -87,10 +102,10 @@ mod tests {
 
     #[test]
     fn every_form_stands_at_its_number() {
-        for number in 1..=9 {
+        for number in 1..=12 {
             assert_eq!(Form::of(number).unwrap() as u32, number);
         }
-        assert_eq!([0, 10, u32::MAX].map(Form::of), [None; 3]);
+        assert_eq!([0, 13, u32::MAX].map(Form::of), [None; 3]);
     }
 
     #[test]
@@ -98,6 +113,6 @@ mod tests {
         let record = Record { form: Form::Call, id: 51, name: 52, count: 53, from: 54, to: 55 };
         assert_eq!(<[u32; 6]>::from(record), [8, 51, 52, 53, 54, 55]);
         assert_eq!(Record::of([8, 51, 52, 53, 54, 55]), Some(record));
-        assert_eq!(Record::of([10, 51, 52, 53, 54, 55]), None);
+        assert_eq!(Record::of([13, 51, 52, 53, 54, 55]), None);
     }
 }

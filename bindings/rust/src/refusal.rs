@@ -3,7 +3,7 @@ use core::fmt;
 
 /// Why a script is refused. The number of a reason is the library's answer.
 ///
-/// Each check from 1 to 10 covers the whole script before the next.
+/// Each check from 1 to 7, then 16, then each from 8 to 10, covers the whole script before the next.
 #[derive(Clone, Copy, Debug, PartialEq, Eq, Hash)]
 #[repr(u32)]
 #[non_exhaustive]
@@ -12,7 +12,8 @@ pub enum Reason {
     Length = 1,
     /// There are more than [`MOST_RECORDS`](crate::MOST_RECORDS) records or [`MOST_NAMES`](crate::MOST_NAMES) names.
     TooMany = 2,
-    /// A field is not as the table of records says, but for a call's count of 0.
+    /// A field is not as the table of records says, but for a count of 0: see [`EmptyCall`](Self::EmptyCall) and
+    /// [`NoTest`](Self::NoTest).
     Field = 3,
     /// Children are missing at the end; the record is the number of records.
     Missing = 4,
@@ -35,11 +36,13 @@ pub enum Reason {
     HeapLet = 11,
     /// A captured name is read, and its capture has only a read offset. Only of [`settled`](crate::settled).
     NoCaptureOffset = 12,
+    /// A when or unless has count 0.
+    NoTest = 16,
 }
 
 impl Reason {
-    /// All of them, by number from 1.
-    pub const ALL: [Reason; 12] = [
+    /// All of them, by number.
+    pub const ALL: [Reason; 13] = [
         Reason::Length,
         Reason::TooMany,
         Reason::Field,
@@ -52,6 +55,7 @@ impl Reason {
         Reason::TooManyCaptured,
         Reason::HeapLet,
         Reason::NoCaptureOffset,
+        Reason::NoTest,
     ];
 
     /// The library's number of it.
@@ -80,6 +84,7 @@ impl fmt::Display for Reason {
             Reason::TooManyCaptured => "too many captured entries",
             Reason::HeapLet => "a let name outside all lambdas is captured and mutated",
             Reason::NoCaptureOffset => "the capture has no capture offset",
+            Reason::NoTest => "a when or unless of nothing",
         })
     }
 }
@@ -109,9 +114,11 @@ impl Refusal {
     ///
     /// On a number that the library does not answer, as one of another version would.
     pub(crate) fn of(number: u32, at: usize) -> Option<Refusal> {
-        let before = number.checked_sub(1)? as usize;
-        let reason = *Reason::ALL.get(before).expect("a library of the version that this crate is for");
-        Some(Refusal { reason, record: at })
+        if number == 0 {
+            return None;
+        }
+        let reason = Reason::ALL.into_iter().find(|reason| reason.number() == number);
+        Some(Refusal { reason: reason.expect("a library of the version that this crate is for"), record: at })
     }
 }
 
@@ -130,9 +137,11 @@ impl Error for Refusal {}
 mod tests {
     use super::Refusal;
 
+    const NUMBERS: [u32; 13] = [1, 2, 3, 4, 5, 6, 7, 8, 9, 10, 11, 12, 16];
+
     #[test]
-    fn every_reason_stands_at_its_number() {
-        for number in 1..=12 {
+    fn every_number_has_its_reason() {
+        for number in NUMBERS {
             let refusal = Refusal::of(number, 7).unwrap();
             assert_eq!((refusal.reason.number(), refusal.record), (number, 7));
         }
@@ -140,7 +149,7 @@ mod tests {
 
     #[test]
     fn the_first_two_reasons_name_no_record() {
-        for number in 1..=12 {
+        for number in NUMBERS {
             let refusal = Refusal::of(number, 0).unwrap();
             assert_eq!(refusal.at(), if number <= 2 { None } else { Some(0) });
         }

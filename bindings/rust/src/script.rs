@@ -155,6 +155,21 @@ impl<'n, const RECORDS: usize, const NAMES: usize> Script<'n, RECORDS, NAMES> {
         self.open(Form::Set, [name], expression)
     }
 
+    /// Puts an and. Its children: any number of expressions.
+    pub fn and<R>(&mut self, children: impl FnOnce(&mut Self) -> R) -> usize {
+        self.open(Form::And, [], children)
+    }
+
+    /// Puts a when. Its children: the test, then any number of expressions.
+    pub fn when<R>(&mut self, children: impl FnOnce(&mut Self) -> R) -> usize {
+        self.open(Form::When, [], children)
+    }
+
+    /// Puts an unless. Its children: the test, then any number of expressions.
+    pub fn unless<R>(&mut self, children: impl FnOnce(&mut Self) -> R) -> usize {
+        self.open(Form::Unless, [], children)
+    }
+
     /// Gives a record that was put its position in the script's text. It is 0 to 0 until then.
     pub fn set_span(&mut self, record: usize, span: Span) {
         let kept = self.kept();
@@ -252,7 +267,7 @@ impl<'n, const RECORDS: usize, const NAMES: usize> Script<'n, RECORDS, NAMES> {
             Form::Let => (names, 2 * names + 1),
             Form::Define | Form::Set => (0, 2),
             Form::Lambda => (names, names + 1),
-            Form::Begin | Form::Call => (children, children),
+            Form::Begin | Form::Call | Form::And | Form::When | Form::Unless => (children, children),
         };
         if children != fitting {
             self.note(ScriptError::Children { record });

@@ -74,14 +74,22 @@ fn a_part_of_a_record_is_refused_and_the_tables_are_left_alone() {
 
 #[test]
 fn each_check_names_its_record() {
-    let cases: [(&[[u32; RECORD_WIDTH]], Reason, usize); 8] = [
-        (&[[2, 1, 0, 0, 0, 0], [10, 0, 0, 0, 0, 0]], Reason::Field, 1),
+    let cases: [(&[[u32; RECORD_WIDTH]], Reason, usize); 15] = [
+        (&[[2, 1, 0, 0, 0, 0], [13, 0, 0, 0, 0, 0]], Reason::Field, 1),
         (&[[1, 1, 1, 0, 0, 0]], Reason::Field, 0),
         (&[[7, 0, 0, MOST_COUNT + 1, 0, 0]], Reason::Field, 0),
+        (&[[12, 0, 0, MOST_COUNT + 1, 0, 0]], Reason::Field, 0),
+        (&[[10, 1, 0, 0, 0, 0]], Reason::Field, 0),
         (&[[3, 0, 0, 0, 0, 0], [2, 1, 0, 0, 0, 0]], Reason::Missing, 2),
         (&[[7, 0, 0, MOST_COUNT, 0, 0]], Reason::Missing, 1),
         (&[[6, 1, 0, 1, 0, 0], [2, 2, 0, 0, 0, 0], [2, 3, 0, 0, 0, 0]], Reason::NotAName, 1),
+        (&[[5, 0, 0, 0, 0, 0], [10, 0, 0, 1, 0, 0], [1, 1, 0, 0, 0, 0], [2, 2, 0, 0, 0, 0]], Reason::NotAName, 1),
         (&[[2, 1, 0, 0, 0, 0], [8, 2, 0, 0, 0, 0]], Reason::EmptyCall, 1),
+        (&[[7, 0, 0, 1, 0, 0], [11, 0, 0, 0, 0, 0]], Reason::NoTest, 1),
+        // 6 and 7 cover all records before 16, which does before 8
+        (&[[11, 0, 0, 0, 0, 0], [5, 0, 0, 0, 0, 0], [2, 1, 0, 0, 0, 0], [2, 2, 0, 0, 0, 0]], Reason::NotAName, 2),
+        (&[[12, 0, 0, 0, 0, 0], [8, 1, 0, 0, 0, 0]], Reason::EmptyCall, 1),
+        (&[[2, 1, 0, 0, 0, 0], [2, 1, 0, 0, 0, 0], [11, 0, 0, 0, 0, 0]], Reason::NoTest, 2),
         (&[[2, 1, 0, 0, 0, 0], [2, 1, 0, 0, 0, 0]], Reason::RepeatedId, 1),
     ];
     let mut room = Room::new();
@@ -109,6 +117,17 @@ fn lets(nesting: usize) -> Script {
     Script::read(&format!("{opened}1{}", ")".repeat(nesting - 1)))
 }
 
+/// A form in itself; the innermost 1 is nested so deep
+fn nested(form: &str, nesting: usize) -> Script {
+    Script::read(&format!("{}1{}", form.repeat(nesting - 1), ")".repeat(nesting - 1)))
+}
+
+/// So many `and`s of so many children, each the last of the one around: as many ifs in one another stand for them.
+fn row_of_rows(ands: usize, children: usize) -> Script {
+    let opened = format!("(and{} ", " x".repeat(children - 1));
+    Script::read(&format!("(lambda (x) {}(x x){})", opened.repeat(ands), ")".repeat(ands)))
+}
+
 #[test]
 fn nesting_has_a_limit() {
     let mut room = Room::new();
@@ -116,14 +135,27 @@ fn nesting_has_a_limit() {
         let (deepest, deeper) = (lets(DEEPEST), lets(DEEPEST + 1));
         assert_eq!(answer(run, &deepest.records, &deepest.classes(), &mut room), Ok(()));
         assert_eq!(answer(run, &deeper.records, &deeper.classes(), &mut room), refused(Reason::Deep, 3 * (DEEPEST - 1) + 1));
+        for form in [AND_OF_ONE, UNLESS_TEST] {
+            let (deepest, deeper) = (nested(form, DEEPEST), nested(form, DEEPEST + 1));
+            assert_eq!(answer(run, &deepest.records, &[], &mut room), Ok(()));
+            assert_eq!(answer(run, &deeper.records, &[], &mut room), refused(Reason::Deep, DEEPEST));
+        }
     }
 }
 
-/// Lambdas of ten parameters and lets in one another, so deep that the innermost call's arguments have this nesting. The call reads sixty
-/// of more than 256 names, and ids fall: a captured list is sorted while all are open.
-fn lambdas_and_lets(nesting: usize) -> Script {
+/// The start of a form, up to where the next stands in it; _ is for its nesting.
+const LET: &str = "(let ((b_ 1)) ";
+const AND: &str = "(and 1 ";
+const AND_OF_ONE: &str = "(and ";
+const WHEN: &str = "(when 1 2 ";
+const UNLESS_TEST: &str = "(unless ";
+
+/// Lambdas of ten parameters and another form in one another, so deep that the innermost call's arguments have this nesting.
+/// The call reads sixty of more than 256 names, and ids fall: a captured list is sorted while all are open.
+fn lambdas_and(form: &str, nesting: usize) -> Script {
     let names = |n: usize| (0..10).map(|k| format!(" a{n}_{k}")).collect::<String>();
-    let opening = |n: usize| if n % 2 == 1 { format!("(lambda ({}) ", names(n)) } else { format!("(let ((b{n} 1)) ") };
+    let other = |n: usize| form.replace('_', &n.to_string());
+    let opening = |n: usize| if n % 2 == 1 { format!("(lambda ({}) ", names(n)) } else { other(n) };
     let opened: String = (1..nesting - 1).map(opening).collect();
     let read: String = (1..12).step_by(2).map(names).collect();
     let mut script = Script::read(&format!("{opened}({read}){}", ")".repeat(nesting - 2)));
@@ -135,7 +167,9 @@ fn lambdas_and_lets(nesting: usize) -> Script {
 #[test]
 fn the_deepest_scripts_run_on_the_stack_that_is_promised() {
     let mut room = Room::new();
-    for script in [lets(DEEPEST), lambdas_and_lets(DEEPEST)] {
+    let of_one_form = [AND, AND_OF_ONE, WHEN, UNLESS_TEST].map(|form| nested(form, DEEPEST));
+    let with_lambdas = [LET, AND, AND_OF_ONE, WHEN, UNLESS_TEST].map(|form| lambdas_and(form, DEEPEST));
+    for script in [lets(DEEPEST), row_of_rows(15, 250)].into_iter().chain(of_one_form).chain(with_lambdas) {
         let classes = script.classes();
         for run in Run::BOTH {
             let (records, tables) = (&script.records, room.tables());
@@ -168,8 +202,9 @@ fn damaged_scripts_are_answered() {
         SAMPLE,
         "(lambda (x y) (begin (set! x 1) (lambda () (let ((z y)) (if #f x z)))))",
         "(begin (define g (lambda () (begin (define h (lambda () (h))) (h)))) (define k (g 1)))",
+        "(and (define f (and (lambda (x) (when (and x f) (set! x 1) (and (f x)))))) (unless #f (and)))",
     ];
-    let odd = [0, 1, 2, 3, 4, 5, 6, 7, 8, 9, 10, 255, 256, 65536, 1 << 31, u32::MAX - 1, u32::MAX];
+    let odd = [0, 1, 2, 3, 4, 5, 6, 7, 8, 9, 10, 11, 12, 13, 255, 256, 65536, 1 << 31, u32::MAX - 1, u32::MAX];
     let mut room = Room::new();
     for script in scripts.map(Script::read) {
         for place in 0..script.records.len() {
@@ -191,7 +226,7 @@ fn noise_is_answered() {
     };
     let mut room = Room::new();
     for _ in 0..2_000 {
-        let below = [4, 10, u32::MAX][next(3) as usize];
+        let below = [4, 14, u32::MAX][next(3) as usize];
         let length = RECORD_WIDTH as u32 * next(40) + next(8) / 7;
         let records: Vec<u32> = (0..length).map(|_| next(below)).collect();
         let classes: Vec<u8> = (0..next(9)).map(|_| next(256) as u8).collect();

@@ -140,6 +140,30 @@ fn each_form_has_its_record() {
 }
 
 #[test]
+fn and_when_and_unless_have_their_records() {
+    // (and (when x (and)) (unless #f x 1))
+    let mut script = Small::sized();
+    script.and(|s| {
+        s.when(|s| {
+            s.identifier("x");
+            s.and(|_| ());
+        });
+        s.unless(|s| {
+            s.constant_false();
+            s.identifier("x");
+            s.constant();
+        });
+    });
+    let expected =
+        [[10, 0, 0, 2], [11, 0, 0, 2], [1, 1, 0, 0], [10, 0, 0, 0], [12, 0, 0, 3], [2, 2, 1, 0], [1, 3, 0, 0], [2, 4, 0, 0]];
+    assert_eq!(bare(&script), expected);
+    with_facts(&script, |facts| {
+        let free = "kind=6 depth=1 uses=0 refers=- slot=- last=0";
+        assert!(facts.rows().map(printed).eq(["", "", free, "", "", "", free, ""]));
+    });
+}
+
+#[test]
 fn a_method_answers_the_number_of_its_record() {
     let mut script = Small::sized();
     assert_eq!(script.constant(), 0);
@@ -229,6 +253,9 @@ fn what_else_is_unfit_the_library_refuses() {
     let mut script = Script::new();
     script.begin(|s| s.call(|_| ()));
     assert_eq!(refusal(&script), Some((Reason::EmptyCall, Some(1))));
+    let mut script = Script::new();
+    script.and(|s| s.unless(|_| ()));
+    assert_eq!(refusal(&script), Some((Reason::NoTest, Some(1))));
 }
 
 #[test]

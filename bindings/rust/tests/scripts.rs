@@ -1,4 +1,4 @@
-//! The scripts of document 01, "Scripts to try", with what it and docs/RULES.md say of them.
+//! The scripts of document 01, "Scripts to try", with what it and docs/RULES.md say of them; then order 7 of document 02.
 
 mod common;
 
@@ -218,4 +218,63 @@ fn settled_a_let_name_that_is_a_cell_has_its_place_for_a_slot() {
         slot
     };
     assert_eq!((slot(Run::Fresh), slot(Run::Settled)), (Some(1), Some(0)));
+}
+
+/// Kind and what it refers to.
+fn reference(facts: &Facts<'_>, record: usize) -> (IdentifierStatus, Option<u32>) {
+    (variable(facts, record).kind(), variable(facts, record).refers_to())
+}
+
+#[test]
+fn an_and_of_one_child_is_that_child() {
+    for run in Run::BOTH {
+        // a define's body: it enters first, and its call is its own
+        facts_of(run, "f (define f (and (and (lambda (x) (f x)))))", |facts| {
+            assert_eq!(reference(&facts, 0), (IdentifierStatus::Global, Some(3)));
+            assert_eq!(call(&facts, 7), CallKind::SelfTailCall(1));
+        });
+        // a call's head: the name of the define around, a constant
+        facts_of(run, "(define f (lambda (x) ((and f) x)))", |facts| assert_eq!(call(&facts, 4), CallKind::SelfTailCall(1)));
+        facts_of(run, "((and 7) 1)", |facts| assert!(facts.rows().all(|row| matches!(row, Row::Blank))));
+        // at top level: a define there
+        facts_of(run, "f (and (begin (and (define f (lambda () 1)))))", |facts| {
+            assert_eq!(reference(&facts, 0), (IdentifierStatus::Global, Some(6)));
+        });
+    }
+}
+
+#[test]
+fn an_and_of_more_is_an_if() {
+    facts_of(Run::Fresh, "f (define f (and 1 (lambda () 1)))", |facts| {
+        assert_eq!(reference(&facts, 0), (IdentifierStatus::Free, None));
+    });
+    facts_of(Run::Fresh, "(lambda (c) (and (c) (c)))", |facts| {
+        assert_eq!((call(&facts, 3), call(&facts, 5)), (CallKind::Normal, CallKind::TailCall));
+    });
+}
+
+#[test]
+fn what_follows_a_test_is_an_inner_begin() {
+    for run in Run::BOTH {
+        facts_of(run, "f (when 1 (define f (lambda () 1)))", |facts| {
+            assert_eq!(reference(&facts, 0), (IdentifierStatus::Free, None));
+        });
+        for text in
+            ["(lambda () (when 1 (f) (define f (lambda () (f)))))", "(lambda () (unless 1 (f) (define f (lambda () (f)))))"]
+        {
+            facts_of(run, text, |facts| {
+                assert_eq!(reference(&facts, 4), (IdentifierStatus::Global, Some(7)));
+                assert_eq!(call(&facts, 8), CallKind::SelfTailCall(1));
+            });
+        }
+        assert_eq!(refusal_of(run, "(lambda () (unless 1 (define f 2) (define f (lambda () 3))))"), (Reason::LiveName, 4));
+    }
+    facts_of(Run::Fresh, "(lambda (c) (when (c)))", |facts| assert_eq!(call(&facts, 3), CallKind::Normal));
+}
+
+#[test]
+fn settled_refusals_name_records_as_they_are_given() {
+    assert_eq!(refusal_of(Run::Settled, "(let ((x 1)) (and (lambda () (set! x 2))))"), (Reason::HeapLet, 1));
+    let text = "(lambda (x) (lambda () (when (lambda () x) (set! x 1))))";
+    assert_eq!(refusal_of(Run::Settled, text), (Reason::NoCaptureOffset, 5));
 }

@@ -19,7 +19,7 @@ fn variable<'t>(facts: &Facts<'t>, record: usize) -> SemanticInformation<'t> {
 
 #[test]
 fn the_version_is_that_of_the_symbols() {
-    assert_eq!(VERSION, 1);
+    assert_eq!(VERSION, 2);
 }
 
 #[test]

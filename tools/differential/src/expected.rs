@@ -1,11 +1,12 @@
-//! What both operations have to answer: the original's facts, and document 01's refusals.
+//! What both operations have to answer: the original's facts of the expansion, and the documents' refusals.
 
 use crate::case::Case;
+use crate::expand::{expand, Expanded};
 use crate::layers::{layers, End};
 use crate::node::nodes;
 use crate::record::{records, Record, LAMBDA};
 use crate::refusals::{self, Refusal};
-use crate::rows::{rows, Rows};
+use crate::rows::{rows, Rows, FACT};
 use crate::syntax::expressions;
 use original::{Analysis, Panic};
 
@@ -47,7 +48,41 @@ pub fn expected(case: &Case) -> Result<Expected, String> {
     }
 }
 
+/// The answer to the expansion, by the written records.
 fn of_tree(records: &[Record], classes: &[u8]) -> Result<Expected, String> {
+    let Expanded { records: expanded, written } = expand(records);
+    let Expected { fresh, settled, listed } = of_expanded(&expanded, classes)?;
+    let [fresh, settled] = [fresh, settled].map(|answer| by_written(answer, records.len(), &written));
+    Ok(Expected { fresh: fresh?, settled: settled?, listed })
+}
+
+fn by_written(answer: Answer, count: usize, written: &[Option<usize>]) -> Result<Answer, String> {
+    match answer {
+        Answer::Refused(Refusal { number, at }) => {
+            let at =
+                written[at].ok_or_else(|| format!("refusal {number} at a record that is not written"))?;
+            Ok(Answer::Refused(Refusal { number, at }))
+        }
+        Answer::Accepted(rows) => {
+            let mut facts = vec![[0; FACT]; count];
+            for (row, at) in rows.facts.into_iter().zip(written) {
+                match at {
+                    Some(at) => facts[*at] = row,
+                    None if row == [0; FACT] => {}
+                    None => {
+                        return Err(format!(
+                            "the original has a fact of a record that is not written: {row:?}"
+                        ))
+                    }
+                }
+            }
+            Ok(Answer::Accepted(Rows { facts, ..rows }))
+        }
+    }
+}
+
+/// Of a tree without forms 10 to 12.
+fn of_expanded(records: &[Record], classes: &[u8]) -> Result<Expected, String> {
     let tops = nodes(records);
     let layers = layers(records, &tops);
     let exprs = expressions(records, &tops);
@@ -105,6 +140,7 @@ mod tests {
     use crate::generate::limits::limits;
     use crate::generate::scripts::script;
     use crate::rows::{CALL_ROW, NONE};
+    use crate::stage::with_stack;
 
     fn answers(case: &Case) -> [Answer; 2] {
         let expected = expected(case).expect("nothing but what is listed");
@@ -147,11 +183,38 @@ mod tests {
 
     #[test]
     fn refusals_at_the_limits() {
-        let found = limits().into_iter().map(|input| refusals_of(&Case::new(input)));
-        let fresh: Vec<u32> = found.map(|[fresh, _]| fresh.0).collect();
+        let fresh = |input| refusals_of(&Case::new(input))[0].0;
+        let fresh: Vec<u32> = with_stack(|| limits().into_iter().map(fresh).collect());
         let checks = [0, 0, 2, 0, 2, 0, 5, 4, 4, 0, 3, 3, 3, 3, 1];
         let others = [3, 0, 3, 0, 3, 4, 0, 10, 10, 0, 0, 0];
-        assert_eq!(fresh, [&checks[..], &others[..]].concat());
+        let and = [0, 7, 8, 0, 0, 5, 0, 3, 4, 3, 3];
+        let tested = [16, 7, 16, 0, 0, 5, 0, 3, 4, 3, 3];
+        assert_eq!(
+            fresh,
+            [&checks[..], &others[..], &and[..], &tested[..], &tested[..], &[0; 3][..]].concat()
+        );
+    }
+
+    /// Order 7 in document 02: what an `and` of one child is, and what a `when` or `unless` is, on the expansion.
+    #[test]
+    fn facts_of_the_expansion() {
+        let row = |line, at: usize| {
+            let [Answer::Accepted(rows), _] = answers(&Case::new(script(line))) else { panic!("accepted") };
+            rows.facts[at]
+        };
+        assert_eq!(row("(define f (and (lambda (x) (f x))))", 5)[..3], [CALL_ROW, 3, 1]);
+        assert_eq!(row("f (define f (and (and (lambda () 1))))", 0)[0], 1);
+        assert_eq!(row("f (define f (and 1 (lambda () 1)))", 0)[0], 6);
+        assert_eq!(row("f (when 1 (define f (lambda () 1)))", 0)[0], 6);
+        assert_eq!(row("((and) 1)", 0), [0; FACT]);
+        assert_eq!(row("((and 1 f) 1)", 0)[..2], [CALL_ROW, 1]);
+        assert_eq!(row("(lambda (c) (and (c) (c)))", 5)[..2], [CALL_ROW, 2]);
+        assert_eq!(row("(lambda (c) (when (c)))", 3)[..2], [CALL_ROW, 1]);
+        assert_eq!(row("(lambda (c) (unless 1 (c) (c)))", 6)[..2], [CALL_ROW, 2]);
+        let of = |line| refusals_of(&Case::new(script(line)));
+        assert_eq!(of("(lambda () (unless 1 (define f 2) (define f (lambda () 3))))"), [(9, 4), (9, 4)]);
+        assert_eq!(of("(let ((x 1)) (and (lambda () (set! x 2))))"), [(0, 0), (11, 1)]);
+        assert_eq!(of("(lambda (x) (lambda () (when (lambda () x) (set! x 1))))"), [(0, 0), (12, 5)]);
     }
 
     #[test]

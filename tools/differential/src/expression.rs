@@ -1,6 +1,7 @@
 //! Expressions as the generators make them, and their records.
 
-use crate::record::{has_id, Record, BEGIN, CALL, CONSTANT, DEFINE, IDENTIFIER, LAMBDA, LET};
+use crate::record::{has_counted_kids, has_id, is_expanded, Record};
+use crate::record::{AND, CONSTANT, DEFINE, IDENTIFIER, LAMBDA, LET};
 
 #[derive(Clone, Debug)]
 pub struct Expression {
@@ -25,8 +26,21 @@ impl Expression {
         Expression { name: is_false.into(), ..Expression::new(CONSTANT, vec![], vec![]) }
     }
 
+    /// Whether it has a form that the original is given expanded.
+    pub fn has_expanded(&self) -> bool {
+        is_expanded(self.form) || self.kids.iter().any(Expression::has_expanded)
+    }
+
+    /// An `and` of one child is that child.
+    pub fn core(&self) -> &Expression {
+        match (self.form, self.kids.as_slice()) {
+            (AND, [one]) => one.core(),
+            _ => self,
+        }
+    }
+
     pub fn is_lambda_define(&self) -> bool {
-        self.form == DEFINE && self.kids[0].form == LAMBDA
+        self.core().form == DEFINE && self.core().kids[0].core().form == LAMBDA
     }
 
     /// How many records it has.
@@ -37,7 +51,7 @@ impl Expression {
     fn count(&self) -> usize {
         match self.form {
             LET | LAMBDA => self.names.len(),
-            BEGIN | CALL => self.kids.len(),
+            form if has_counted_kids(form) => self.kids.len(),
             _ => 0,
         }
     }

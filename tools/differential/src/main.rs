@@ -3,6 +3,7 @@
 mod bench;
 mod case;
 mod compare;
+mod expand;
 mod expected;
 mod expression;
 mod generate;
@@ -26,8 +27,10 @@ mod tree;
 
 use case::Case;
 use generate::exhaustive::Exhaustive;
-use generate::{damaged_case, exhaustive_case, limits::limits, random_case, scripts::scripts};
+use generate::trees::Mix;
+use generate::{damaged_case, deep_case, exhaustive_case, limits::limits, random_case, scripts::scripts};
 use options::Options;
+use record::{SET, UNLESS};
 use stage::{with_stack, Differing, Stage};
 use std::process::ExitCode;
 use std::time::Instant;
@@ -46,12 +49,14 @@ fn main() -> ExitCode {
 }
 
 fn compare_all(options: &Options) -> ExitCode {
-    let all = Exhaustive::new(options.exhaustive, 2);
+    let all = Exhaustive::new(options.exhaustive, 2, SET);
+    let more = Exhaustive::new(options.exhaustive.saturating_sub(1), 2, UNLESS);
+    let expanded = more.expanded();
     let fixed: Vec<_> = scripts().into_iter().chain(limits()).map(Case::new).collect();
     let start = Instant::now();
     let (mut told, mut total) = (Vec::new(), Tally::default());
     let (mut differing, mut smallest) = (0, Vec::new());
-    for stage in stages(options, &all, &fixed) {
+    for stage in stages(options, &all, (&more, &expanded), &fixed) {
         let outcome = stage.run(options.seed, options.threads);
         differing += outcome.differing;
         total += &outcome.tally;
@@ -73,7 +78,13 @@ fn compare_all(options: &Options) -> ExitCode {
     }
 }
 
-fn stages<'a>(options: &Options, all: &'a Exhaustive, fixed: &'a [Case]) -> Vec<Stage<'a>> {
+/// `more` are the trees with forms 10 to 12 too, and the numbers of those that have one.
+fn stages<'a>(
+    options: &Options,
+    all: &'a Exhaustive,
+    more: (&'a Exhaustive, &'a [u64]),
+    fixed: &'a [Case],
+) -> Vec<Stage<'a>> {
     let seed = options.seed;
     vec![
         Stage {
@@ -87,21 +98,37 @@ fn stages<'a>(options: &Options, all: &'a Exhaustive, fixed: &'a [Case]) -> Vec<
             case: Box::new(|number| exhaustive_case(all, number)),
         },
         Stage {
+            name: "exhaustive 10-12",
+            count: 2 * more.1.len() as u64,
+            case: Box::new(move |number| {
+                exhaustive_case(more.0, 2 * more.1[number as usize / 2] + number % 2)
+            }),
+        },
+        Stage {
             name: "random",
             count: options.random,
-            case: Box::new(move |number| random_case(seed, number, SMALL.0, SMALL.1).0),
+            case: Box::new(move |number| random_case(seed, number, SMALL, Mix::Perhaps).0),
+        },
+        Stage {
+            name: "random 10-12",
+            count: options.expanded,
+            case: Box::new(move |number| random_case(seed, number, SMALL, Mix::Surely).0),
         },
         Stage {
             name: "large",
             count: options.large,
-            case: Box::new(move |number| random_case(seed, number, LARGE.0, LARGE.1).0),
+            case: Box::new(move |number| random_case(seed, number, LARGE, Mix::Perhaps).0),
+        },
+        Stage {
+            name: "deep 10-12",
+            count: options.large / 10,
+            case: Box::new(move |number| deep_case(seed, number)),
         },
         Stage {
             name: "damaged",
             count: options.damaged,
             case: Box::new(move |number| {
-                let (least, most) = if number % 50 == 0 { LARGE } else { SMALL };
-                damaged_case(seed, number, least, most)
+                damaged_case(seed, number, if number % 50 == 0 { LARGE } else { SMALL })
             }),
         },
     ]

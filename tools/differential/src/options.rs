@@ -7,6 +7,7 @@ use std::{env, process, thread};
 pub struct Options {
     pub exhaustive: usize,
     pub random: u64,
+    pub expanded: u64,
     pub large: u64,
     pub damaged: u64,
     pub seed: u64,
@@ -23,6 +24,7 @@ impl Default for Options {
         Options {
             exhaustive: 6,
             random: 100_000,
+            expanded: 100_000,
             large: 2_000,
             damaged: 100_000,
             seed: 1,
@@ -58,12 +60,13 @@ impl Options {
             match argument.as_str() {
                 "--exhaustive" => options.exhaustive = number()? as usize,
                 "--random" => options.random = number()?,
+                "--expanded" => options.expanded = number()?,
                 "--large" => options.large = number()?,
                 "--damaged" => options.damaged = number()?,
                 "--seed" => options.seed = number()?,
                 "--threads" => options.threads = number()?.max(1) as usize,
                 "--quick" => {
-                    (options.exhaustive, options.random) = (4, 2_000);
+                    (options.exhaustive, options.random, options.expanded) = (4, 2_000, 2_000);
                     (options.large, options.damaged) = (40, 2_000);
                 }
                 "--bench" => options.bench = true,
@@ -96,7 +99,7 @@ mod tests {
     #[test]
     fn the_help_tells_every_option_and_its_default() {
         let told: Vec<&str> = lines().into_iter().map(|line| line.0).collect();
-        let all = "--exhaustive --random --large --damaged --seed --threads --quick --bench --before --help";
+        let all = "--exhaustive --random --expanded --large --damaged --seed --threads --quick --bench --before --help";
         assert_eq!(told.join(" "), all);
         for (option, rest) in lines().into_iter().filter(|line| line.1.starts_with("N ")) {
             let default =

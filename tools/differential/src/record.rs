@@ -11,6 +11,9 @@ pub const LAMBDA: u32 = 6;
 pub const BEGIN: u32 = 7;
 pub const CALL: u32 = 8;
 pub const SET: u32 = 9;
+pub const AND: u32 = 10;
+pub const WHEN: u32 = 11;
+pub const UNLESS: u32 = 12;
 
 /// How many numbers a record has.
 pub const WIDTH: usize = 6;
@@ -42,17 +45,32 @@ pub fn has_id(form: u32) -> bool {
 }
 
 pub fn has_count(form: u32) -> bool {
-    matches!(form, LET | LAMBDA | BEGIN | CALL)
+    matches!(form, LET | LAMBDA) || has_counted_kids(form)
 }
 
-/// How many children are names, and how many others follow them. The form is 1 to 9.
+/// Whether the count is that of the children, none of which is a name's place.
+pub fn has_counted_kids(form: u32) -> bool {
+    matches!(form, BEGIN | CALL | AND | WHEN | UNLESS)
+}
+
+/// Whether it is one of forms 10 to 12, which the original is given expanded.
+pub fn is_expanded(form: u32) -> bool {
+    matches!(form, AND | WHEN | UNLESS)
+}
+
+/// Whether a count of 0 is refused: by 7, or by 16.
+pub fn needs_a_child(form: u32) -> bool {
+    matches!(form, CALL | WHEN | UNLESS)
+}
+
+/// How many children are names, and how many others follow them. The form is 1 to 12.
 pub fn children(form: u32, count: u32) -> (u32, u32) {
     match form {
         IF => (0, 3),
         LET => (count, count + 1),
         DEFINE | SET => (1, 1),
         LAMBDA => (count, 1),
-        BEGIN | CALL => (0, count),
+        BEGIN | CALL | AND | WHEN | UNLESS => (0, count),
         _ => (0, 0),
     }
 }

@@ -1,8 +1,8 @@
-//! Refusals 1 to 8, from document 01: each check covers the whole input before the next.
+//! Refusals 1 to 8 from document 01, and 16 from document 02: each check covers the whole input before the next.
 
 use crate::case::Case;
 use crate::record::{children, has_count, has_id, records, Record};
-use crate::record::{CALL, CONSTANT, IDENTIFIER, WIDTH};
+use crate::record::{CALL, CONSTANT, IDENTIFIER, UNLESS, WHEN, WIDTH};
 use std::collections::HashSet;
 
 #[derive(Clone, Copy, Debug, PartialEq, Eq)]
@@ -15,7 +15,7 @@ const MOST_RECORDS: usize = 4096;
 const MOST_NAMES: usize = 1024;
 const MOST_NESTING: usize = 64;
 const MOST_COUNT: u32 = 255;
-const LAST_ID: u32 = 4294967294;
+pub const LAST_ID: u32 = 4294967294;
 
 pub fn first(case: &Case) -> Option<Refusal> {
     let (numbers, names) = (&case.input.numbers, case.input.classes.len());
@@ -35,6 +35,7 @@ pub fn first(case: &Case) -> Option<Refusal> {
             .or(one(places.iter().position(|p| p.nesting > MOST_NESTING), 5))
             .or(one(places.iter().zip(&records).position(not_a_name), 6))
             .or(one(records.iter().position(|r| r.form == CALL && r.count == 0), 7))
+            .or(one(records.iter().position(|r| matches!(r.form, WHEN | UNLESS) && r.count == 0), 16))
             .or(one(repeated_id(&records), 8))
     })
 }
@@ -47,7 +48,7 @@ fn fields_fit(r: &Record, names: usize) -> bool {
         _ => r.name == 0,
     };
     let count = r.count <= if has_count(r.form) { MOST_COUNT } else { 0 };
-    (1..=9).contains(&r.form) && id && name && count
+    (1..=12).contains(&r.form) && id && name && count
 }
 
 /// Where a record stands.

@@ -2,7 +2,9 @@
 //!
 //! Words such as n0:4 before it give the classes that are not 0, as in tools/trial/scripts.txt.
 
-use crate::record::{Record, BEGIN, CALL, CONSTANT, DEFINE, IDENTIFIER, IF, LAMBDA, LET, SET};
+use crate::record::{
+    Record, AND, BEGIN, CALL, CONSTANT, DEFINE, IDENTIFIER, IF, LAMBDA, LET, SET, UNLESS, WHEN,
+};
 use crate::tree::{Part, Tree};
 
 pub fn text(tree: &Tree) -> String {
@@ -37,7 +39,7 @@ fn expression(part: &Part) -> String {
         (IDENTIFIER, _) => name(record),
         (CONSTANT, _) if record.name == 1 => "#f".to_string(),
         (CONSTANT, _) => record.id.to_string(),
-        (IF, _) => format!("(if {})", kids.join(" ")),
+        (IF, kids) => words_of("if", kids),
         (LET, [initial @ .., body]) => {
             let bindings: Vec<String> =
                 names.iter().zip(initial).map(|(name, initial)| format!("({name} {initial})")).collect();
@@ -45,12 +47,19 @@ fn expression(part: &Part) -> String {
         }
         (DEFINE, [body]) => format!("(define {words} {body})"),
         (LAMBDA, [body]) => format!("(lambda ({words}) {body})"),
-        (BEGIN, []) => "(begin)".to_string(),
-        (BEGIN, _) => format!("(begin {})", kids.join(" ")),
+        (BEGIN, kids) => words_of("begin", kids),
+        (AND, kids) => words_of("and", kids),
+        (WHEN, kids) => words_of("when", kids),
+        (UNLESS, kids) => words_of("unless", kids),
         (CALL, _) => format!("({})", kids.join(" ")),
         (SET, [value]) => format!("(set! {words} {value})"),
         (form, _) => unreachable!("form {form} passed the checks"),
     }
+}
+
+fn words_of(word: &str, kids: &[String]) -> String {
+    let words: Vec<&str> = [word].into_iter().chain(kids.iter().map(String::as_str)).collect();
+    format!("({})", words.join(" "))
 }
 
 #[cfg(test)]
@@ -74,6 +83,10 @@ mod tests {
         assert_eq!(of("(define f (lambda (x y) (f y x)))"), "(define n0 (lambda (n1 n2) (n0 n2 n1)))");
         assert_eq!(of("(lambda () (begin (set! x y) (x)))"), "(lambda () (begin (set! n0 n1) (n0)))");
         assert_eq!(of("g:4 a:2 (g b a) ((g))"), "n0:4 n2:2 (n0 n1 n2) ((n0))");
+        assert_eq!(
+            of("(and) (and x (and 5)) (when y) (unless #f x y)"),
+            "(and) (and n0 (and 48)) (when n1) (unless #f n0 n1)"
+        );
         assert_eq!(of(""), "");
     }
 

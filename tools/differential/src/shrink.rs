@@ -1,7 +1,7 @@
 //! A smaller tree that differs too: parts are left out or made plain as long as the tree still differs.
 
 use crate::expression::Own;
-use crate::record::{has_id, Input, Record, BEGIN, CALL, CONSTANT, IDENTIFIER};
+use crate::record::{has_id, is_expanded, needs_a_child, Input, Record, BEGIN, CONSTANT, IDENTIFIER};
 use crate::tree::{Part, Tree};
 use std::collections::{BTreeSet, HashMap};
 
@@ -11,7 +11,7 @@ pub struct Shrunk {
     pub tries: usize,
 }
 
-/// The input passes checks 1 to 8, and so does every one that `differs` is asked of: at most `most` times for what is
+/// The input passes checks 1 to 8 and 16, and so does every one that `differs` is asked of: at most `most` times for what is
 /// smaller, and as often for what is plainer.
 pub fn shrink(input: &Input, most: usize, differs: impl FnMut(&Input) -> bool) -> Shrunk {
     let mut search = Search { kept: Tree::new(input), differs, tries: 0, last: most };
@@ -32,13 +32,17 @@ struct Search<F> {
     last: usize,
 }
 
-/// Less is smaller: fewer records, then fewer that are no constants, then fewer that are #f.
-fn measure(tree: &Tree) -> [usize; 3] {
+/// Less is smaller: fewer records, then fewer that are no constants, then fewer of forms 10 to 12, then fewer that are #f.
+fn measure(tree: &Tree) -> [usize; 4] {
     let records = tree.records();
-    let constant = |r: &Record| r.form == CONSTANT;
-    let others = records.iter().filter(|r| !constant(r)).count();
-    let falses = records.iter().filter(|r| constant(r) && r.name == 1).count();
-    [records.len(), others, falses]
+    let count = |of: fn(&&Record) -> bool| records.iter().filter(of).count();
+    let others = count(|r| r.form != CONSTANT);
+    [records.len(), others, count(|r| is_expanded(r.form)), count(|r| r.form == CONSTANT && r.name == 1)]
+}
+
+/// A begin, or one of forms 10 to 12.
+fn is_row(form: u32) -> bool {
+    form == BEGIN || is_expanded(form)
 }
 
 fn unused_id(tree: &Tree) -> u32 {
@@ -65,7 +69,7 @@ impl<F: FnMut(&Input) -> bool> Search<F> {
         let mut tree = self.kept.clone();
         let Some(part) = tree.part(at) else { return false };
         change(part);
-        let fits = part.record.form != CALL || !part.kids.is_empty();
+        let fits = !needs_a_child(part.record.form) || !part.kids.is_empty();
         let fits = fits && (at == 0 || part.loose() <= MOST_COUNT);
         fits && measure(&tree) < measure(&self.kept) && self.offer(tree)
     }
@@ -78,6 +82,7 @@ impl<F: FnMut(&Input) -> bool> Search<F> {
             while at > 0 && self.replace(at) {}
             self.leave_out(at);
             self.open(at);
+            self.make_begin(at);
             at += 1;
         }
         measure(&self.kept) < before
@@ -112,14 +117,23 @@ impl<F: FnMut(&Input) -> bool> Search<F> {
         self.kept.part(at).map_or(0, |part| part.loose())
     }
 
-    /// The begins inside a begin.
+    /// Of an `and`, `when` or `unless`.
+    fn make_begin(&mut self, at: usize) {
+        self.step(at, |part| {
+            if is_expanded(part.record.form) {
+                part.record.form = BEGIN;
+            }
+        });
+    }
+
+    /// The rows of expressions inside such a row.
     fn open(&mut self, at: usize) {
         let mut kid = 0;
         while let Some(part) =
-            self.kept.part(at).filter(|part| part.record.form == BEGIN && kid < part.kids.len())
+            self.kept.part(at).filter(|part| is_row(part.record.form) && kid < part.kids.len())
         {
-            let begin = part.kids[kid].record.form == BEGIN;
-            if !(begin && self.step(at, |part| part.open(kid))) {
+            let row = is_row(part.kids[kid].record.form);
+            if !(row && self.step(at, |part| part.open(kid))) {
                 kid += 1;
             }
         }
@@ -180,8 +194,9 @@ mod tests {
     use crate::case::Case;
     use crate::generate::random_input;
     use crate::generate::scripts::script;
+    use crate::generate::trees::Mix;
     use crate::random::Random;
-    use crate::record::{LAMBDA, LET, SET};
+    use crate::record::{AND, CALL, LAMBDA, LET, SET, UNLESS, WHEN};
     use crate::refusals;
     use crate::scheme::text;
 
@@ -214,7 +229,7 @@ mod tests {
     fn a_set_inside_a_lambda() {
         let mut met = 0;
         for number in 0..40 {
-            let input = random_input(&mut Random::new(1, "test", number), 300);
+            let input = random_input(&mut Random::new(1, "test", number), 300, Mix::Perhaps);
             if has(&Tree::new(&input).root, &set_inside_lambda) {
                 met += 1;
                 assert_eq!(shrunk(&input, 10_000, set_inside_lambda).0, "(lambda () (set! n0 13))");
@@ -256,6 +271,21 @@ mod tests {
         assert_eq!(text(&Tree::new(&shrink(&input, 1000, differs).input)), "n0:4 n0 (set! n1 13)");
     }
 
+    /// A test stays, and of the three forms the one that is needed; else it is a begin, which is opened.
+    #[test]
+    fn forms_10_to_12() {
+        let line = "(begin (when (and x y) (and (unless 1 2 (when z)) (set! x 3)) (begin x)) 4)";
+        let of = |needed| move |part: &Part| form(part, needed);
+        assert_eq!(shrunk(&script(line), 1000, of(AND)).0, "(and)");
+        assert_eq!(shrunk(&script(line), 1000, of(WHEN)).0, "(when 11)");
+        assert_eq!(shrunk(&script(line), 1000, of(UNLESS)).0, "(unless 11)");
+        assert_eq!(shrunk(&script(line), 1000, of(SET)).0, "(set! n0 12)");
+        let two_in_a_row = |part: &Part| is_row(part.record.form) && part.kids.len() >= 2;
+        let inside = |part: &Part| form(part, LAMBDA) && has(part, &two_in_a_row);
+        let input = script("(lambda () (when (and x) (and (and 1 2))))");
+        assert_eq!(shrunk(&input, 1000, inside).0, "(lambda () (begin 12 13))");
+    }
+
     /// Where the order of the ids is needed it stays: the outer lambda's is greater than the inner one's.
     #[test]
     fn ids_keep_their_order() {
@@ -270,7 +300,7 @@ mod tests {
 
     #[test]
     fn the_tries_are_bounded_and_nothing_else_is_kept() {
-        let input = random_input(&mut Random::new(1, "test", 1), 300);
+        let input = random_input(&mut Random::new(1, "test", 1), 300, Mix::Perhaps);
         for most in [0, 1, 7] {
             let never = shrink(&input, most, |_| false);
             assert!(never.tries <= 2 * most);

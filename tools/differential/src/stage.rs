@@ -201,6 +201,7 @@ mod tests {
     use crate::expected::{expected, Answer};
     use crate::generate::random_input;
     use crate::generate::scripts::script;
+    use crate::generate::trees::Mix;
     use crate::port::Run;
     use crate::record::Input;
     use crate::refusals::Refusal;
@@ -247,7 +248,7 @@ mod tests {
     }
 
     fn cases() -> impl Iterator<Item = Case> {
-        (0..100).map(|number| Case::new(random_input(&mut Random::new(1, "test", number), 100)))
+        (0..100).map(|number| Case::new(random_input(&mut Random::new(1, "test", number), 100, Mix::Perhaps)))
     }
 
     /// A self tail call needs a define, its name, a lambda, a call and its head.

@@ -3,17 +3,21 @@
 use crate::expected::Listed;
 use crate::tally::{Seen, Tally};
 
-/// What each stage was answered: two lines a stage, one for each run.
+/// The refusals that there are.
+const REFUSALS: [usize; 13] = [1, 2, 3, 4, 5, 6, 7, 16, 8, 9, 10, 11, 12];
+
+/// What each stage was answered: two lines a stage, one for each run; the refusals in the order of their checks.
 pub fn answers(stages: &[(&str, Tally)]) -> String {
-    let numbers: String = (1..=12).map(|number| format!("{number:>7}")).collect();
+    let numbers: String = REFUSALS.iter().map(|number| format!("{number:>7}")).collect();
     let mut out =
-        format!("{:<11}{:<8}{:>9}{:>9}{:>9}{numbers}\n", "", "run", "inputs", "records", "accepted");
+        format!("{:<17}{:<8}{:>9}{:>9}{:>9}{numbers}\n", "", "run", "inputs", "records", "accepted");
     for (name, tally) in stages {
         let Tally { inputs, records, fresh, settled, .. } = tally;
         for (start, run, seen) in [(*name, "fresh", fresh), ("", "settled", settled)] {
-            let refused: String = seen.answers[1..].iter().map(|count| format!("{count:>7}")).collect();
+            let refused: String =
+                REFUSALS.iter().map(|number| format!("{:>7}", seen.answers[*number])).collect();
             let accepted = seen.answers[0];
-            out += &format!("{start:<11}{run:<8}{inputs:>9}{records:>9}{accepted:>9}{refused}\n");
+            out += &format!("{start:<17}{run:<8}{inputs:>9}{records:>9}{accepted:>9}{refused}\n");
         }
     }
     out
@@ -32,7 +36,8 @@ pub fn held(total: &Tally) -> String {
             calls[0],
         )
     };
-    run("fresh", &total.fresh) + &run("settled", &total.settled)
+    let expanded = format!("records of forms 10 to 12: {}\n", spaced(&total.expanded));
+    run("fresh", &total.fresh) + &run("settled", &total.settled) + &expanded
 }
 
 /// The differences of docs/DIFFERENCES.md that were met.
@@ -43,7 +48,7 @@ pub fn listed(total: &Tally) -> String {
 
 fn text(listed: Listed) -> &'static str {
     match listed {
-        Listed::NotGiven => "inputs refused 1 to 8, which the original is not given",
+        Listed::NotGiven => "inputs refused 1 to 8 or 16, which the original is not given",
         Listed::TwicePanics => "trees refused 9 where the original panics",
         Listed::TwiceGoesOn => "trees refused 9 where the original goes on",
         Listed::TooManyCaptures => "trees refused 10, which the original takes",

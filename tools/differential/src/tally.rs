@@ -2,7 +2,7 @@
 
 use crate::case::Case;
 use crate::expected::{Answer, Expected, Listed};
-use crate::record::{records, CALL};
+use crate::record::{is_expanded, records, AND, CALL};
 use crate::rows::{Rows, CALL_ROW};
 use std::collections::BTreeMap;
 use std::ops::AddAssign;
@@ -11,7 +11,7 @@ use std::ops::AddAssign;
 #[derive(Clone, Debug, Default)]
 pub struct Seen {
     /// By the refusal's number, 0 for accepted.
-    pub answers: [u64; 13],
+    pub answers: [u64; 17],
     /// Rows of identifiers by kind.
     pub identifiers: [u64; 8],
     /// Calls by kind, 0 for those without a fact.
@@ -27,6 +27,8 @@ pub struct Tally {
     pub records: u64,
     pub fresh: Seen,
     pub settled: Seen,
+    /// Records of forms 10 to 12, of trees that a fresh run accepts.
+    pub expanded: [u64; 3],
     pub listed: BTreeMap<Listed, u64>,
 }
 
@@ -67,6 +69,10 @@ impl Tally {
         if let Some(expected) = expected {
             self.fresh.add(&expected.fresh, calls);
             self.settled.add(&expected.settled, calls);
+            if matches!(expected.fresh, Answer::Accepted(_)) {
+                let forms = records.iter().map(|r| r.form).filter(|form| is_expanded(*form));
+                forms.for_each(|form| self.expanded[(form - AND) as usize] += 1);
+            }
             for (listed, count) in &expected.listed {
                 *self.listed.entry(*listed).or_default() += *count as u64;
             }
@@ -91,6 +97,7 @@ impl AddAssign<&Tally> for Tally {
         self.records += other.records;
         self.fresh += &other.fresh;
         self.settled += &other.settled;
+        add(&mut self.expanded, &other.expanded);
         for (listed, count) in &other.listed {
             *self.listed.entry(*listed).or_default() += count;
         }

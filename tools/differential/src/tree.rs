@@ -1,7 +1,7 @@
 //! A tree that can be changed, record by record.
 
 use crate::node::{nodes, Node};
-use crate::record::{records, Input, Record, BEGIN, CALL, CONSTANT, LAMBDA, LET};
+use crate::record::{has_counted_kids, records, Input, Record, BEGIN, CONSTANT, LAMBDA, LET};
 use std::ops::Range;
 
 /// An expression: its record, its children that are names, and the others.
@@ -34,10 +34,10 @@ impl Part {
         }
     }
 
-    /// How many children one by one can be left out: of a begin or a call, parameters, or let bindings.
+    /// How many children one by one can be left out: those that the count counts, parameters, or let bindings.
     pub fn loose(&self) -> usize {
         match self.record.form {
-            BEGIN | CALL => self.kids.len(),
+            form if has_counted_kids(form) => self.kids.len(),
             LAMBDA | LET => self.names.len(),
             _ => 0,
         }
@@ -87,7 +87,7 @@ impl Part {
 }
 
 impl Tree {
-    /// The input passes checks 1 to 8.
+    /// The input passes checks 1 to 8 and 16.
     pub fn new(input: &Input) -> Self {
         let records = records(&input.numbers);
         let kids = nodes(&records).iter().map(|top| Part::new(&records, top)).collect();
@@ -121,12 +121,13 @@ impl Tree {
 mod tests {
     use super::*;
     use crate::generate::random_input;
+    use crate::generate::trees::Mix;
     use crate::random::Random;
 
     #[test]
     fn a_tree_has_the_numbers_that_it_was_made_of() {
         for number in 0..100 {
-            let input = random_input(&mut Random::new(3, "test", number), 60);
+            let input = random_input(&mut Random::new(3, "test", number), 60, Mix::Perhaps);
             assert_eq!(Tree::new(&input).input().numbers, input.numbers);
         }
     }

@@ -45,7 +45,7 @@ impl Script {
 
     fn record(&mut self, form: Form, name: usize, count: usize) {
         let id = match form {
-            Form::If | Form::Define | Form::Begin | Form::Set => 0,
+            Form::If | Form::Define | Form::Begin | Form::Set | Form::And | Form::When | Form::Unless => 0,
             _ => self.records.len() / RECORD_WIDTH + 1,
         };
         self.records.extend([form as u32, id as u32, name as u32, count as u32, 0, 0]);
@@ -80,6 +80,9 @@ impl Script {
             [Word("define"), rest @ ..] => self.put(Form::Define, 0, rest),
             [Word("set!"), rest @ ..] => self.put(Form::Set, 0, rest),
             [Word("begin"), rest @ ..] => self.put(Form::Begin, rest.len(), rest),
+            [Word("and"), rest @ ..] => self.put(Form::And, rest.len(), rest),
+            [Word("when"), rest @ ..] => self.put(Form::When, rest.len(), rest),
+            [Word("unless"), rest @ ..] => self.put(Form::Unless, rest.len(), rest),
             [Word("lambda"), List(parameters), body] => {
                 self.put(Form::Lambda, parameters.len(), parameters.iter().chain([body]))
             }

@@ -33,8 +33,8 @@ extern "C" {
 const RTLD_NOW: c_int = 2;
 
 /// The symbols, the newest first: those of the earliest ports have no version.
-const FRESH: [&CStr; 2] = [c"scheme_analysis_fresh_v1", c"scheme_analysis_fresh"];
-const SETTLED: [&CStr; 2] = [c"scheme_analysis_settled_v1", c"scheme_analysis_settled"];
+const FRESH: [&CStr; 3] = [c"scheme_analysis_fresh_v2", c"scheme_analysis_fresh_v1", c"scheme_analysis_fresh"];
+const SETTLED: [&CStr; 3] = [c"scheme_analysis_settled_v2", c"scheme_analysis_settled_v1", c"scheme_analysis_settled"];
 
 /// The lengths as a header names them, in the order of `LENGTHS`.
 const NAMES: [&str; LENGTHS.len()] = ["FACTS", "CAPTURED", "ARGUMENTS", "WORK"];

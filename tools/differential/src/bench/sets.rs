@@ -5,6 +5,7 @@ use crate::expected::{expected, Answer};
 use crate::expression::{numbers, Expression, Own};
 use crate::generate::limits::{tall, wide};
 use crate::generate::random_input;
+use crate::generate::trees::Mix;
 use crate::random::Random;
 use crate::record::{Input, BEGIN, CALL, DEFINE, IF, LAMBDA, LET, SET};
 
@@ -33,7 +34,8 @@ pub fn sets(seed: u64) -> (Vec<Set>, Vec<Set>) {
 }
 
 fn random_set(seed: u64, size: usize) -> Set {
-    let input = |number| random_input(&mut Random::new(seed, "bench", number + ((size as u64) << 32)), size);
+    let random = |number| Random::new(seed, "bench", number + ((size as u64) << 32));
+    let input = |number| random_input(&mut random(number), size, Mix::Never);
     let inputs = (0..).map(input).filter(accepted).take(TREES_A_SIZE).collect();
     Set { name: format!("random, {size} records"), inputs }
 }

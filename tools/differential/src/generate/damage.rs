@@ -3,16 +3,17 @@
 use crate::case::Case;
 use crate::port::LENGTHS;
 use crate::random::Random;
-use crate::record::{has_count, has_id, CALL, CONSTANT, WIDTH};
+use crate::record::{has_count, has_id, AND, BEGIN, CALL, CONSTANT, UNLESS, WHEN, WIDTH};
 
 type Way = fn(&mut Case, &mut Random);
 
-const WAYS: [(usize, Way); 14] = [
+const WAYS: [(usize, Way); 15] = [
     (6, change_field),
     (6, change_form),
     (4, change_count),
     (3, repeat_id),
     (3, empty_call),
+    (3, no_test),
     (3, drop_record),
     (3, double_record),
     (3, swap_records),
@@ -56,7 +57,7 @@ fn some_such(case: &Case, random: &mut Random, such: impl Fn(&[u32]) -> bool) ->
 
 fn change_field(case: &mut Case, random: &mut Random) {
     let place = some_record(case, random) + random.below(WIDTH);
-    let small = random.below(12) as u32;
+    let small = random.below(15) as u32;
     let names = case.input.classes.len() as u32;
     let values = [0, 1, 2, 3, 9, 10, 255, 256, u32::MAX - 1, u32::MAX, small, names, names.wrapping_sub(1)];
     case.input.numbers[place] = random.pick(&values);
@@ -65,7 +66,7 @@ fn change_field(case: &mut Case, random: &mut Random) {
 /// Another form, with fields that fit it.
 fn change_form(case: &mut Case, random: &mut Random) {
     let at = some_record(case, random);
-    let form = random.from(1, 9) as u32;
+    let form = random.from(1, 12) as u32;
     let r = &mut case.input.numbers[at..at + WIDTH];
     let id = if r[1] == 0 { u32::MAX - 2 } else { r[1] };
     let count = random.below(3) as u32;
@@ -81,14 +82,30 @@ fn change_count(case: &mut Case, random: &mut Random) {
     }
 }
 
-/// What were its children stand after it, or the next record is dropped too.
 fn empty_call(case: &mut Case, random: &mut Random) {
     if let Some(at) = some_such(case, random, |r| r[0] == CALL) {
-        case.input.numbers[at + 3] = 0;
-        let next = at + WIDTH..at + 2 * WIDTH;
-        if random.percent(50) && next.end <= case.input.numbers.len() {
-            case.input.numbers.drain(next);
+        empty(case, random, at);
+    }
+}
+
+/// Of a `when` or `unless`; where there is none, of a new one before all others or behind them.
+fn no_test(case: &mut Case, random: &mut Random) {
+    match some_such(case, random, |r| matches!(r[0], WHEN | UNLESS)) {
+        Some(at) => empty(case, random, at),
+        None => {
+            let at = random.pick(&[0, case.input.numbers.len()]);
+            let form = random.pick(&[WHEN, UNLESS]);
+            case.input.numbers.splice(at..at, [form, 0, 0, 0, 0, 0]);
         }
+    }
+}
+
+/// What were its children stand after it, or the next record is dropped too.
+fn empty(case: &mut Case, random: &mut Random, at: usize) {
+    case.input.numbers[at + 3] = 0;
+    let next = at + WIDTH..at + 2 * WIDTH;
+    if random.percent(50) && next.end <= case.input.numbers.len() {
+        case.input.numbers.drain(next);
     }
 }
 
@@ -124,7 +141,7 @@ fn cut_end(case: &mut Case, random: &mut Random) {
 
 fn add_numbers(case: &mut Case, random: &mut Random) {
     let count = random.from(1, 2 * WIDTH);
-    case.input.numbers.extend((0..count).map(|_| random.below(10) as u32));
+    case.input.numbers.extend((0..count).map(|_| random.below(14) as u32));
 }
 
 fn change_names(case: &mut Case, random: &mut Random) {
@@ -140,19 +157,21 @@ fn change_lent(case: &mut Case, random: &mut Random) {
     case.lent[table] = random.pick(&[0, 1, set / 2, set - 1, set + 1]);
 }
 
-/// One record more than 4,096, or exactly so many: empty begins at the end.
+/// One record more than 4,096, or exactly so many: empty begins or `and`s at the end.
 fn too_many(case: &mut Case, random: &mut Random) {
     let whole = WIDTH * random.from(4096, 4097);
+    let form = random.pick(&[BEGIN, AND]);
     while case.input.numbers.len() + WIDTH <= whole {
-        case.input.numbers.extend([7, 0, 0, 0, 0, 0]);
+        case.input.numbers.extend([form, 0, 0, 0, 0, 0]);
     }
 }
 
-/// Begins of one child around what starts at some record.
+/// Forms of one child around what starts at some record.
 fn too_deep(case: &mut Case, random: &mut Random) {
     let at = some_record(case, random);
-    let begins = [7, 0, 0, 1, 0, 0].repeat(random.from(50, 64));
-    case.input.numbers.splice(at..at, begins);
+    let form = random.pick(&[BEGIN, AND, WHEN, UNLESS]);
+    let around = [form, 0, 0, 1, 0, 0].repeat(random.from(50, 64));
+    case.input.numbers.splice(at..at, around);
 }
 
 #[cfg(test)]
@@ -164,7 +183,7 @@ mod tests {
     #[test]
     fn lent_tables_fit_their_buffers() {
         for number in 0..20_000 {
-            let lent = damaged_case(2, number, 1, 60).lent;
+            let lent = damaged_case(2, number, (1, 60)).lent;
             assert!(lent.iter().zip(LENGTHS).all(|(lent, set)| *lent <= set + 1));
         }
     }

@@ -1,13 +1,14 @@
 //! Every tree of up to so many records over so many names, by number.
 //!
-//! All forms with every count (a call has a head), every placement of the names, constants #f and not. A tree is
-//! found from its number by counting, so none is kept.
+//! All forms with every count (a call has a head, a `when` a test), every placement of the names, constants #f and not.
+//! A tree is found from its number by counting, so none is kept.
 
 use crate::expression::Expression;
-use crate::record::{children, has_count, BEGIN, CALL, IF, SET};
+use crate::record::{children, has_count, needs_a_child, AND, BEGIN, IF};
 
 pub struct Exhaustive {
     names: u64,
+    last_form: u32,
     /// sequences[n][k]: how many sequences of k expressions have n records together.
     sequences: Vec<Vec<u64>>,
     /// expressions[n]: how many expressions have n records.
@@ -23,22 +24,23 @@ struct Shape {
 }
 
 /// Those of an expression of n records, other than an atom.
-fn shapes(n: usize) -> impl Iterator<Item = Shape> {
+fn shapes(n: usize, last_form: u32) -> impl Iterator<Item = Shape> {
     let counts = move |form| if has_count(form) { n } else { 1 };
     let shape = |form, count: usize| {
         let (names, others) = children(form, count as u32);
         Shape { form, names: names as usize, others: others as usize }
     };
-    let all = (IF..=SET).flat_map(move |form| (0..counts(form)).map(move |count| shape(form, count)));
-    all.filter(move |s| s.names + s.others < n.max(1) || (s.form == BEGIN && n == 1))
-        .filter(|s| s.form != CALL || s.others > 0)
+    let all = (IF..=last_form).flat_map(move |form| (0..counts(form)).map(move |count| shape(form, count)));
+    all.filter(move |s| s.names + s.others < n.max(1) || (matches!(s.form, BEGIN | AND) && n == 1))
+        .filter(|s| !needs_a_child(s.form) || s.others > 0)
 }
 
 impl Exhaustive {
-    pub fn new(most: usize, names: u64) -> Self {
-        let mut all = Exhaustive { names, sequences: vec![vec![1]], expressions: vec![0] };
+    /// Of the forms up to this one.
+    pub fn new(most: usize, names: u64, last_form: u32) -> Self {
+        let mut all = Exhaustive { names, last_form, sequences: vec![vec![1]], expressions: vec![0] };
         for n in 1..=most {
-            let inner: u64 = shapes(n).map(|shape| all.of_shape(n, shape)).sum();
+            let inner: u64 = shapes(n, last_form).map(|shape| all.of_shape(n, shape)).sum();
             all.expressions.push(inner + all.atoms(n));
             all.sequences.push((0..=n).map(|k| all.of_length(n, k)).collect());
         }
@@ -73,6 +75,12 @@ impl Exhaustive {
             return u64::from(n == 0);
         }
         (1..=n).map(|first| self.expressions[first] * self.sequences(n - first, k - 1)).sum()
+    }
+
+    /// The numbers of those that have one of forms 10 to 12.
+    pub fn expanded(&self) -> Vec<u64> {
+        let has = |number: &u64| self.tree(*number).iter().any(Expression::has_expanded);
+        (0..self.count()).filter(has).collect()
     }
 
     pub fn tree(&self, mut number: u64) -> Vec<Expression> {
@@ -112,7 +120,7 @@ impl Exhaustive {
                 None => Expression::identifier(number as u32),
             };
         };
-        for shape in shapes(n) {
+        for shape in shapes(n, self.last_form) {
             match number.checked_sub(self.of_shape(n, shape)) {
                 Some(left) => number = left,
                 None => return self.expression_of(n, shape, number),
@@ -138,18 +146,26 @@ impl Exhaustive {
 #[cfg(test)]
 mod tests {
     use super::Exhaustive;
+    use crate::record::{SET, UNLESS};
     use std::collections::HashSet;
 
     /// An empty tree; x, y, 1, #f and (begin); then 45 of two records.
     #[test]
     fn small_numbers() {
-        let counts: Vec<u64> = (0..=4).map(|most| Exhaustive::new(most, 2).count()).collect();
+        let counts: Vec<u64> = (0..=4).map(|most| Exhaustive::new(most, 2, SET).count()).collect();
         assert_eq!(counts, [1, 6, 51, 536, 6266]);
+    }
+
+    /// (and); of two records eleven pairs with (and), four other forms of (and), and the three forms of each of six.
+    #[test]
+    fn small_numbers_with_forms_10_to_12() {
+        let count = |most| Exhaustive::new(most, 2, UNLESS).expanded().len();
+        assert_eq!([0, 1, 2].map(count), [0, 1, 34]);
     }
 
     #[test]
     fn no_tree_twice() {
-        let all = Exhaustive::new(4, 2);
+        let all = Exhaustive::new(4, 2, UNLESS);
         let trees: HashSet<String> = (0..all.count()).map(|i| format!("{:?}", all.tree(i))).collect();
         assert_eq!(trees.len() as u64, all.count());
     }

@@ -1,6 +1,7 @@
 //! What both sides are fed. Every case is found from the seed and its number alone.
 
 pub mod damage;
+pub mod deep;
 pub mod exhaustive;
 pub mod limits;
 pub mod scripts;
@@ -11,9 +12,9 @@ use crate::expression::{numbers, Expression, Own};
 use crate::random::Random;
 use crate::record::Input;
 use exhaustive::Exhaustive;
-use trees::{tree, Style};
+use trees::{Mix, Style};
 
-/// Each tree of the exhaustive set is given twice: with classes 0 and rising ids, and with the classes that its
+/// Each tree of an exhaustive set is given twice: with classes 0 and rising ids, and with the classes that its
 /// number says and ids in some order.
 pub fn exhaustive_case(all: &Exhaustive, number: u64) -> Case {
     let (tree, second) = (all.tree(number / 2), number % 2 == 1);
@@ -58,10 +59,13 @@ fn ids(random: &mut Random, size: usize) -> Vec<u32> {
 }
 
 /// A random tree of exactly `size` records.
-pub fn random_input(random: &mut Random, size: usize) -> Input {
+pub fn random_input(random: &mut Random, size: usize, mix: Mix) -> Input {
     let names = names(random, size);
-    let style = Style::new(random, size > 60);
-    let tree = tree(random, style, names, size);
+    let style = Style::new(random, size > 60, mix);
+    let mut tree = trees::tree(random, style, names, size);
+    while mix == Mix::Surely && !tree.iter().any(Expression::has_expanded) {
+        tree = trees::tree(random, style, names, size);
+    }
     let ids = ids(random, size);
     let places: Vec<u32> = (0..2 * size).map(|_| random.next() as u32).collect();
     let own = |at: usize| Own { id: ids[at], from: places[2 * at], to: places[2 * at + 1] };
@@ -70,14 +74,19 @@ pub fn random_input(random: &mut Random, size: usize) -> Input {
 }
 
 /// The random tree of this number, with from `least` to `most` records.
-pub fn random_case(seed: u64, number: u64, least: usize, most: usize) -> (Case, Random) {
-    let mut random = Random::new(seed, "random", number);
+pub fn random_case(seed: u64, number: u64, (least, most): (usize, usize), mix: Mix) -> (Case, Random) {
+    let of = if mix == Mix::Surely { "expanded" } else { "random" };
+    let mut random = Random::new(seed, of, number);
     let size = random.from(least, most);
-    (Case::new(random_input(&mut random, size)), random)
+    (Case::new(random_input(&mut random, size, mix)), random)
 }
 
-pub fn damaged_case(seed: u64, number: u64, least: usize, most: usize) -> Case {
-    let (mut case, mut random) = random_case(seed, number, least, most);
+pub fn deep_case(seed: u64, number: u64) -> Case {
+    Case::new(deep::deep(&mut Random::new(seed, "deep", number)))
+}
+
+pub fn damaged_case(seed: u64, number: u64, sizes: (usize, usize)) -> Case {
+    let (mut case, mut random) = random_case(seed, number, sizes, Mix::Perhaps);
     damage::damage(&mut case, &mut random);
     case
 }
@@ -85,23 +94,28 @@ pub fn damaged_case(seed: u64, number: u64, least: usize, most: usize) -> Case {
 #[cfg(test)]
 mod tests {
     use super::*;
-    use crate::record::WIDTH;
+    use crate::record::{is_expanded, records, WIDTH};
     use crate::refusals;
 
     #[test]
     fn random_trees_are_trees_of_the_size_asked_for() {
         for number in 0..300 {
             for size in [1, 2, 3, 30, 60, 61, 700, 4096] {
-                let input = random_input(&mut Random::new(7, "test", number), size);
-                assert_eq!(input.numbers.len(), WIDTH * size);
-                assert_eq!(refusals::first(&Case::new(input)), None);
+                for mix in [Mix::Never, Mix::Perhaps, Mix::Surely] {
+                    let input = random_input(&mut Random::new(7, "test", number), size, mix);
+                    assert_eq!(input.numbers.len(), WIDTH * size);
+                    let has = records(&input.numbers).iter().any(|r| is_expanded(r.form));
+                    assert!(has || mix != Mix::Surely);
+                    assert!(!has || mix != Mix::Never);
+                    assert_eq!(refusals::first(&Case::new(input)), None);
+                }
             }
         }
     }
 
     #[test]
     fn the_same_number_gives_the_same_case() {
-        let [one, two] = [(); 2].map(|_| damaged_case(1, 5, 61, 4096));
+        let [one, two] = [(); 2].map(|_| damaged_case(1, 5, (61, 4096)));
         assert_eq!((one.input.numbers, one.lent), (two.input.numbers, two.lent));
     }
 }

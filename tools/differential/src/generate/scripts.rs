@@ -1,7 +1,7 @@
 //! The scripts of tools/trial: document 01's, and odd corners of the rules.
 
 use crate::expression::{numbers, Expression, Own};
-use crate::record::{Input, BEGIN, CALL, DEFINE, IF, LAMBDA, LET, SET};
+use crate::record::{Input, AND, BEGIN, CALL, DEFINE, IF, LAMBDA, LET, SET, UNLESS, WHEN};
 
 const TEXT: &str = include_str!("../../../trial/scripts.txt");
 
@@ -78,6 +78,9 @@ fn expression(datum: &Datum, names: &mut Names) -> Expression {
     match word {
         "if" => Expression::new(IF, vec![], every(&list[1..])),
         "begin" => Expression::new(BEGIN, vec![], every(&list[1..])),
+        "and" => Expression::new(AND, vec![], every(&list[1..])),
+        "when" => Expression::new(WHEN, vec![], every(&list[1..])),
+        "unless" => Expression::new(UNLESS, vec![], every(&list[1..])),
         "let" => bindings(&list[1], &list[2], names),
         "lambda" => {
             let Datum::List(parameters) = &list[1] else { panic!("parameters") };

@@ -2,7 +2,7 @@
 
 use crate::expression::Expression;
 use crate::random::Random;
-use crate::record::{BEGIN, CALL, DEFINE, IF, LAMBDA, LET, SET};
+use crate::record::{AND, BEGIN, CALL, DEFINE, IF, LAMBDA, LET, SET, UNLESS, WHEN};
 
 const MOST_NESTING: usize = 64;
 const MOST_COUNT: usize = 255;
@@ -10,8 +10,8 @@ const MOST_COUNT: usize = 255;
 /// What a tree leans to.
 #[derive(Clone, Copy)]
 pub struct Style {
-    /// Of if, let, define, lambda, begin, call, set!.
-    weights: [usize; 7],
+    /// Of if, let, define, lambda, begin, call, set!, and, when, unless.
+    weights: [usize; 10],
     /// How often a set! may have a parameter or let name as its target.
     set_local: usize,
     /// How often a binder is chosen without looking at its layer.
@@ -29,15 +29,39 @@ const WEIGHTS: [[usize; 7]; 7] = [
     [3, 3, 0, 3, 3, 9, 1],
 ];
 
+/// Whether a tree has forms 10 to 12.
+#[derive(Clone, Copy, Debug, PartialEq, Eq)]
+pub enum Mix {
+    Never,
+    Perhaps,
+    Surely,
+}
+
+/// Of and, when, unless, beside those above.
+const EXPANDED: [[usize; 3]; 4] = [[1, 1, 1], [6, 0, 0], [1, 3, 3], [8, 4, 4]];
+
 impl Style {
     /// In a large tree one set! too many is enough for refusal 11 or 12, one careless binder for 9.
-    pub fn new(random: &mut Random, large: bool) -> Self {
-        let weights = random.pick(&WEIGHTS);
+    pub fn new(random: &mut Random, large: bool, mix: Mix) -> Self {
+        let mut weights = [0; 10];
+        weights[..7].copy_from_slice(&random.pick(&WEIGHTS));
         let (set_local, careless) = match large {
             false => (random.pick(&[0, 50, 100]), random.pick(&[0, 0, 0, 10])),
             true => (random.pick(&[0, 0, 0, 1, 20]), 0),
         };
+        let has = match mix {
+            Mix::Never => false,
+            Mix::Perhaps => random.percent(50),
+            Mix::Surely => true,
+        };
+        if has {
+            weights[7..].copy_from_slice(&random.pick(&EXPANDED));
+        }
         Style { weights, set_local, careless }
+    }
+
+    fn has_expanded(&self) -> bool {
+        self.weights[7] > 0
     }
 }
 
@@ -137,6 +161,7 @@ impl Maker<'_> {
         match self.random.below(100) {
             0..=9 => Expression::constant(self.random.percent(50)),
             10..=12 => Expression::new(BEGIN, vec![], vec![]),
+            13..=15 if self.style.has_expanded() => Expression::new(AND, vec![], vec![]),
             _ => Expression::identifier(self.name()),
         }
     }
@@ -155,12 +180,41 @@ impl Maker<'_> {
             LET => self.make_let(size, nesting),
             DEFINE if size >= 3 => self.define(size, nesting),
             LAMBDA => self.lambda(size, nesting),
-            BEGIN => self.begin(size, nesting),
+            BEGIN => {
+                let sizes = self.sizes(size);
+                Expression::new(BEGIN, vec![], self.begin(&sizes, nesting))
+            }
+            AND => {
+                let sizes = self.sizes(size);
+                Expression::new(AND, vec![], self.every(&sizes, nesting))
+            }
+            WHEN | UNLESS => {
+                let sizes = self.sizes(size);
+                let mut kids = self.every(&sizes[..1], nesting);
+                kids.extend(self.begin(&sizes[1..], nesting));
+                Expression::new(form, vec![], kids)
+            }
             SET if size >= 3 => {
                 let value = self.expression(size - 2, nesting + 1);
                 Expression::new(SET, vec![self.target()], vec![value])
             }
             _ => self.call(size, nesting),
+        }
+    }
+
+    /// Of some children of an expression of this size.
+    fn sizes(&mut self, size: usize) -> Vec<usize> {
+        let count = self.count(1, size - 1);
+        self.shares(size - 1, count)
+    }
+
+    /// How many `and`s of one child to put around what has so many records to spare, at this nesting.
+    fn around(&mut self, spare: usize, nesting: usize) -> usize {
+        let most = spare.min(MOST_NESTING.saturating_sub(nesting)).min(2);
+        if self.style.has_expanded() && self.random.percent(30) {
+            self.random.from(0, most)
+        } else {
+            0
         }
     }
 
@@ -181,17 +235,28 @@ impl Maker<'_> {
         let count = self.count(1, size - 1);
         let mut sizes = self.shares(size - 1, count);
         let named = self.random.percent(60);
+        let mut ands = 0;
         if named {
+            ands = self.around(sizes[0] - 1, nesting + 1);
             sizes[0] = 1;
         }
-        let arguments = self.every(&sizes[1..], nesting);
+        let arguments: Vec<Expression> =
+            sizes[1..].iter().map(|size| self.argument(*size, nesting + 1)).collect();
         let head = match self.context {
             Some(name) if named && self.random.percent(40) => Expression::identifier(name),
             _ if named => Expression::identifier(self.name()),
             _ => self.expression(sizes[0], nesting + 1),
         };
-        let kids = [head].into_iter().chain(arguments).collect();
+        let kids = [in_ands(head, ands)].into_iter().chain(arguments).collect();
         Expression::new(CALL, vec![], kids)
+    }
+
+    /// Now and then a name in `and`s of one child.
+    fn argument(&mut self, size: usize, nesting: usize) -> Expression {
+        match self.around(size - 1, nesting) {
+            0 => self.expression(size, nesting),
+            ands => in_ands(Expression::identifier(self.name()), ands),
+        }
     }
 
     fn make_let(&mut self, size: usize, nesting: usize) -> Expression {
@@ -235,14 +300,16 @@ impl Maker<'_> {
         }
         let body = match self.random.below(4) {
             0 if size >= 5 && deeper => {
-                let kids = [self.any_name(), self.any_name()].map(Expression::identifier);
-                Expression::new(CALL, vec![], kids.into())
+                let first = self.around(size - 5, nesting + 2);
+                let second = self.around(size - 5 - first, nesting + 2);
+                let [getter, module] = [self.any_name(), self.any_name()].map(Expression::identifier);
+                Expression::new(CALL, vec![], vec![in_ands(getter, first), in_ands(module, second)])
             }
             1 => Expression::identifier(self.name()),
             _ => self.expression(size - 2, nesting + 1),
         };
         match self.binder() {
-            Some(name) if body.form != LAMBDA => {
+            Some(name) if body.core().form != LAMBDA => {
                 self.enter(name);
                 Expression::new(DEFINE, vec![name], vec![body])
             }
@@ -253,38 +320,43 @@ impl Maker<'_> {
     /// The name has entered.
     fn lambda_define(&mut self, name: u32, size: usize, nesting: usize) -> Expression {
         let context = self.context.replace(name);
-        let body = self.lambda(size - 2, nesting + 1);
+        let ands = self.around(size - 4, nesting + 2);
+        let body = self.lambda(size - 2 - ands, nesting + 1 + ands);
         self.context = context;
-        Expression::new(DEFINE, vec![name], vec![body])
+        Expression::new(DEFINE, vec![name], vec![in_ands(body, ands)])
     }
 
-    /// Its lambda defines enter first.
-    fn begin(&mut self, size: usize, nesting: usize) -> Expression {
-        let count = self.count(1, size - 1);
-        let sizes = self.shares(size - 1, count);
+    /// The children of a begin, or what follows a test. Lambda defines enter first.
+    fn begin(&mut self, sizes: &[usize], nesting: usize) -> Vec<Expression> {
         let room = nesting + 2 < MOST_NESTING && self.style.weights[2] > 0;
         let mut plan = Vec::new();
-        for size in &sizes {
+        for size in sizes {
             let define = room && *size >= 4 && self.random.percent(30);
             let name = if define { self.binder() } else { None };
             name.into_iter().for_each(|name| self.enter(name));
             plan.push(name);
         }
         let kid = |(size, name): (&usize, Option<u32>)| match name {
-            Some(name) => self.lambda_define(name, *size, nesting + 1),
+            Some(name) => {
+                let ands = self.around(*size - 4, nesting + 3);
+                in_ands(self.lambda_define(name, *size - ands, nesting + 1 + ands), ands)
+            }
             None => self.begin_kid(*size, nesting + 1),
         };
-        let kids = sizes.iter().zip(plan).map(kid).collect();
-        Expression::new(BEGIN, vec![], kids)
+        sizes.iter().zip(plan).map(kid).collect()
     }
 
     /// A lambda define would have entered too late: of such a one the lambda alone.
     fn begin_kid(&mut self, size: usize, nesting: usize) -> Expression {
-        let mut kid = self.expression(size, nesting);
+        let kid = self.expression(size, nesting);
         if kid.is_lambda_define() {
-            kid.kids.remove(0)
+            kid.core().kids[0].clone()
         } else {
             kid
         }
     }
+}
+
+fn in_ands(e: Expression, ands: usize) -> Expression {
+    (0..ands).fold(e, |inner, _| Expression::new(AND, vec![], vec![inner]))
 }
