@@ -102,7 +102,7 @@ FactsExpanded =
     → NineFormsIn (expands ts) × (fresh classes (expands ts) ≡ fresh classes ts) × (settled classes (expands ts) ≡ settled classes ts)
 
 -- "Whether a define is inner, and what a call's head or a define's body is, is judged on the expansion": inner defines, mentions and what they mean, and
--- each call's record and whether it stands in tail position are those of the expansion. So the claims above hold of it too.
+-- each call's record and whether it stands in tail position are those of the expansion. What a head or a body is shows in the facts.
 
 abbrev pub JudgedExpanded : Type 0
 JudgedExpanded =

@@ -1,5 +1,5 @@
--- Scripts with and, when and unless, each with what the order's document says of it (document 02, order 7; compared there with the original on the
--- expanded tree), and that the definitions say so.
+-- Scripts with and, when and unless, each with facts or refusals that were given with order 7 of document 02, where they had been compared with the
+-- original on the expanded tree, and that the definitions say so.
 use mathlib.Core.List.{List, [], _∷_, map}
 use mathlib.Core.Bool.{true, false}
 use mathlib.Core.Option.{none, some}

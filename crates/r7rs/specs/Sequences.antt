@@ -84,7 +84,8 @@ record Case : Type 0 where
 abbrev ran : List (Made × Option Last) → Last → Ran
 ran ms l = record { moments = ms; last = l }
 
--- what the order's document says of each
+-- What each comes to. Of ten the moments and the last value were given with the order; (when 5 6 7), (unless #f 5) and (unless 5 6), and the value in
+-- hand at moments for which none was given, are read off its statement.
 abbrev cases : List Case
 cases =
     -- (and): its value is given in the moment of entering

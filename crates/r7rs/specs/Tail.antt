@@ -11,8 +11,8 @@ pub record Call : Type 0 where
   pub tail : Bool
 
 -- The calls of an expression, which stands in tail position itself where `t` says so. "The last expression within the body of a lambda expression
--- occurs in a tail context." Of an expression in one, so do both branches of an if, the body of a let, "(and ⟨expression⟩* ⟨tail expression⟩)", what
--- ends "(when ⟨test⟩ ⟨tail sequence⟩)" and "(unless ⟨test⟩ ⟨tail sequence⟩)", and the last child of a begin, if it is an expression: a define is none.
+-- occurs in a tail context." Of an expression in one, so do both branches of an if, the body of a let, the last child of an and, the last of what
+-- follows the test of a when or an unless, and the last child of a begin, if it is an expression: a define is none.
 unfoldable mutual
   pub calls : Tree → Bool → List Call
   calls (ident x) t = []

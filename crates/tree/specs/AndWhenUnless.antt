@@ -45,7 +45,7 @@ pub checks-hold : map (λ (c : Checked). refusal 1 (numbers (c .records))) check
 unfolding layout records fits formOf namesOf othersOf closed after placed left first repeated check1 check2 check3 check4 check5 check6 check7 check16 check8 refusal
 checks-hold = refl
 
--- At top level an and of one child is seen through, and no other: "a define in a when or in an and of two is inner"
+-- At top level an and of one child is seen through, and nothing else: a define in a when or in an and of two is an inner one
 
 one-child : (n : Node) (t : Tree) (ts : Trees) → topLevel (cons (sequence (ands n) (cons t nil)) ts) ≡ topLevel (cons t ts)
 unfolding topLevel
