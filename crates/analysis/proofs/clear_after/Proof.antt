@@ -6,23 +6,11 @@ use borrow.Author.Needs.{needs}
 use Rattle.analysis.proofs.clear_after.Statement.{statement}
 use Rattle.analysis.proofs.clear_after.Tie as tie
 
-enum-told : tie.Need-enum-told
-enum-told c = search needs
-
 clear-work-requires : tie.Need-clear-work-requires
 clear-work-requires c κs =
     let e = c .before in
     let o = e .before .before .before .before .before .before in
     (long _ (o .pre .0) .work, o .pre .1 (ap refusalIn (e .enum-told .given .1)))
-
-enum-told-2 : tie.Need-enum-told-2
-enum-told-2 c = search needs
-
-clear-all-requires : tie.Need-clear-all-requires
-clear-all-requires c κs = search needs
-
-same-length : tie.Need-same-length
-same-length c = search needs
 
 returns : tie.Need-returns
 returns c =
@@ -32,18 +20,6 @@ returns c =
     let a = o .args in
     left-facts (a .facts .now) (a .captured .now) (a .arguments .now) (a .work .now) (e .enum-told .given .1) (k .clear-work .ensures)
 
-same-length-2 : tie.Need-same-length-2
-same-length-2 c = search needs
-
-same-length-3 : tie.Need-same-length-3
-same-length-3 c = search needs
-
-same-length-4 : tie.Need-same-length-4
-same-length-4 c = search needs
-
-same-length-5 : tie.Need-same-length-5
-same-length-5 c = search needs
-
 returns-2 : tie.Need-returns-2
 returns-2 c =
     let k = c .before .before .before .before .before .before .before .before in
@@ -51,16 +27,5 @@ returns-2 c =
 
 pub clear-after-spec : {M : Type 1} → statement M
 clear-after-spec =
-    tie.close
-    (tie.spec
-    enum-told
-    clear-work-requires
-    enum-told-2
-    clear-all-requires
-    same-length
-    returns
-    same-length-2
-    same-length-3
-    same-length-4
-    same-length-5
-    returns-2)
+    tie.close (tie.spec (λ c. search needs) clear-work-requires (λ c. search needs) (λ c κs. search needs) (λ c. search needs) returns
+    (λ c. search needs) (λ c. search needs) (λ c. search needs) (λ c. search needs) returns-2)

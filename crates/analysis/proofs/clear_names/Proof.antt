@@ -11,24 +11,6 @@ use borrow.Author.Needs.{needs}
 use Rattle.analysis.proofs.clear_names.Statement.{statement}
 use Rattle.analysis.proofs.clear_names.Tie as tie
 
-clear-part-requires : tie.Need-clear-part-requires
-clear-part-requires c κs = search needs
-
-mul-clear-part : tie.Need-mul-clear-part
-mul-clear-part c = search needs
-
-add-clear-part : tie.Need-add-clear-part
-add-clear-part c = search needs
-
-clear-part-requires-2 : tie.Need-clear-part-requires-2
-clear-part-requires-2 c κs = search needs
-
-clear-part-requires-3 : tie.Need-clear-part-requires-3
-clear-part-requires-3 c κs = search needs
-
-same-length : tie.Need-same-length
-same-length c = search needs
-
 returns : tie.Need-returns
 returns c =
     let k3 = c .before .before in
@@ -47,5 +29,5 @@ returns c =
 
 pub clear-names-spec : {M : Type 1} → statement M
 clear-names-spec =
-    tie.close
-    (tie.spec clear-part-requires mul-clear-part add-clear-part clear-part-requires-2 clear-part-requires-3 same-length returns)
+    tie.close (tie.spec (λ c κs. search needs) (λ c. search needs) (λ c. search needs) (λ c κs. search needs) (λ c κs. search needs)
+    (λ c. search needs) returns)

@@ -6,15 +6,6 @@ use borrow.Author.Needs.{needs}
 use Rattle.analysis.proofs.clear_start.Statement.{statement}
 use Rattle.analysis.proofs.clear_start.Tie as tie
 
-clear-requires : tie.Need-clear-requires
-clear-requires c κs = search needs
-
-clear-requires-2 : tie.Need-clear-requires-2
-clear-requires-2 c κs = search needs
-
-clear-requires-3 : tie.Need-clear-requires-3
-clear-requires-3 c κs = search needs
-
 clear-names-requires : tie.Need-clear-names-requires
 clear-names-requires c κs =
     let o = c .before .before .before .before .before .before .before .before .before .before .before .before .before .before .before .before .before in
@@ -25,18 +16,6 @@ clear-part-requires c κs =
     let k4 = c .before .before .before in
     let o = k4 .before .before .before .before .before .before .before .before .before .before .before .before .before .before .before .before .before .before in
     (omega arith, omega (arith, k4 .clear-names .kept .0, long _ (o .pre) .work))
-
-same-length : tie.Need-same-length
-same-length c = search needs
-
-same-length-2 : tie.Need-same-length-2
-same-length-2 c = search needs
-
-same-length-3 : tie.Need-same-length-3
-same-length-3 c = search needs
-
-same-length-4 : tie.Need-same-length-4
-same-length-4 c = search needs
 
 returns : tie.Need-returns
 returns c =
@@ -52,15 +31,5 @@ returns c =
 
 pub clear-start-spec : {M : Type 1} → statement M
 clear-start-spec =
-    tie.close
-    (tie.spec
-    clear-requires
-    clear-requires-2
-    clear-requires-3
-    clear-names-requires
-    clear-part-requires
-    same-length
-    same-length-2
-    same-length-3
-    same-length-4
-    returns)
+    tie.close (tie.spec (λ c κs. search needs) (λ c κs. search needs) (λ c κs. search needs) clear-names-requires clear-part-requires
+    (λ c. search needs) (λ c. search needs) (λ c. search needs) (λ c. search needs) returns)

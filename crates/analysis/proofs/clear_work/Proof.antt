@@ -10,21 +10,6 @@ use borrow.Author.Needs.{needs}
 use Rattle.analysis.proofs.clear_work.Statement.{statement}
 use Rattle.analysis.proofs.clear_work.Tie as tie
 
-mul-clear-part : tie.Need-mul-clear-part
-mul-clear-part c = search needs
-
-add-clear-part : tie.Need-add-clear-part
-add-clear-part c = search needs
-
-clear-part-requires : tie.Need-clear-part-requires
-clear-part-requires c κs = search needs
-
-clear-part-requires-2 : tie.Need-clear-part-requires-2
-clear-part-requires-2 c κs = search needs
-
-same-length : tie.Need-same-length
-same-length c = search needs
-
 returns : tie.Need-returns
 returns c =
     let k2 = c .before .before in
@@ -39,5 +24,4 @@ returns c =
 
 pub clear-work-spec : {M : Type 1} → statement M
 clear-work-spec =
-    tie.close
-    (tie.spec mul-clear-part add-clear-part clear-part-requires clear-part-requires-2 same-length returns)
+    tie.close (tie.spec (λ c. search needs) (λ c. search needs) (λ c κs. search needs) (λ c κs. search needs) (λ c. search needs) returns)

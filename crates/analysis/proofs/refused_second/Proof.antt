@@ -7,8 +7,6 @@ use Rattle.analysis.proofs.refused_second.Tie as tie
 returns : tie.Need-returns
 returns c = second-refused _ _ (c .if1 .taken)
 
-returns-2 : tie.Need-returns-2
-returns-2 c = search needs
-
 pub refused-second-spec : {M : Type 1} → statement M
-refused-second-spec = tie.close (tie.spec returns returns-2)
+refused-second-spec =
+    tie.close (tie.spec returns (λ c. search needs))

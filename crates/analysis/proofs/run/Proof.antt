@@ -7,21 +7,6 @@ use borrow.Author.Needs.{needs}
 use Rattle.analysis.proofs.run.Statement.{statement}
 use Rattle.analysis.proofs.run.Tie as tie
 
-fit-requires : tie.Need-fit-requires
-fit-requires c κs = search needs
-
-same-length : tie.Need-same-length
-same-length c = search needs
-
-same-length-2 : tie.Need-same-length-2
-same-length-2 c = search needs
-
-same-length-3 : tie.Need-same-length-3
-same-length-3 c = search needs
-
-same-length-4 : tie.Need-same-length-4
-same-length-4 c = search needs
-
 returns : tie.Need-returns
 returns c = unfit-answers (sym (c .before .fit .ensures) ∙ not-true _ (c .if1 .taken))
 
@@ -29,12 +14,6 @@ clear-start-requires : tie.Need-clear-start-requires
 clear-start-requires c κs =
     let i = c .before .before .before .before in
     fit-lengths _ _ (sym (i .before .fit .ensures) ∙ not-false _ (i .if1 .left))
-
-run-checked-requires : tie.Need-run-checked-requires
-run-checked-requires c κs = search needs
-
-len-requires : tie.Need-len-requires
-len-requires c κs = search needs
 
 clear-after-requires : tie.Need-clear-after-requires
 clear-after-requires c κs =
@@ -51,18 +30,6 @@ clear-after-requires c κs =
       λ g. rw (c .before .before .before .before .len .ensures) (r .run-checked .ensures .rest g),
     )
 
-same-length-5 : tie.Need-same-length-5
-same-length-5 c = search needs
-
-same-length-6 : tie.Need-same-length-6
-same-length-6 c = search needs
-
-same-length-7 : tie.Need-same-length-7
-same-length-7 c = search needs
-
-same-length-8 : tie.Need-same-length-8
-same-length-8 c = search needs
-
 returns-2 : tie.Need-returns-2
 returns-2 c =
     let l = c .before .before .before .before .before .before .before .before in
@@ -72,20 +39,6 @@ returns-2 c =
 
 pub run-spec : {M : Type 1} → statement M
 run-spec =
-    tie.close
-    (tie.spec
-    fit-requires
-    same-length
-    same-length-2
-    same-length-3
-    same-length-4
-    returns
-    clear-start-requires
-    run-checked-requires
-    len-requires
-    clear-after-requires
-    same-length-5
-    same-length-6
-    same-length-7
-    same-length-8
-    returns-2)
+    tie.close (tie.spec (λ c κs. search needs) (λ c. search needs) (λ c. search needs) (λ c. search needs) (λ c. search needs) returns
+    clear-start-requires (λ c κs. search needs) (λ c κs. search needs) clear-after-requires (λ c. search needs) (λ c. search needs)
+    (λ c. search needs) (λ c. search needs) returns-2)

@@ -4,29 +4,11 @@ use borrow.Author.Needs.{needs}
 use Rattle.analysis.proofs.run_once.Statement.{statement}
 use Rattle.analysis.proofs.run_once.Tie as tie
 
-new-requires : tie.Need-new-requires
-new-requires c κs = search needs
-
 run-with-scope-requires : tie.Need-run-with-scope-requires
 run-with-scope-requires c κs =
     let n = c .before .before .before .before in
     let o = n .before .before .before .before .before .before .before .before in
     (o .pre .0, first-ready (o .pre .1) (n .new .ensures))
-
-refused-first-requires : tie.Need-refused-first-requires
-refused-first-requires c κs = search needs
-
-same-length : tie.Need-same-length
-same-length c = search needs
-
-same-length-2 : tie.Need-same-length-2
-same-length-2 c = search needs
-
-same-length-3 : tie.Need-same-length-3
-same-length-3 c = search needs
-
-same-length-4 : tie.Need-same-length-4
-same-length-4 c = search needs
 
 returns : tie.Need-returns
 returns c =
@@ -37,13 +19,5 @@ returns c =
 
 pub run-once-spec : {M : Type 1} → statement M
 run-once-spec =
-    tie.close
-    (tie.spec
-    new-requires
-    run-with-scope-requires
-    refused-first-requires
-    same-length
-    same-length-2
-    same-length-3
-    same-length-4
-    returns)
+    tie.close (tie.spec (λ c κs. search needs) run-with-scope-requires (λ c κs. search needs) (λ c. search needs) (λ c. search needs)
+    (λ c. search needs) (λ c. search needs) returns)

@@ -6,35 +6,11 @@ use borrow.Author.Needs.{needs}
 use Rattle.analysis.proofs.run_twice.Statement.{statement}
 use Rattle.analysis.proofs.run_twice.Tie as tie
 
-new-requires : tie.Need-new-requires
-new-requires c κs = search needs
-
 run-with-scope-requires : tie.Need-run-with-scope-requires
 run-with-scope-requires c κs =
     let n = c .before .before .before .before in
     let o = n .before .before .before .before .before .before .before .before in
     (o .pre .0, first-ready (o .pre .1) (n .new .ensures))
-
-refused-first-requires : tie.Need-refused-first-requires
-refused-first-requires c κs = search needs
-
-enum-told : tie.Need-enum-told
-enum-told c = search needs
-
-enum-told-2 : tie.Need-enum-told-2
-enum-told-2 c = search needs
-
-same-length : tie.Need-same-length
-same-length c = search needs
-
-same-length-2 : tie.Need-same-length-2
-same-length-2 c = search needs
-
-same-length-3 : tie.Need-same-length-3
-same-length-3 c = search needs
-
-same-length-4 : tie.Need-same-length-4
-same-length-4 c = search needs
 
 returns : tie.Need-returns
 returns c =
@@ -43,9 +19,6 @@ returns c =
     refused-ends (n .before .before .before .before .before .before .before .before .pre .1) (n .new .ensures)
     (r .run-with-scope .ensures) (c .enum-told2 .given .1) (c .before .before .refused-first .ensures)
 
-len-requires : tie.Need-len-requires
-len-requires c κs = search needs
-
 clear-names-requires : tie.Need-clear-names-requires
 clear-names-requires c κs =
     let r = c .before .before .before .before .before .before .before .before .before .before .before .before .before in
@@ -53,9 +26,6 @@ clear-names-requires c κs =
     let o = n .before .before .before .before .before .before .before .before in
     let z = r .run-with-scope .kept .1 .1 .1 .1 .1 .1 .1 .0 in
     (omega (arith, work-long (o .pre .1), z), rw (c .len .ensures) (first-rested (o .pre .1) (n .new .ensures) (r .run-with-scope .ensures)))
-
-new-requires-2 : tie.Need-new-requires-2
-new-requires-2 c κs = search needs
 
 run-with-scope-requires-2 : tie.Need-run-with-scope-requires-2
 run-with-scope-requires-2 c κs =
@@ -68,9 +38,6 @@ run-with-scope-requires-2 c κs =
       second-ready (o .pre .1) (n .new .ensures) (r .run-with-scope .ensures) (k .before .before .before .enum-told .given .1)
           (f .refused-first .ensures) (c .before .before .before .before .new2 .ensures) (k .clear-names .ensures),
     )
-
-refused-second-requires : tie.Need-refused-second-requires
-refused-second-requires c κs = search needs
 
 same-length-5 : tie.Need-same-length-5
 same-length-5 c =
@@ -114,25 +81,6 @@ returns-2 c =
 
 pub run-twice-spec : {M : Type 1} → statement M
 run-twice-spec =
-    tie.close
-    (tie.spec
-    new-requires
-    run-with-scope-requires
-    refused-first-requires
-    enum-told
-    enum-told-2
-    same-length
-    same-length-2
-    same-length-3
-    same-length-4
-    returns
-    len-requires
-    clear-names-requires
-    new-requires-2
-    run-with-scope-requires-2
-    refused-second-requires
-    same-length-5
-    same-length-6
-    same-length-7
-    same-length-8
-    returns-2)
+    tie.close (tie.spec (λ c κs. search needs) run-with-scope-requires (λ c κs. search needs) (λ c. search needs) (λ c. search needs)
+    (λ c. search needs) (λ c. search needs) (λ c. search needs) (λ c. search needs) returns (λ c κs. search needs) clear-names-requires
+    (λ c κs. search needs) run-with-scope-requires-2 (λ c κs. search needs) same-length-5 same-length-6 same-length-7 same-length-8 returns-2)

@@ -15,16 +15,10 @@ Inv-loop line₀ classes₀ records₀ r₀ turns₀ line classes records r turn
 abbrev μ-loop : tie.MeasureT-loop
 μ-loop line₀ classes₀ records₀ r₀ turns₀ line classes records r turns = turns
 
-start-requires : tie.Need-start-requires Inv-loop μ-loop
-start-requires c κs = search needs
-
 loop-holds : tie.Need-loop-holds Inv-loop μ-loop
 loop-holds c =
     let o = c .before .before .before .before in
     (refl, refl, refl, record { bytes = []; holds = c .start .ensures .is (o .args .line .now) (o .args .classes .now) (o .args .records .now) (o .pre) })
-
-read-chunk-requires : tie.Need-read-chunk-requires Inv-loop μ-loop
-read-chunk-requires c κs = search needs
 
 same-length : tie.Need-same-length Inv-loop μ-loop
 same-length c = let r = c .before .before .before .before .before .before .before .before .before in r .read-chunk .kept .0 ∙ r .before .before .before .before .before .loop .inv .0
@@ -38,12 +32,6 @@ same-length-3 c = let r = c .before .before .before .before .before .before .bef
 returns : tie.Need-returns Inv-loop μ-loop
 returns c = let r = c .before .before .before .before .before .before .before .before .before in read-on (r .before .before .before .before .before .loop .inv .3) (r .read-chunk .ensures)
 
-sub-turns : tie.Need-sub-turns Inv-loop μ-loop
-sub-turns c = omega arith
-
-loop-less : tie.Need-loop-less Inv-loop μ-loop
-loop-less c = omega arith
-
 loop-again : tie.Need-loop-again Inv-loop μ-loop
 loop-again c =
     let r = c .before .before .before .before .before .before .before .before .before in
@@ -51,35 +39,10 @@ loop-again c =
     let k = r .read-chunk .kept in
     (k .0 ∙ v .0, k .1 .0 ∙ v .1, k .1 .1 .0 ∙ v .2, read-on (v .3) (r .read-chunk .ensures))
 
-same-length-4 : tie.Need-same-length-4 Inv-loop μ-loop
-same-length-4 c = search needs
-
-same-length-5 : tie.Need-same-length-5 Inv-loop μ-loop
-same-length-5 c = search needs
-
-same-length-6 : tie.Need-same-length-6 Inv-loop μ-loop
-same-length-6 c = search needs
-
 returns-2 : tie.Need-returns-2 Inv-loop μ-loop
 returns-2 c = c .before .loop .inv .3
 
 pub read-all-spec : {M : Type 1} → statement M
 read-all-spec =
-    tie.close
-    (tie.spec
-    Inv-loop
-    μ-loop
-    start-requires
-    loop-holds
-    read-chunk-requires
-    same-length
-    same-length-2
-    same-length-3
-    returns
-    sub-turns
-    loop-less
-    loop-again
-    same-length-4
-    same-length-5
-    same-length-6
-    returns-2)
+    tie.close (tie.spec Inv-loop μ-loop (λ c κs. search needs) loop-holds (λ c κs. search needs) same-length same-length-2 same-length-3 returns
+    (λ c. omega arith) (λ c. omega arith) loop-again (λ c. search needs) (λ c. search needs) (λ c. search needs) returns-2)

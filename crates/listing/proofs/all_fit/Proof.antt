@@ -16,13 +16,11 @@ returns-2 : tie.Need-returns-2
 unfolding allFit
 returns-2 c = rw (eq-eqb _ _ (c .before .if1 .left), ne-eqb _ _ (c .if2 .taken))
 
-fit-requires : tie.Need-fit-requires
-fit-requires c κs = search needs
-
 returns-3 : tie.Need-returns-3
 unfolding allFit
 returns-3 c =
     rw (eq-eqb _ _ (c .before .before .if1 .left), eq-eqb _ _ (c .before .if2 .left)) (c .fit .ensures ∙ whole-fits _ _ (omega arith))
 
 pub all-fit-spec : {M : Type 1} → statement M
-all-fit-spec = tie.close (tie.spec returns returns-2 fit-requires returns-3)
+all-fit-spec =
+    tie.close (tie.spec returns returns-2 (λ c κs. search needs) returns-3)

@@ -8,30 +8,12 @@ use Rattle.listing.proofs.Rows.{facts-in}
 use Rattle.listing.proofs.facts_text.Statement.{statement}
 use Rattle.listing.proofs.facts_text.Tie as tie
 
-rows-text-requires : tie.Need-rows-text-requires
-rows-text-requires c κs = search needs
-
-sub-summary : tie.Need-sub-summary
-sub-summary c = search needs
-
-part-summary-start : tie.Need-part-summary-start
-part-summary-start c = search needs
-
-part-summary-end : tie.Need-part-summary-end
-part-summary-end c = search needs
-
-summary-requires : tie.Need-summary-requires
-summary-requires c κs = search needs
-
 add-result : tie.Need-add-result
 add-result c =
     let c₁ = c .before .before in
     let c₂ = c₁ .before .before .before .before in
     let c₃ = c₂ .before .before .before .before in
     omega (arith, c₁ .summary .ensures .short, c₂ .rows-text .ensures .short, c₃ .pre)
-
-same-length : tie.Need-same-length
-same-length c = search needs
 
 returns : tie.Need-returns
 returns c =
@@ -48,13 +30,5 @@ returns c =
 
 pub facts-text-spec : {M : Type 1} → statement M
 facts-text-spec =
-    tie.close
-    (tie.spec
-    rows-text-requires
-    sub-summary
-    part-summary-start
-    part-summary-end
-    summary-requires
-    add-result
-    same-length
-    returns)
+    tie.close (tie.spec (λ c κs. search needs) (λ c. search needs) (λ c. search needs) (λ c. search needs) (λ c κs. search needs) add-result
+    (λ c. search needs) returns)

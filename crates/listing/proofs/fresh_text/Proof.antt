@@ -7,9 +7,6 @@ use borrow.Author.Needs.{needs}
 use Rattle.listing.proofs.fresh_text.Statement.{statement}
 use Rattle.listing.proofs.fresh_text.Tie as tie
 
-mul-numbers : tie.Need-mul-numbers
-mul-numbers c = search needs
-
 slice-aggregate-part : tie.Need-slice-aggregate-part
 slice-aggregate-part c = let o = c .before .before .before .before .before .before .before .before in sym (part-long (o .pre .0))
 
@@ -18,29 +15,11 @@ slice-aggregate-first c =
     let o = c .before .before .before .before .before .before .before .before .before in
     sym (length-take-le (o .args .names) (o .args .classes .now) (class-room (o .pre .0)))
 
-fresh-requires : tie.Need-fresh-requires
-fresh-requires c κs = search needs
-
 outcome-text-requires : tie.Need-outcome-text-requires
 outcome-text-requires c κs =
     let f = c .before .before .before .before .before .before .before .before .before .before in
     let o = f .before .before .before .before .before .before .before .before .before .before .before .before .before .before in
     (f .fresh .kept .1 .1 .0 ∙ facts-long (o .pre .0), o .pre .0 .records, o .pre .1)
-
-same-length : tie.Need-same-length
-same-length c = search needs
-
-same-length-2 : tie.Need-same-length-2
-same-length-2 c = search needs
-
-same-length-3 : tie.Need-same-length-3
-same-length-3 c = search needs
-
-same-length-4 : tie.Need-same-length-4
-same-length-4 c = search needs
-
-same-length-5 : tie.Need-same-length-5
-same-length-5 c = search needs
 
 returns : tie.Need-returns
 returns c =
@@ -51,16 +30,5 @@ returns c =
 
 pub fresh-text-spec : {M : Type 1} → statement M
 fresh-text-spec =
-    tie.close
-    (tie.spec
-    mul-numbers
-    slice-aggregate-part
-    slice-aggregate-first
-    fresh-requires
-    outcome-text-requires
-    same-length
-    same-length-2
-    same-length-3
-    same-length-4
-    same-length-5
-    returns)
+    tie.close (tie.spec (λ c. search needs) slice-aggregate-part slice-aggregate-first (λ c κs. search needs) outcome-text-requires
+    (λ c. search needs) (λ c. search needs) (λ c. search needs) (λ c. search needs) (λ c. search needs) returns)

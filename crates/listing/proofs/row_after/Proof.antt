@@ -10,24 +10,6 @@ use Rattle.listing.proofs.Rows.{put-after}
 use Rattle.listing.proofs.row_after.Statement.{statement}
 use Rattle.listing.proofs.row_after.Tie as tie
 
-sub-row-line : tie.Need-sub-row-line
-sub-row-line c = search needs
-
-part-row-line-start : tie.Need-part-row-line-start
-part-row-line-start c = search needs
-
-part-row-line-end : tie.Need-part-row-line-end
-part-row-line-end c = search needs
-
-row-line-requires : tie.Need-row-line-requires
-row-line-requires c κs = search needs
-
-add-result : tie.Need-add-result
-add-result c = search needs
-
-same-length : tie.Need-same-length
-same-length c = search needs
-
 returns : tie.Need-returns
 returns c =
     let c₁ = c .before .before in
@@ -45,12 +27,5 @@ returns c =
 
 pub row-after-spec : {M : Type 1} → statement M
 row-after-spec =
-    tie.close
-    (tie.spec
-    sub-row-line
-    part-row-line-start
-    part-row-line-end
-    row-line-requires
-    add-result
-    same-length
+    tie.close (tie.spec (λ c. search needs) (λ c. search needs) (λ c. search needs) (λ c κs. search needs) (λ c. search needs) (λ c. search needs)
     returns)

@@ -29,12 +29,6 @@ loop-holds c = (omega arith, omega arith, refl, λ l e. refl)
 row-after-requires : tie.Need-row-after-requires Inv-loop μ-loop
 row-after-requires c κs = (omega arith, omega arith)
 
-add-i : tie.Need-add-i Inv-loop μ-loop
-add-i c = omega arith
-
-loop-less : tie.Need-loop-less Inv-loop μ-loop
-loop-less c = omega arith
-
 loop-again : tie.Need-loop-again Inv-loop μ-loop
 loop-again c =
     let c₁ = c .before .before in
@@ -53,9 +47,6 @@ loop-again c =
           ∙ sym (rows-more l (v .i) (omega arith)),
     )
 
-same-length : tie.Need-same-length Inv-loop μ-loop
-same-length c = search needs
-
 returns : tie.Need-returns Inv-loop μ-loop
 returns c =
     let v = c .before .loop in
@@ -64,14 +55,4 @@ returns c =
 
 pub rows-text-spec : {M : Type 1} → statement M
 rows-text-spec =
-    tie.close
-    (tie.spec
-    Inv-loop
-    μ-loop
-    loop-holds
-    row-after-requires
-    add-i
-    loop-less
-    loop-again
-    same-length
-    returns)
+    tie.close (tie.spec Inv-loop μ-loop loop-holds row-after-requires (λ c. omega arith) (λ c. omega arith) loop-again (λ c. search needs) returns)

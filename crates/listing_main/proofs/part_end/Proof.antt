@@ -12,37 +12,13 @@ Inv-loop input at i₀ i = (at ≤ i) × (i ≤ length input)
 abbrev μ-loop : tie.MeasureT-loop
 μ-loop input at i₀ i = length input - i
 
-loop-holds : tie.Need-loop-holds Inv-loop μ-loop
-loop-holds c = search needs
-
-is-parting-requires : tie.Need-is-parting-requires Inv-loop μ-loop
-is-parting-requires c κs = search needs
-
 returns : tie.Need-returns Inv-loop μ-loop
 returns c = record { onward = omega arith; inside = omega arith; parting = λ h. c .before .is-parting .ensures (c .if1 .taken) }
-
-add-i : tie.Need-add-i Inv-loop μ-loop
-add-i c = search needs
-
-loop-less : tie.Need-loop-less Inv-loop μ-loop
-loop-less c = search needs
-
-loop-again : tie.Need-loop-again Inv-loop μ-loop
-loop-again c = search needs
 
 returns-2 : tie.Need-returns-2 Inv-loop μ-loop
 returns-2 c = record { onward = omega arith; inside = omega arith; parting = λ h. absurd (h (omega arith)) }
 
 pub part-end-spec : {M : Type 1} → statement M
 part-end-spec =
-    tie.close
-    (tie.spec
-    Inv-loop
-    μ-loop
-    loop-holds
-    is-parting-requires
-    returns
-    add-i
-    loop-less
-    loop-again
+    tie.close (tie.spec Inv-loop μ-loop (λ c. search needs) (λ c κs. search needs) returns (λ c. search needs) (λ c. search needs) (λ c. search needs)
     returns-2)

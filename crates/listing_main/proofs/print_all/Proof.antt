@@ -26,21 +26,6 @@ abbrev μ-loop : tie.MeasureT-loop
 loop-holds : tie.Need-loop-holds Inv-loop μ-loop
 loop-holds c = (refl, refl, refl, refl, refl, refl, refl, refl, omega arith)
 
-part-end-requires : tie.Need-part-end-requires Inv-loop μ-loop
-part-end-requires c κs = search needs
-
-sub-print-one : tie.Need-sub-print-one Inv-loop μ-loop
-sub-print-one c = search needs
-
-part-print-one-start : tie.Need-part-print-one-start Inv-loop μ-loop
-part-print-one-start c = search needs
-
-part-print-one-end : tie.Need-part-print-one-end Inv-loop μ-loop
-part-print-one-end c = search needs
-
-print-one-requires : tie.Need-print-one-requires Inv-loop μ-loop
-print-one-requires c κs = search needs
-
 same-length : tie.Need-same-length Inv-loop μ-loop
 same-length c = let p = c .before .before .before .before .before .before .before .before .before .before .before .before .before .before .before .before .before in p .print-one .kept .1 .0 ∙ p .before .before .before .before .before .before .before .before .before .before .before .loop .inv .0
 
@@ -64,12 +49,6 @@ same-length-7 c = let p = c .before .before .before .before .before .before .bef
 
 same-length-8 : tie.Need-same-length-8 Inv-loop μ-loop
 same-length-8 c = let p = c .before .before .before .before .before .before .before .before .before .before .before .before .before .before .before .before .before in p .print-one .kept .1 .1 .1 .1 .1 .1 .1 .1 .0 ∙ p .before .before .before .before .before .before .before .before .before .before .before .loop .inv .7
-
-returns : tie.Need-returns Inv-loop μ-loop
-returns c = search needs
-
-print-parting-requires : tie.Need-print-parting-requires Inv-loop μ-loop
-print-parting-requires c κs = search needs
 
 add-at : tie.Need-add-at Inv-loop μ-loop
 add-at c =
@@ -101,26 +80,6 @@ loop-again c =
 
 pub print-all-spec : {M : Type 1} → statement M
 print-all-spec =
-    tie.close
-    (tie.spec
-    Inv-loop
-    μ-loop
-    loop-holds
-    part-end-requires
-    sub-print-one
-    part-print-one-start
-    part-print-one-end
-    print-one-requires
-    same-length
-    same-length-2
-    same-length-3
-    same-length-4
-    same-length-5
-    same-length-6
-    same-length-7
-    same-length-8
-    returns
-    print-parting-requires
-    add-at
-    loop-less
-    loop-again)
+    tie.close (tie.spec Inv-loop μ-loop loop-holds (λ c κs. search needs) (λ c. search needs) (λ c. search needs) (λ c. search needs)
+    (λ c κs. search needs) same-length same-length-2 same-length-3 same-length-4 same-length-5 same-length-6 same-length-7 same-length-8
+    (λ c. search needs) (λ c κs. search needs) add-at loop-less loop-again)

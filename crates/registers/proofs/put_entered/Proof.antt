@@ -5,15 +5,6 @@ use borrow.Author.Needs.{needs}
 use Rattle.registers.proofs.put_entered.Statement.{statement}
 use Rattle.registers.proofs.put_entered.Tie as tie
 
-put-requires : tie.Need-put-requires
-put-requires c κs = search needs
-
-put-requires-2 : tie.Need-put-requires-2
-put-requires-2 c κs = search needs
-
-same-length : tie.Need-same-length
-same-length c = search needs
-
 returns : tie.Need-returns
 returns c =
     let first = c .before .before .before .before .before .before in
@@ -22,4 +13,5 @@ returns c =
     (c .before .before .put2 .ensures ∙ rw (first .put .ensures))
 
 pub put-entered-spec : {M : Type 1} → statement M
-put-entered-spec = tie.close (tie.spec put-requires put-requires-2 same-length returns)
+put-entered-spec =
+    tie.close (tie.spec (λ c κs. search needs) (λ c κs. search needs) (λ c. search needs) returns)

@@ -4,18 +4,6 @@ use borrow.Author.Needs.{needs}
 use Rattle.replay.proofs.compare_both.Statement.{statement}
 use Rattle.replay.proofs.compare_both.Tie as tie
 
-fresh-requires : tie.Need-fresh-requires
-fresh-requires c κs = search needs
-
-same-answer-requires : tie.Need-same-answer-requires
-same-answer-requires c κs = search needs
-
-settled-requires : tie.Need-settled-requires
-settled-requires c κs = search needs
-
-same-answer-requires-2 : tie.Need-same-answer-requires-2
-same-answer-requires-2 c κs = search needs
-
 same-length : tie.Need-same-length
 same-length c =
     let s = c .before .before .before .before .before .before .before .before .before .before .before .before .before in
@@ -34,22 +22,7 @@ same-length-3 c =
     let f = s .before .before .before .before .before .before .before .before .before .before .before .before .before .before .before .before .before .before in
     s .settled .kept .1 .1 .1 .1 .0 ∙ f .fresh .kept .1 .1 .1 .1 .0
 
-same-length-4 : tie.Need-same-length-4
-same-length-4 c = search needs
-
-returns : tie.Need-returns
-returns c = search needs
-
 pub compare-both-spec : {M : Type 1} → statement M
 compare-both-spec =
-    tie.close
-    (tie.spec
-    fresh-requires
-    same-answer-requires
-    settled-requires
-    same-answer-requires-2
-    same-length
-    same-length-2
-    same-length-3
-    same-length-4
-    returns)
+    tie.close (tie.spec (λ c κs. search needs) (λ c κs. search needs) (λ c κs. search needs) (λ c κs. search needs) same-length same-length-2
+    same-length-3 (λ c. search needs) (λ c. search needs))

@@ -18,12 +18,6 @@ abbrev μ-loop : tie.MeasureT-loop
 μ-loop classes₀ records₀ facts₀ captured₀ arguments₀ work₀ input tally₀ at₀ classes records facts captured arguments work tally at =
     length input - at
 
-loop-holds : tie.Need-loop-holds Inv-loop μ-loop
-loop-holds c = search needs
-
-read-case-requires : tie.Need-read-case-requires Inv-loop μ-loop
-read-case-requires c κs = search needs
-
 same-length : tie.Need-same-length Inv-loop μ-loop
 same-length c =
     let r = c .before .before .before .before .before .before in
@@ -34,42 +28,15 @@ same-length-2 c =
     let r = c .before .before .before .before .before .before in
     r .read-case .kept .1 .0 ∙ r .before .before .before .loop .inv .1
 
-same-length-3 : tie.Need-same-length-3 Inv-loop μ-loop
-same-length-3 c = search needs
-
-same-length-4 : tie.Need-same-length-4 Inv-loop μ-loop
-same-length-4 c = search needs
-
-same-length-5 : tie.Need-same-length-5 Inv-loop μ-loop
-same-length-5 c = search needs
-
-same-length-6 : tie.Need-same-length-6 Inv-loop μ-loop
-same-length-6 c = search needs
-
-returns : tie.Need-returns Inv-loop μ-loop
-returns c = search needs
-
-slice-reshare-prefix-compare-both : tie.Need-slice-reshare-prefix-compare-both Inv-loop μ-loop
-slice-reshare-prefix-compare-both c = search needs
-
 slice-aggregate-compare-both : tie.Need-slice-aggregate-compare-both Inv-loop μ-loop
 slice-aggregate-compare-both c =
     let r = c .before .before .before .before .before .before .before in
     sym (length-take-le _ _ (r .read-case .ensures .1 .1))
 
-slice-reshare-prefix-compare-both-2 : tie.Need-slice-reshare-prefix-compare-both-2 Inv-loop μ-loop
-slice-reshare-prefix-compare-both-2 c = search needs
-
 slice-aggregate-compare-both-2 : tie.Need-slice-aggregate-compare-both-2 Inv-loop μ-loop
 slice-aggregate-compare-both-2 c =
     let r = c .before .before .before .before .before .before .before .before in
     sym (length-take-le _ _ (r .read-case .ensures .1 .0))
-
-compare-both-requires : tie.Need-compare-both-requires Inv-loop μ-loop
-compare-both-requires c κs = search needs
-
-tallied-requires : tie.Need-tallied-requires Inv-loop μ-loop
-tallied-requires c κs = search needs
 
 loop-less : tie.Need-loop-less Inv-loop μ-loop
 loop-less c =
@@ -96,24 +63,6 @@ loop-again c =
 
 pub replay-spec : {M : Type 1} → statement M
 replay-spec =
-    tie.close
-    (tie.spec
-    Inv-loop
-    μ-loop
-    loop-holds
-    read-case-requires
-    same-length
-    same-length-2
-    same-length-3
-    same-length-4
-    same-length-5
-    same-length-6
-    returns
-    slice-reshare-prefix-compare-both
-    slice-aggregate-compare-both
-    slice-reshare-prefix-compare-both-2
-    slice-aggregate-compare-both-2
-    compare-both-requires
-    tallied-requires
-    loop-less
-    loop-again)
+    tie.close (tie.spec Inv-loop μ-loop (λ c. search needs) (λ c κs. search needs) same-length same-length-2 (λ c. search needs) (λ c. search needs)
+    (λ c. search needs) (λ c. search needs) (λ c. search needs) (λ c. search needs) slice-aggregate-compare-both (λ c. search needs)
+    slice-aggregate-compare-both-2 (λ c κs. search needs) (λ c κs. search needs) loop-less loop-again)

@@ -8,21 +8,6 @@ use borrow.Author.Needs.{needs}
 use Rattle.scope_map.proofs.set_hint.Statement.{statement}
 use Rattle.scope_map.proofs.set_hint.Tie as tie
 
-wide-requires : tie.Need-wide-requires
-wide-requires c κs = search needs
-
-add-t : tie.Need-add-t
-add-t c = search needs
-
-mul-t : tie.Need-mul-t
-mul-t c = search needs
-
-slice-write-t : tie.Need-slice-write-t
-slice-write-t c = search needs
-
-same-length : tie.Need-same-length
-same-length c = search needs
-
 returns : tie.Need-returns
 returns c =
     let a = c .before .before .before .args in
@@ -33,4 +18,4 @@ returns-2 c = rw (le-ltb _ _ (c .if1 .left))
 
 pub set-hint-spec : {M : Type 1} → statement M
 set-hint-spec =
-    tie.close (tie.spec wide-requires add-t mul-t slice-write-t same-length returns returns-2)
+    tie.close (tie.spec (λ c κs. search needs) (λ c. search needs) (λ c. search needs) (λ c. search needs) (λ c. search needs) returns returns-2)

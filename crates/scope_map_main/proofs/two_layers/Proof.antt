@@ -13,9 +13,6 @@ pushed : {a b c : Map} {t t′ : List ℕ} → Held a t new → Becomes a t (def
     ((t : List ℕ) → Becomes b t pushLayer c t) → Held c t′ (pushLayer (define 7 70 new))
 pushed n d p = p _ .held _ (d .held new n)
 
-new-requires : tie.Need-new-requires
-new-requires c κs = search needs
-
 define-requires : tie.Need-define-requires
 define-requires c κs =
     let h = c .before .new .ensures (c .before .before .args .t .now) (omega arith) in
@@ -38,4 +35,4 @@ returns c =
 
 pub two-layers-spec : {M : Type 1} → statement M
 two-layers-spec =
-    tie.close (tie.spec new-requires define-requires push-layer-requires define-requires-2 returns)
+    tie.close (tie.spec (λ c κs. search needs) define-requires push-layer-requires define-requires-2 returns)

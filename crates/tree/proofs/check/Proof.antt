@@ -28,26 +28,11 @@ refused c h e = ⊎-elim (λ p. tells-misses (p .2 .ensures .0) (p .5 .left) (un
 returns : tie.Need-returns
 returns c = (ragged _ _ (c .if1 .taken), (λ e. absurd (Option·some-ne-none _ e), leaves-all))
 
-len-requires : tie.Need-len-requires
-len-requires c κs = search needs
-
 returns-2 : tie.Need-returns-2
 returns-2 c = (many-records _ _ (c .before .before .if1 .left) (omega arith), (λ e. absurd (Option·some-ne-none _ e), leaves-all))
 
 returns-3 : tie.Need-returns-3
 returns-3 c = (many-names _ _ (c .before .before .before .if1 .left) (omega arith) (c .if3 .taken), (λ e. absurd (Option·some-ne-none _ e), leaves-all))
-
-len-requires-2 : tie.Need-len-requires-2
-len-requires-2 c κs = search needs
-
-clear-requires : tie.Need-clear-requires
-clear-requires c κs = search needs
-
-last-requires : tie.Need-last-requires
-last-requires c κs = search needs
-
-same-length : tie.Need-same-length
-same-length c = search needs
 
 returns-4 : tie.Need-returns-4
 returns-4 c =
@@ -58,9 +43,6 @@ returns-4 c =
       c .last .ensures N ∙ sym (from-3 b ∙ cleared N _ (d .clear .ensures .0 .yes y)),
       (λ e h. list-told (d .clear .ensures .1 .0 y), leaves-stored (from-3 b) (omega arith) (d .clear .ensures .1 .1)),
     )
-
-in-order-requires : tie.Need-in-order-requires
-in-order-requires c κs = search needs
 
 same-length-2 : tie.Need-same-length-2
 same-length-2 c = ⊎-elim (λ p. ap length (p .6) ∙ p .2 .kept .1 .1 .0) (λ p. ap length (p .1)) (c .before .if4 .came)
@@ -77,17 +59,5 @@ returns-5 c =
 
 pub check-spec : {M : Type 1} → statement M
 check-spec =
-    tie.close
-    (tie.spec
-    returns
-    len-requires
-    returns-2
-    returns-3
-    len-requires-2
-    clear-requires
-    last-requires
-    same-length
-    returns-4
-    in-order-requires
-    same-length-2
-    returns-5)
+    tie.close (tie.spec returns (λ c κs. search needs) returns-2 returns-3 (λ c κs. search needs) (λ c κs. search needs) (λ c κs. search needs)
+    (λ c. search needs) returns-4 (λ c κs. search needs) same-length-2 returns-5)

@@ -47,80 +47,23 @@ next-7 c = record { is = passed (next-6 (c .before .before .before)) (c .before 
 next-16 : (c : tie.After-enum-told5) → Now (start-16 c) 16 check16 from8
 next-16 c = record { is = passed (next-7 (c .before .before .before)) (c .before .before .empty-call .ensures (start-16 c .args .names)) (c .enum-told5 .given .1) }
 
-field-outside-requires : tie.Need-field-outside-requires
-field-outside-requires c κs = search needs
-
-enum-known-outside : tie.Need-enum-known-outside
-enum-known-outside c = search needs
-
 returns : tie.Need-returns
 returns c = refused (next-3 (c .before .before .before .before .before)) (c .before .before .before .field-outside .ensures) (c .before .outside .given .1)
-
-enum-told : tie.Need-enum-told
-enum-told c = search needs
-
-child-missing-requires : tie.Need-child-missing-requires
-child-missing-requires c κs = search needs
-
-enum-known-missing : tie.Need-enum-known-missing
-enum-known-missing c = search needs
 
 returns-2 : tie.Need-returns-2
 returns-2 c = refused (next-4 (c .before .before .before .before)) (c .before .before .before .child-missing .ensures (start-4 (c .before .before .before .before) .args .names)) (c .before .missing .given .1)
 
-enum-told-2 : tie.Need-enum-told-2
-enum-told-2 c = search needs
-
-too-deep-requires : tie.Need-too-deep-requires
-too-deep-requires c κs = search needs
-
-enum-known-deep : tie.Need-enum-known-deep
-enum-known-deep c = search needs
-
 returns-3 : tie.Need-returns-3
 returns-3 c = refused (next-5 (c .before .before .before .before)) (c .before .before .before .too-deep .ensures (start-5 (c .before .before .before .before) .args .names)) (c .before .deep .given .1)
-
-enum-told-3 : tie.Need-enum-told-3
-enum-told-3 c = search needs
-
-not-a-name-requires : tie.Need-not-a-name-requires
-not-a-name-requires c κs = search needs
-
-enum-known-misnamed : tie.Need-enum-known-misnamed
-enum-known-misnamed c = search needs
 
 returns-4 : tie.Need-returns-4
 returns-4 c = refused (next-6 (c .before .before .before .before)) (c .before .before .before .not-a-name .ensures (start-6 (c .before .before .before .before) .args .names)) (c .before .misnamed .given .1)
 
-enum-told-4 : tie.Need-enum-told-4
-enum-told-4 c = search needs
-
-empty-call-requires : tie.Need-empty-call-requires
-empty-call-requires c κs = search needs
-
-enum-known-empty : tie.Need-enum-known-empty
-enum-known-empty c = search needs
-
 returns-5 : tie.Need-returns-5
 returns-5 c = refused (next-7 (c .before .before .before .before)) (c .before .before .before .empty-call .ensures (start-7 (c .before .before .before .before) .args .names)) (c .before .empty .given .1)
 
-enum-told-5 : tie.Need-enum-told-5
-enum-told-5 c = search needs
-
-untested-requires : tie.Need-untested-requires
-untested-requires c κs = search needs
-
-enum-known-untested : tie.Need-enum-known-untested
-enum-known-untested c = search needs
-
 returns-6 : tie.Need-returns-6
 returns-6 c = refused (next-16 (c .before .before .before .before)) (c .before .before .before .untested .ensures (start-16 (c .before .before .before .before) .args .names)) (c .before .untested2 .given .1)
-
-enum-told-6 : tie.Need-enum-told-6
-enum-told-6 c = search needs
-
-last-requires : tie.Need-last-requires
-last-requires c κs = search needs
 
 returns-7 : tie.Need-returns-7
 returns-7 c =
@@ -130,31 +73,7 @@ returns-7 c =
 
 pub in-order-spec : {M : Type 1} → statement M
 in-order-spec =
-    tie.close
-    (tie.spec
-    field-outside-requires
-    enum-known-outside
-    returns
-    enum-told
-    child-missing-requires
-    enum-known-missing
-    returns-2
-    enum-told-2
-    too-deep-requires
-    enum-known-deep
-    returns-3
-    enum-told-3
-    not-a-name-requires
-    enum-known-misnamed
-    returns-4
-    enum-told-4
-    empty-call-requires
-    enum-known-empty
-    returns-5
-    enum-told-5
-    untested-requires
-    enum-known-untested
-    returns-6
-    enum-told-6
-    last-requires
-    returns-7)
+    tie.close (tie.spec (λ c κs. search needs) (λ c. search needs) returns (λ c. search needs) (λ c κs. search needs) (λ c. search needs) returns-2
+    (λ c. search needs) (λ c κs. search needs) (λ c. search needs) returns-3 (λ c. search needs) (λ c κs. search needs) (λ c. search needs) returns-4
+    (λ c. search needs) (λ c κs. search needs) (λ c. search needs) returns-5 (λ c. search needs) (λ c κs. search needs) (λ c. search needs) returns-6
+    (λ c. search needs) (λ c κs. search needs) returns-7)

@@ -31,35 +31,13 @@ newest-id-requires c κs = ending-known (c .before .before .before .before .loop
 end-parameter-requires : tie.Need-end-parameter-requires Inv-loop μ-loop
 end-parameter-requires c κs = ending-fact (c .before .before .before .before .before .before .loop .inv .2) (c .before .before .before .before .before .before .before .before .before .before .pre) (omega (arith, end-few (c .before .before .before .before .before .before .before .before .before .before .pre)))
 
-add-j : tie.Need-add-j Inv-loop μ-loop
-add-j c = omega arith
-
-loop-less : tie.Need-loop-less Inv-loop μ-loop
-loop-less c = omega arith
-
 loop-again : tie.Need-loop-again Inv-loop μ-loop
 loop-again c = (omega arith, omega arith, ending-goes (c .before .before .before .before .before .before .before .before .before .loop .inv .2) (omega arith) refl (c .before .before .before .before .before .before .load-entry .ensures) (c .before .before .before .before .before .name .ensures) (c .before .before .before .before .newest-id .ensures) (c .before .before .end-parameter .ensures))
-
-same-length : tie.Need-same-length Inv-loop μ-loop
-same-length c = omega arith
 
 returns : tie.Need-returns Inv-loop μ-loop
 returns c = ending-ends (c .before .before .loop .inv .2) (omega arith)
 
 pub end-parameters-spec : {M : Type 1} → statement M
 end-parameters-spec =
-    tie.close
-    (tie.spec
-    Inv-loop
-    μ-loop
-    loop-holds
-    add-at
-    load-entry-requires
-    name-requires
-    newest-id-requires
-    end-parameter-requires
-    add-j
-    loop-less
-    loop-again
-    same-length
-    returns)
+    tie.close (tie.spec Inv-loop μ-loop loop-holds add-at load-entry-requires name-requires newest-id-requires end-parameter-requires
+    (λ c. omega arith) (λ c. omega arith) loop-again (λ c. omega arith) returns)

@@ -5,18 +5,6 @@ use borrow.Author.Needs.{needs}
 use Rattle.forms.proofs.bound.enter_name.Statement.{statement}
 use Rattle.forms.proofs.bound.enter_name.Tie as tie
 
-note-heap-requires : tie.Need-note-heap-requires
-note-heap-requires c κs = search needs
-
-depth-requires : tie.Need-depth-requires
-depth-requires c κs = search needs
-
-name-entry-requires : tie.Need-name-entry-requires
-name-entry-requires c κs = search needs
-
-name-kind-requires : tie.Need-name-kind-requires
-name-kind-requires c κs = search needs
-
 enter-with-requires : tie.Need-enter-with-requires
 enter-with-requires c κs =
     let p₁ = c .before .before .before in
@@ -28,12 +16,6 @@ enter-with-requires c κs =
       entry-new (o .g .base) (heapsIn (o .g .heaps)) (o .j) (o .h) (p₂ .depth .result) (o .heap) (p₁ .name-entry .ensures),
     )
 
-same-length : tie.Need-same-length
-same-length c = search needs
-
-same-length-2 : tie.Need-same-length-2
-same-length-2 c = search needs
-
 returns : tie.Need-returns
 returns c =
     let p₁ = c .before .before .before .before in
@@ -44,13 +26,5 @@ returns c =
 
 pub enter-name-spec : {M : Type 1} → statement M
 enter-name-spec =
-    tie.close
-    (tie.spec
-    note-heap-requires
-    depth-requires
-    name-entry-requires
-    name-kind-requires
-    enter-with-requires
-    same-length
-    same-length-2
-    returns)
+    tie.close (tie.spec (λ c κs. search needs) (λ c κs. search needs) (λ c κs. search needs) (λ c κs. search needs) enter-with-requires
+    (λ c. search needs) (λ c. search needs) returns)

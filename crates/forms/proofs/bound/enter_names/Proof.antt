@@ -18,9 +18,6 @@ Inv-loop all names g p facts₀ arguments work₀ first before e₀ h₀ j₀ fa
 abbrev μ-loop : tie.MeasureT-loop
 μ-loop all names g p facts₀ arguments work₀ first before e₀ h₀ j₀ facts work e h j = names .count - j
 
-entered-in-requires : tie.Need-entered-in-requires Inv-loop μ-loop
-entered-in-requires c κs = search needs
-
 loop-holds : tie.Need-loop-holds Inv-loop μ-loop
 loop-holds c = (omega arith, omega arith, refl, refl, rw (c .entered-in .ensures) (omega (arith, c .before .before .before .before .before .before .pre .room)), rw (c .entered-in .ensures) coming-starts)
 
@@ -33,26 +30,14 @@ add-enter-name c = record { fits = omega (arith, names-few (c .before .before .b
 narrow-requires : tie.Need-narrow-requires Inv-loop μ-loop
 narrow-requires c κs = omega (arith, names-few (c .before .before .before .before .before .before .before .before .before .before .pre))
 
-with-entered-requires : tie.Need-with-entered-requires Inv-loop μ-loop
-with-entered-requires c κs = search needs
-
 enter-name-requires : tie.Need-enter-name-requires Inv-loop μ-loop
 enter-name-requires c κs = (
   rw (c .before .before .with-entered .ensures) (coming-fits (c .before .before .before .before .before .before .before .loop .inv .5) (c .before .before .before .before .before .before .before .before .before .before .before .before .before .before .pre) (omega arith) (c .before .before .before .before .before .before .before .loop .inv .4)),
   record { slot = omega (arith, c .before .before .before .before .before .before .before .before .before .before .before .before .before .before .pre .slots, c .before .before .before .narrow .ensures); few = c .before .before .before .before .before .before .before .before .before .before .before .before .before .before .pre .few; heaps = omega (arith, names-few (c .before .before .before .before .before .before .before .before .before .before .before .before .before .before .pre)) },
 )
 
-entered-in-requires-2 : tie.Need-entered-in-requires-2 Inv-loop μ-loop
-entered-in-requires-2 c κs = search needs
-
 next-heap-requires : tie.Need-next-heap-requires Inv-loop μ-loop
 next-heap-requires c κs = omega (arith, c .before .before .before .before .before .before .before .before .before .before .before .before .before .loop .inv .1, names-few (c .before .before .before .before .before .before .before .before .before .before .before .before .before .before .before .before .before .before .before .before .pre))
-
-add-j : tie.Need-add-j Inv-loop μ-loop
-add-j c = omega arith
-
-loop-less : tie.Need-loop-less Inv-loop μ-loop
-loop-less c = omega arith
 
 loop-again : tie.Need-loop-again Inv-loop μ-loop
 loop-again c =
@@ -63,33 +48,11 @@ loop-again c =
     let h = heaps-below (c .before .before .before .before .before .before .before .before .before .before .before .is-heap .result) (c .before .before .before .before .before .before .before .before .before .before .before .before .before .before .loop .h) (c .next-heap .ensures) in
     (omega arith, omega (arith, h, v .1), omega (arith, v .2), omega (arith, v .3), rw (c .before .entered-in2 .ensures) r, rw (c .before .entered-in2 .ensures) (coming-goes (v .5) (omega arith) b e (c .next-heap .ensures)))
 
-same-length : tie.Need-same-length Inv-loop μ-loop
-same-length c = omega arith
-
-same-length-2 : tie.Need-same-length-2 Inv-loop μ-loop
-same-length-2 c = omega arith
-
 returns : tie.Need-returns Inv-loop μ-loop
 returns c = coming-ends (c .before .before .loop .inv .5) (omega arith)
 
 pub enter-names-spec : {M : Type 1} → statement M
 enter-names-spec =
-    tie.close
-    (tie.spec
-    Inv-loop
-    μ-loop
-    entered-in-requires
-    loop-holds
-    is-heap-requires
-    add-enter-name
-    narrow-requires
-    with-entered-requires
-    enter-name-requires
-    entered-in-requires-2
-    next-heap-requires
-    add-j
-    loop-less
-    loop-again
-    same-length
-    same-length-2
-    returns)
+    tie.close (tie.spec Inv-loop μ-loop (λ c κs. search needs) loop-holds is-heap-requires add-enter-name narrow-requires (λ c κs. search needs)
+    enter-name-requires (λ c κs. search needs) next-heap-requires (λ c. omega arith) (λ c. omega arith) loop-again (λ c. omega arith)
+    (λ c. omega arith) returns)

@@ -32,12 +32,6 @@ remove-name-requires c κs = leaving-spacious (c .before .before .before .before
 mark-last-requires : tie.Need-mark-last-requires Inv-loop μ-loop
 mark-last-requires c κs = (leaving-last (c .before .before .before .before .before .before .before .before .before .before .loop .inv .3) (c .before .before .before .before .before .before .before .before .before .before .before .before .before .before .pre) (c .before .before .before .before .before .before .load-entry .ensures), leaving-facts (c .before .before .before .before .before .before .before .before .before .before .loop .inv .3) (c .before .before .before .before .before .before .before .before .before .before .before .before .before .before .pre))
 
-add-j : tie.Need-add-j Inv-loop μ-loop
-add-j c = omega arith
-
-loop-less : tie.Need-loop-less Inv-loop μ-loop
-loop-less c = omega arith
-
 loop-again : tie.Need-loop-again Inv-loop μ-loop
 loop-again c = (
   omega arith,
@@ -46,30 +40,10 @@ loop-again c = (
   leaving-goes (c .before .before .before .before .before .before .before .before .before .before .before .before .before .loop .inv .3) (omega arith) refl (c .before .before .before .before .before .before .before .before .before .load-entry .ensures) (c .before .before .before .before .before .before .before .name .ensures) (c .before .before .before .before .before .before .remove-name .ensures) (c .before .before .mark-last .ensures),
 )
 
-same-length : tie.Need-same-length Inv-loop μ-loop
-same-length c = omega arith
-
-same-length-2 : tie.Need-same-length-2 Inv-loop μ-loop
-same-length-2 c = omega arith
-
 returns : tie.Need-returns Inv-loop μ-loop
 returns c = leaving-ends (c .before .before .loop .inv .3) (omega arith)
 
 pub leave-names-spec : {M : Type 1} → statement M
 leave-names-spec =
-    tie.close
-    (tie.spec
-    Inv-loop
-    μ-loop
-    loop-holds
-    add-at
-    load-entry-requires
-    name-requires
-    remove-name-requires
-    mark-last-requires
-    add-j
-    loop-less
-    loop-again
-    same-length
-    same-length-2
-    returns)
+    tie.close (tie.spec Inv-loop μ-loop loop-holds add-at load-entry-requires name-requires remove-name-requires mark-last-requires (λ c. omega arith)
+    (λ c. omega arith) loop-again (λ c. omega arith) (λ c. omega arith) returns)

@@ -21,9 +21,6 @@ loop-holds c = (refl, lasting-starts (c .before .before .before .pre .1))
 live-at-requires : tie.Need-live-at-requires Inv-loop μ-loop
 live-at-requires c κs = (spacious (c .before .before .before .before .before .pre .0 .fits .tied .works), c .loop-test .taken)
 
-wide-requires : tie.Need-wide-requires Inv-loop μ-loop
-wide-requires c κs = search needs
-
 load-entry-requires : tie.Need-load-entry-requires Inv-loop μ-loop
 load-entry-requires c κs = (c .before .before .before .before .before .before .before .pre .0 .fits .tied .works .long, omega (arith, c .wide .ensures, lasting-binder (c .before .before .before .loop .inv .1) (c .before .before .before .before .before .before .before .pre .0) (c .before .live-at .ensures)))
 
@@ -33,31 +30,13 @@ mark-last-requires c κs = (lasting-last (c .before .before .before .before .bef
 add-i : tie.Need-add-i Inv-loop μ-loop
 add-i c = record { fits = omega (arith, spacious (c .before .before .before .before .before .before .before .before .before .before .before .before .pre .0 .fits .tied .works) .names) }
 
-loop-less : tie.Need-loop-less Inv-loop μ-loop
-loop-less c = omega arith
-
 loop-again : tie.Need-loop-again Inv-loop μ-loop
 loop-again c = (omega arith, lasting-goes (c .before .before .before .before .before .before .before .before .loop .inv .1) (c .before .before .before .before .before .before .live-at .ensures) (c .before .before .before .before .before .wide .ensures) (c .before .before .before .before .load-entry .ensures) (c .before .before .mark-last .ensures))
-
-same-length : tie.Need-same-length Inv-loop μ-loop
-same-length c = omega arith
 
 returns : tie.Need-returns Inv-loop μ-loop
 returns c = lasting-ends (c .before .loop .inv .1) (c .loop-test .left)
 
 pub mark-lasts-spec : {M : Type 1} → statement M
 mark-lasts-spec =
-    tie.close
-    (tie.spec
-    Inv-loop
-    μ-loop
-    loop-holds
-    live-at-requires
-    wide-requires
-    load-entry-requires
-    mark-last-requires
-    add-i
-    loop-less
-    loop-again
-    same-length
-    returns)
+    tie.close (tie.spec Inv-loop μ-loop loop-holds live-at-requires (λ c κs. search needs) load-entry-requires mark-last-requires add-i
+    (λ c. omega arith) loop-again (λ c. omega arith) returns)

@@ -4,9 +4,6 @@ use borrow.Author.Needs.{needs}
 use Rattle.forms.proofs.bound.next_heap.Statement.{statement}
 use Rattle.forms.proofs.bound.next_heap.Tie as tie
 
-add-result : tie.Need-add-result
-add-result c = search needs
-
 returns : tie.Need-returns
 returns c = rw (c .if1 .taken, add-one)
 
@@ -14,4 +11,5 @@ returns-2 : tie.Need-returns-2
 returns-2 c = rw (c .if1 .left)
 
 pub next-heap-spec : {M : Type 1} → statement M
-next-heap-spec = tie.close (tie.spec add-result returns returns-2)
+next-heap-spec =
+    tie.close (tie.spec (λ c. search needs) returns returns-2)

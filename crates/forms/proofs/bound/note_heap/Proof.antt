@@ -7,9 +7,6 @@ use Rattle.forms.proofs.bound.note_heap.Tie as tie
 returns : tie.Need-returns
 returns c = notes-none _ (c .if1 .taken)
 
-note-second-requires : tie.Need-note-second-requires
-note-second-requires c κs = search needs
-
 returns-2 : tie.Need-returns-2
 returns-2 c = notes-alone _ (c .before .before .before .if1 .left) (c .before .if2 .taken) (c .note-second .ensures)
 
@@ -18,5 +15,4 @@ returns-3 c = notes-around _ (c .if2 .left)
 
 pub note-heap-spec : {M : Type 1} → statement M
 note-heap-spec =
-    tie.close
-    (tie.spec returns note-second-requires returns-2 returns-3)
+    tie.close (tie.spec returns (λ c κs. search needs) returns-2 returns-3)

@@ -8,13 +8,9 @@ use Rattle.forms.proofs.bound.or_zero.Tie as tie
 returns : tie.Need-returns
 returns c = omega (arith, c .if1 .taken, less-one (c .before .before .args .heaps .code))
 
-sub-result : tie.Need-sub-result
-sub-result c = search needs
-
 returns-2 : tie.Need-returns-2
 returns-2 c = less-one (c .before .before .before .args .heaps .code)
 
 pub or-zero-spec : {M : Type 1} → statement M
 or-zero-spec =
-    tie.close
-    (tie.spec returns sub-result returns-2)
+    tie.close (tie.spec returns (λ c. search needs) returns-2)

@@ -13,22 +13,9 @@ name-requires c κs = binder-inside (c .before .before .before .before .before .
 info-of-requires : tie.Need-info-of-requires
 info-of-requires c κs = binder-info (c .before .before .before .before .before .before .pre .0) (c .before .before .load-entry .ensures)
 
-store-item-requires : tie.Need-store-item-requires
-store-item-requires c κs = search needs
-
-same-length : tie.Need-same-length
-same-length c = search needs
-
 returns : tie.Need-returns
 returns c = argument-stored (c .before .before .before .before .before .before .load-entry .ensures) (c .before .before .before .before .name .ensures) (c .before .before .before .info-of .ensures) (c .before .before .store-item .ensures)
 
 pub store-argument-spec : {M : Type 1} → statement M
 store-argument-spec =
-    tie.close
-    (tie.spec
-    load-entry-requires
-    name-requires
-    info-of-requires
-    store-item-requires
-    same-length
-    returns)
+    tie.close (tie.spec load-entry-requires name-requires info-of-requires (λ c κs. search needs) (λ c. search needs) returns)

@@ -24,9 +24,6 @@ loop-holds c = (refl, layering-starts (c .newest-layer .ensures))
 live-at-requires : tie.Need-live-at-requires Inv-loop μ-loop
 live-at-requires c κs = (spacious (c .before .before .before .before .before .before .before .pre .fits .tied .works), c .loop-test .taken)
 
-wide-requires : tie.Need-wide-requires Inv-loop μ-loop
-wide-requires c κs = search needs
-
 store-argument-requires : tie.Need-store-argument-requires Inv-loop μ-loop
 store-argument-requires c κs =
     let m = c .before .before .before .before .loop .inv .1 in
@@ -38,34 +35,15 @@ add-to c = record { fits = omega (arith, layering-room (c .before .before .befor
 add-i : tie.Need-add-i Inv-loop μ-loop
 add-i c = record { fits = omega (arith, spacious (c .before .before .before .before .before .before .before .before .before .before .before .before .before .pre .fits .tied .works) .names) }
 
-loop-less : tie.Need-loop-less Inv-loop μ-loop
-loop-less c = omega arith
-
 loop-again : tie.Need-loop-again Inv-loop μ-loop
 loop-again c =
     let m = c .before .before .before .before .before .before .before .loop .inv .1 in
     (omega arith, layering-goes m (c .before .before .before .before .before .live-at .ensures) (c .before .before .before .before .wide .ensures) (layering-room m (c .before .before .before .before .before .live-at .ensures) (c .before .before .before .before .before .before .before .before .before .before .before .before .before .pre)) (c .before .before .store-argument .ensures))
-
-same-length : tie.Need-same-length Inv-loop μ-loop
-same-length c = omega arith
 
 returns : tie.Need-returns Inv-loop μ-loop
 returns c = layering-ends (c .before .loop .inv .1) (c .loop-test .left) refl
 
 pub store-layer-spec : {M : Type 1} → statement M
 store-layer-spec =
-    tie.close
-    (tie.spec
-    Inv-loop
-    μ-loop
-    newest-layer-requires
-    loop-holds
-    live-at-requires
-    wide-requires
-    store-argument-requires
-    add-to
-    add-i
-    loop-less
-    loop-again
-    same-length
-    returns)
+    tie.close (tie.spec Inv-loop μ-loop newest-layer-requires loop-holds live-at-requires (λ c κs. search needs) store-argument-requires add-to add-i
+    (λ c. omega arith) loop-again (λ c. omega arith) returns)

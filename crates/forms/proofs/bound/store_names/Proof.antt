@@ -27,35 +27,15 @@ store-argument-requires c κs =
 add-to : tie.Need-add-to Inv-loop μ-loop
 add-to c = record { fits = omega (arith, storing-room (c .before .before .before .before .before .before .loop .inv .2) (c .before .before .before .before .before .before .before .before .before .before .pre) (omega arith)) }
 
-add-j : tie.Need-add-j Inv-loop μ-loop
-add-j c = omega arith
-
-loop-less : tie.Need-loop-less Inv-loop μ-loop
-loop-less c = omega arith
-
 loop-again : tie.Need-loop-again Inv-loop μ-loop
 loop-again c =
     let m = c .before .before .before .before .before .before .loop .inv .2 in
     (omega arith, omega arith, storing-goes m (omega arith) refl (storing-room m (c .before .before .before .before .before .before .before .before .before .before .pre) (omega arith)) (c .before .before .store-argument .ensures))
-
-same-length : tie.Need-same-length Inv-loop μ-loop
-same-length c = omega arith
 
 returns : tie.Need-returns Inv-loop μ-loop
 returns c = storing-ends (c .before .before .loop .inv .2) (omega arith) refl
 
 pub store-names-spec : {M : Type 1} → statement M
 store-names-spec =
-    tie.close
-    (tie.spec
-    Inv-loop
-    μ-loop
-    loop-holds
-    add-store-argument
-    store-argument-requires
-    add-to
-    add-j
-    loop-less
-    loop-again
-    same-length
-    returns)
+    tie.close (tie.spec Inv-loop μ-loop loop-holds add-store-argument store-argument-requires add-to (λ c. omega arith) (λ c. omega arith) loop-again
+    (λ c. omega arith) returns)

@@ -5,9 +5,6 @@ use Rattle.forms.proofs.CallFacts.{head-tree, head-inside, call-inside,
 use Rattle.forms.proofs.calls.call_fact.Statement.{statement}
 use Rattle.forms.proofs.calls.call_fact.Tie as tie
 
-add-core-at : tie.Need-add-core-at
-add-core-at c = search needs
-
 core-at-requires : tie.Need-core-at-requires
 core-at-requires c κs = head-tree _ _ _ _ (c .before .before .pre)
 
@@ -31,14 +28,8 @@ is-self-requires c κs =
 span-at-requires : tie.Need-span-at-requires
 span-at-requires c κs = let d = c .before .before .before .before .before .before in head-inside _ _ _ _ (d .core-at .ensures) (start d .pre)
 
-call-kind-requires : tie.Need-call-kind-requires
-call-kind-requires c κs = search needs
-
 call-site-requires : tie.Need-call-site-requires
 call-site-requires c κs = call-fact-inside _ _ _ _ (start (c .before .before .before .before .before .before .before .before .before) .pre)
-
-same-length : tie.Need-same-length
-same-length c = search needs
 
 returns-2 : tie.Need-returns-2
 returns-2 c =
@@ -51,14 +42,8 @@ returns-2 c =
 span-at-requires-2 : tie.Need-span-at-requires-2
 span-at-requires-2 c κs = call-inside _ _ _ _ (start (c .before .before .before .before) .pre)
 
-call-kind-requires-2 : tie.Need-call-kind-requires-2
-call-kind-requires-2 c κs = search needs
-
 call-site-requires-2 : tie.Need-call-site-requires-2
 call-site-requires-2 c κs = call-fact-inside _ _ _ _ (start (c .before .before .before .before .before .before .before) .pre)
-
-same-length-2 : tie.Need-same-length-2
-same-length-2 c = search needs
 
 returns-3 : tie.Need-returns-3
 returns-3 c =
@@ -70,21 +55,6 @@ returns-3 c =
 
 pub call-fact-spec : {M : Type 1} → statement M
 call-fact-spec =
-    tie.close
-    (tie.spec
-    add-core-at
-    core-at-requires
-    is-constant-requires
-    returns
-    form-requires
-    is-self-requires
-    span-at-requires
-    call-kind-requires
-    call-site-requires
-    same-length
-    returns-2
-    span-at-requires-2
-    call-kind-requires-2
-    call-site-requires-2
-    same-length-2
-    returns-3)
+    tie.close (tie.spec (λ c. search needs) core-at-requires is-constant-requires returns form-requires is-self-requires span-at-requires
+    (λ c κs. search needs) call-site-requires (λ c. search needs) returns-2 span-at-requires-2 (λ c κs. search needs) call-site-requires-2
+    (λ c. search needs) returns-3)

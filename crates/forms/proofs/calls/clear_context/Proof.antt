@@ -4,12 +4,6 @@ use Rattle.forms.proofs.CallFacts.{cleared, uncleared}
 use Rattle.forms.proofs.calls.clear_context.Statement.{statement}
 use Rattle.forms.proofs.calls.clear_context.Tie as tie
 
-is-self-requires : tie.Need-is-self-requires
-is-self-requires c κs = search needs
-
-with-context-requires : tie.Need-with-context-requires
-with-context-requires c κs = search needs
-
 returns : tie.Need-returns
 returns c = cleared _ _ _ (c .before .before .is-self .ensures) (c .before .if1 .taken) (c .with-context .ensures)
 
@@ -17,4 +11,5 @@ returns-2 : tie.Need-returns-2
 returns-2 c = uncleared _ _ _ (c .before .is-self .ensures) (c .if1 .left)
 
 pub clear-context-spec : {M : Type 1} → statement M
-clear-context-spec = tie.close (tie.spec is-self-requires with-context-requires returns returns-2)
+clear-context-spec =
+    tie.close (tie.spec (λ c κs. search needs) (λ c κs. search needs) returns returns-2)

@@ -4,22 +4,15 @@ use Rattle.forms.proofs.CallsCase.{call-arguments, call-made, call-ends
 use Rattle.forms.proofs.calls.end_call.Statement.{statement}
 use Rattle.forms.proofs.calls.end_call.Tie as tie
 
-is-tail-requires : tie.Need-is-tail-requires
-is-tail-requires c κs = search needs
-
 mark-if-tail-requires : tie.Need-mark-if-tail-requires
 mark-if-tail-requires c κs = call-arguments _ _ _ _ _ _ _ (c .before .before .before .before .before .pre)
 
 call-fact-requires : tie.Need-call-fact-requires
 call-fact-requires c κs = call-made _ _ _ _ _ _ _ (c .before .before .before .mark-if-tail .ensures) (c .before .before .before .before .before .before .before .before .before .pre)
 
-same-length : tie.Need-same-length
-same-length c = search needs
-
 returns : tie.Need-returns
 returns c = call-ends _ _ _ _ _ _ _ (c .before .before .before .before .before .before .mark-if-tail .ensures) (c .before .before .before .before .before .before .before .before .is-tail .ensures) (c .before .before .call-fact .ensures)
 
 pub end-call-spec : {M : Type 1} → statement M
 end-call-spec =
-    tie.close
-    (tie.spec is-tail-requires mark-if-tail-requires call-fact-requires same-length returns)
+    tie.close (tie.spec (λ c κs. search needs) mark-if-tail-requires call-fact-requires (λ c. search needs) returns)

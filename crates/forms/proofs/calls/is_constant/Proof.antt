@@ -4,14 +4,8 @@ use borrow.Author.Tests.{eq-eqb, ne-eqb}
 use Rattle.forms.proofs.calls.is_constant.Statement.{statement}
 use Rattle.forms.proofs.calls.is_constant.Tie as tie
 
-form-requires : tie.Need-form-requires
-form-requires c κs = search needs
-
 returns : tie.Need-returns
 returns c = rw (← c .before .form .ensures, eq-eqb _ _ (c .if1 .taken))
-
-count-requires : tie.Need-count-requires
-count-requires c κs = search needs
 
 returns-2 : tie.Need-returns-2
 returns-2 c = rw (← c .before .before .before .form .ensures, ← c .count .ensures, ne-eqb _ _ (c .before .before .if1 .left), eq-eqb _ _ (c .before .if2 .taken))
@@ -20,4 +14,5 @@ returns-3 : tie.Need-returns-3
 returns-3 c = rw (← c .before .before .form .ensures, ne-eqb _ _ (c .before .if1 .left), ne-eqb _ _ (c .if2 .left))
 
 pub is-constant-spec : {M : Type 1} → statement M
-is-constant-spec = tie.close (tie.spec form-requires count-requires returns returns-2 returns-3)
+is-constant-spec =
+    tie.close (tie.spec (λ c κs. search needs) (λ c κs. search needs) returns returns-2 returns-3)

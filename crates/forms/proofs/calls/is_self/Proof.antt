@@ -4,9 +4,6 @@ use Rattle.forms.proofs.CallFacts.{no-context, in-context}
 use Rattle.forms.proofs.calls.is_self.Statement.{statement}
 use Rattle.forms.proofs.calls.is_self.Tie as tie
 
-refers-at-requires : tie.Need-refers-at-requires
-refers-at-requires c κs = search needs
-
 returns : tie.Need-returns
 returns c = in-context _ _ _ (c .before .before .before .before .before .pre .0) (c .before .before .if1 .taken) (c .before .refers-at .ensures)
 
@@ -14,4 +11,5 @@ returns-2 : tie.Need-returns-2
 returns-2 c = no-context _ _ _ (c .if1 .left)
 
 pub is-self-spec : {M : Type 1} → statement M
-is-self-spec = tie.close (tie.spec refers-at-requires returns returns-2)
+is-self-spec =
+    tie.close (tie.spec (λ c κs. search needs) returns returns-2)

@@ -14,9 +14,6 @@ is-last-use-requires c κs = mentioned _ _ _ _ _ (sym (c .before .form .ensures)
 mark-last-usage-requires : tie.Need-mark-last-usage-requires
 mark-last-usage-requires c κs = argument-fact _ _ _ _ _ (c .before .before .before .before .before .before .before .before .pre)
 
-same-length : tie.Need-same-length
-same-length c = search needs
-
 returns : tie.Need-returns
 returns c = marked _ _ _ _ _ (sym (c .before .before .before .before .before .before .before .form .ensures) ∙ c .before .before .before .before .before .before .if1 .taken) (c .before .before .before .before .before .is-last-use .ensures) (c .before .before .before .before .if2 .taken) (c .before .before .mark-last-usage .ensures)
 
@@ -28,12 +25,4 @@ returns-3 c = no-mention _ _ _ _ _ (λ e. c .if1 .left (c .before .form .ensures
 
 pub mark-argument-spec : {M : Type 1} → statement M
 mark-argument-spec =
-    tie.close
-    (tie.spec
-    form-requires
-    is-last-use-requires
-    mark-last-usage-requires
-    same-length
-    returns
-    returns-2
-    returns-3)
+    tie.close (tie.spec form-requires is-last-use-requires mark-last-usage-requires (λ c. search needs) returns returns-2 returns-3)

@@ -22,44 +22,19 @@ core-at-requires c κs = marking-tree (c .before .loop .inv .2) (c .before .befo
 mark-argument-requires : tie.Need-mark-argument-requires Inv-loop μ-loop
 mark-argument-requires c κs = marking-fits (c .before .before .before .loop .inv .2) (c .before .before .before .before .before .before .before .pre) (omega arith) (c .before .core-at .ensures)
 
-add-i : tie.Need-add-i Inv-loop μ-loop
-add-i c = omega arith
-
-sub-step-over : tie.Need-sub-step-over Inv-loop μ-loop
-sub-step-over c = omega arith
-
 step-over-requires : tie.Need-step-over-requires Inv-loop μ-loop
 step-over-requires c κs = marking-tree (c .before .before .before .before .before .before .loop .inv .2) (c .before .before .before .before .before .before .before .before .before .before .pre) (omega arith)
 
 add-at : tie.Need-add-at Inv-loop μ-loop
 add-at c = record { fits = omega (arith, marking-few (c .before .before .before .before .before .before .before .loop .inv .2) (c .before .before .before .before .before .before .before .before .before .before .before .pre) (omega arith) (c .step-over .ensures)) }
 
-loop-less : tie.Need-loop-less Inv-loop μ-loop
-loop-less c = omega arith
-
 loop-again : tie.Need-loop-again Inv-loop μ-loop
 loop-again c = (omega arith, omega arith, marking-goes (c .before .before .before .before .before .before .before .loop .inv .2) (omega arith) (c .before .before .before .before .before .core-at .ensures) (c .before .before .before .mark-argument .ensures) (c .step-over .ensures))
-
-same-length : tie.Need-same-length Inv-loop μ-loop
-same-length c = omega arith
 
 returns : tie.Need-returns Inv-loop μ-loop
 returns c = marking-ends (c .before .loop .inv .2) (omega arith)
 
 pub mark-arguments-spec : {M : Type 1} → statement M
 mark-arguments-spec =
-    tie.close
-    (tie.spec
-    Inv-loop
-    μ-loop
-    loop-holds
-    core-at-requires
-    mark-argument-requires
-    add-i
-    sub-step-over
-    step-over-requires
-    add-at
-    loop-less
-    loop-again
-    same-length
-    returns)
+    tie.close (tie.spec Inv-loop μ-loop loop-holds core-at-requires mark-argument-requires (λ c. omega arith) (λ c. omega arith) step-over-requires
+    add-at (λ c. omega arith) loop-again (λ c. omega arith) returns)

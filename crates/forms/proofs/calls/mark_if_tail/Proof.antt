@@ -4,12 +4,6 @@ use Rattle.forms.proofs.CallsCase.{marks-if, marks-not}
 use Rattle.forms.proofs.calls.mark_if_tail.Statement.{statement}
 use Rattle.forms.proofs.calls.mark_if_tail.Tie as tie
 
-mark-arguments-requires : tie.Need-mark-arguments-requires
-mark-arguments-requires c κs = search needs
-
-same-length : tie.Need-same-length
-same-length c = search needs
-
 returns : tie.Need-returns
 returns c = marks-if (c .before .before .before .before .if1 .taken) (c .before .before .mark-arguments .ensures)
 
@@ -17,4 +11,5 @@ returns-2 : tie.Need-returns-2
 returns-2 c = marks-not (c .if1 .left)
 
 pub mark-if-tail-spec : {M : Type 1} → statement M
-mark-if-tail-spec = tie.close (tie.spec mark-arguments-requires same-length returns returns-2)
+mark-if-tail-spec =
+    tie.close (tie.spec (λ c κs. search needs) (λ c. search needs) returns returns-2)

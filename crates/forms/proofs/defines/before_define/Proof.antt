@@ -6,35 +6,14 @@ use Rattle.forms.proofs.DefinesCase.{name-inside, define-room, before-d
 use Rattle.forms.proofs.defines.before_define.Statement.{statement}
 use Rattle.forms.proofs.defines.before_define.Tie as tie
 
-add-id : tie.Need-add-id
-add-id c = search needs
-
 id-requires : tie.Need-id-requires
 id-requires c κs = name-inside _ _ _ _ _ (c .before .before .before .pre)
-
-with-context-requires : tie.Need-with-context-requires
-with-context-requires c κs = search needs
 
 returns : tie.Need-returns
 returns c = before-direct _ _ _ _ _ (c .before .if1 .taken) (c .before .before .id .ensures) (c .with-context .ensures)
 
-add-enter-define : tie.Need-add-enter-define
-add-enter-define c = search needs
-
 enter-define-requires : tie.Need-enter-define-requires
 enter-define-requires c κs = define-room _ _ _ _ _ (c .before .before .before .before .before .before .before .before .pre)
-
-with-name-requires : tie.Need-with-name-requires
-with-name-requires c κs = search needs
-
-with-context-requires-2 : tie.Need-with-context-requires-2
-with-context-requires-2 c κs = search needs
-
-same-length : tie.Need-same-length
-same-length c = search needs
-
-same-length-2 : tie.Need-same-length-2
-same-length-2 c = search needs
 
 returns-2 : tie.Need-returns-2
 returns-2 c =
@@ -49,17 +28,5 @@ returns-3 c = before-value _ _ _ _ _ (c .before .if1 .left) (c .if2 .left)
 
 pub before-define-spec : {M : Type 1} → statement M
 before-define-spec =
-    tie.close
-    (tie.spec
-    add-id
-    id-requires
-    with-context-requires
-    returns
-    add-enter-define
-    enter-define-requires
-    with-name-requires
-    with-context-requires-2
-    same-length
-    same-length-2
-    returns-2
-    returns-3)
+    tie.close (tie.spec (λ c. search needs) id-requires (λ c κs. search needs) returns (λ c. search needs) enter-define-requires
+    (λ c κs. search needs) (λ c κs. search needs) (λ c. search needs) (λ c. search needs) returns-2 returns-3)

@@ -11,26 +11,11 @@ form-requires c κs = child-inside (c .before .before .before .before .args .cla
 returns : tie.Need-returns
 returns c = no-define _ _ _ _ _ _ _ (λ e. c .if1 .taken (c .before .form .ensures ∙ e))
 
-add-body-at : tie.Need-add-body-at
-add-body-at c = search needs
-
 body-at-requires : tie.Need-body-at-requires
 body-at-requires c κs = child-body (c .before .before .before .before .before .before .args .classes .now) _ _ (c .before .before .before .before .before .before .args .kind) _ _ _ (sym (c .before .form .ensures) ∙ c .if1 .left) (c .before .before .before .before .before .before .pre)
 
-add-enter-define : tie.Need-add-enter-define
-add-enter-define c = search needs
-
 enter-define-requires : tie.Need-enter-define-requires
 enter-define-requires c κs = child-room (c .before .before .before .before .before .before .before .before .before .before .args .classes .now) _ _ (c .before .before .before .before .before .before .before .before .before .before .args .kind) _ _ _ (sym (c .before .before .before .before .before .form .ensures) ∙ c .before .before .before .before .if1 .left) (c .before .before .before .before .before .before .before .before .before .before .pre)
-
-with-name-requires : tie.Need-with-name-requires
-with-name-requires c κs = search needs
-
-same-length : tie.Need-same-length
-same-length c = search needs
-
-same-length-2 : tie.Need-same-length-2
-same-length-2 c = search needs
 
 returns-2 : tie.Need-returns-2
 returns-2 c =
@@ -45,16 +30,5 @@ returns-3 c = child-value _ _ _ _ _ _ _ (sym (c .before .before .before .form .e
 
 pub enter-child-spec : {M : Type 1} → statement M
 enter-child-spec =
-    tie.close
-    (tie.spec
-    form-requires
-    returns
-    add-body-at
-    body-at-requires
-    add-enter-define
-    enter-define-requires
-    with-name-requires
-    same-length
-    same-length-2
-    returns-2
-    returns-3)
+    tie.close (tie.spec form-requires returns (λ c. search needs) body-at-requires (λ c. search needs) enter-define-requires (λ c κs. search needs)
+    (λ c. search needs) (λ c. search needs) returns-2 returns-3)

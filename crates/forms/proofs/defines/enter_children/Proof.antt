@@ -27,20 +27,11 @@ enter-child-requires c κs =
     let l = c .before .before .before .before in
     going-fits (l .loop .inv .4) (omega arith) (l .before .before .before .before .before .pre) (c .before .before .core-at .ensures) (l .loop .inv .3)
 
-add-i : tie.Need-add-i Inv-loop μ-loop
-add-i c = omega arith
-
-sub-step-over : tie.Need-sub-step-over Inv-loop μ-loop
-sub-step-over c = omega arith
-
 step-over-requires : tie.Need-step-over-requires Inv-loop μ-loop
 step-over-requires c κs = going-tree (c .before .before .before .before .before .before .before .before .before .loop .inv .4) (omega arith) (c .before .before .before .before .before .before .before .before .before .before .before .before .before .before .pre)
 
 add-at : tie.Need-add-at Inv-loop μ-loop
 add-at c = record { fits = omega (arith, going-few (c .before .before .before .before .before .before .before .before .before .before .loop .inv .4) (omega arith) (c .before .before .before .before .before .before .before .before .before .before .before .before .before .before .before .pre) (c .step-over .ensures)) }
-
-loop-less : tie.Need-loop-less Inv-loop μ-loop
-loop-less c = omega arith
 
 loop-again : tie.Need-loop-again Inv-loop μ-loop
 loop-again c =
@@ -55,30 +46,10 @@ loop-again c =
       going-goes g (omega arith) (d .core-at .ensures) (e .enter-child .ensures) (c .step-over .ensures),
     )
 
-same-length : tie.Need-same-length Inv-loop μ-loop
-same-length c = omega arith
-
-same-length-2 : tie.Need-same-length-2 Inv-loop μ-loop
-same-length-2 c = omega arith
-
 returns : tie.Need-returns Inv-loop μ-loop
 returns c = going-ends (c .before .loop .inv .4) (omega arith)
 
 pub enter-children-spec : {M : Type 1} → statement M
 enter-children-spec =
-    tie.close
-    (tie.spec
-    Inv-loop
-    μ-loop
-    loop-holds
-    core-at-requires
-    enter-child-requires
-    add-i
-    sub-step-over
-    step-over-requires
-    add-at
-    loop-less
-    loop-again
-    same-length
-    same-length-2
-    returns)
+    tie.close (tie.spec Inv-loop μ-loop loop-holds core-at-requires enter-child-requires (λ c. omega arith) (λ c. omega arith) step-over-requires
+    add-at (λ c. omega arith) loop-again (λ c. omega arith) (λ c. omega arith) returns)

@@ -7,25 +7,12 @@ use Rattle.forms.proofs.defines.enter_value.Tie as tie
 returns : tie.Need-returns
 returns c = no-value _ _ _ _ _ (c .if1 .taken)
 
-add-enter-define : tie.Need-add-enter-define
-add-enter-define c = search needs
-
 enter-define-requires : tie.Need-enter-define-requires
 enter-define-requires c κs = define-room _ _ _ _ _ (c .before .before .before .before .before .before .pre)
-
-with-name-requires : tie.Need-with-name-requires
-with-name-requires c κs = search needs
-
-same-length : tie.Need-same-length
-same-length c = search needs
-
-same-length-2 : tie.Need-same-length-2
-same-length-2 c = search needs
 
 returns-2 : tie.Need-returns-2
 returns-2 c = rw (c .with-name .ensures) (value-entered _ _ _ _ _ (c .before .before .before .before .before .enter-define .ensures) (c .before .before .before .before .before .before .before .before .if1 .left))
 
 pub enter-value-spec : {M : Type 1} → statement M
 enter-value-spec =
-    tie.close
-    (tie.spec returns add-enter-define enter-define-requires with-name-requires same-length same-length-2 returns-2)
+    tie.close (tie.spec returns (λ c. search needs) enter-define-requires (λ c κs. search needs) (λ c. search needs) (λ c. search needs) returns-2)

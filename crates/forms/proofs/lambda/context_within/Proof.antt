@@ -3,12 +3,6 @@ use borrow.Author.Needs.{needs}
 use Rattle.forms.proofs.lambda.context_within.Statement.{statement}
 use Rattle.forms.proofs.lambda.context_within.Tie as tie
 
-enum-known-v : tie.Need-enum-known-v
-enum-known-v c = search needs
-
-enum-told : tie.Need-enum-told
-enum-told c = search needs
-
 returns : tie.Need-returns
 returns c = rw (c .enum-told .given .1)
 
@@ -19,4 +13,5 @@ returns-3 : tie.Need-returns-3
 returns-3 c = rw (c .before .before .v .given .1, c .if1 .left)
 
 pub context-within-spec : {M : Type 1} → statement M
-context-within-spec = tie.close (tie.spec enum-known-v enum-told returns returns-2 returns-3)
+context-within-spec =
+    tie.close (tie.spec (λ c. search needs) (λ c. search needs) returns returns-2 returns-3)

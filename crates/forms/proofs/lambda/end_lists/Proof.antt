@@ -4,15 +4,6 @@ use Rattle.forms.proofs.LambdaEnds.{layer-fits, tops-fit, lists-made, a
 use Rattle.forms.proofs.lambda.end_lists.Statement.{statement}
 use Rattle.forms.proofs.lambda.end_lists.Tie as tie
 
-enum-known-v : tie.Need-enum-known-v
-enum-known-v c = search needs
-
-enum-told : tie.Need-enum-told
-enum-told c = search needs
-
-store-captured-requires : tie.Need-store-captured-requires
-store-captured-requires c κs = search needs
-
 store-layer-requires : tie.Need-store-layer-requires
 store-layer-requires c κs = layer-fits _ (c .before .before .before .before .before .before .before .before .before .before .enum-told .given .1) (c .before .before .before .before .before .before .store-captured .ensures) (c .before .before .before .before .before .before .before .before .before .before .before .before .before .before .before .before .pre)
 
@@ -21,15 +12,6 @@ between-requires c κs = let t = tops-fit _ (c .before .before .before .before .
 
 between-requires-2 : tie.Need-between-requires-2
 between-requires-2 c κs = let t = tops-fit _ (c .before .before .before .before .before .before .before .before .before .before .before .before .before .before .enum-told .given .1) (c .before .before .before .before .before .before .before .before .before .before .store-captured .ensures) (c .before .before .before .store-layer .ensures) (c .before .before .before .before .before .before .before .before .before .before .before .before .before .before .before .before .before .before .before .before .pre) in (t .2, t .3)
-
-same-length : tie.Need-same-length
-same-length c = search needs
-
-same-length-2 : tie.Need-same-length-2
-same-length-2 c = search needs
-
-same-length-3 : tie.Need-same-length-3
-same-length-3 c = search needs
 
 returns : tie.Need-returns
 returns c = lists-made _ (c .before .before .before .before .before .before .before .before .before .before .before .before .before .before .before .enum-told .given .1) (c .before .before .before .before .before .before .before .before .before .before .before .store-captured .ensures) (c .before .before .before .before .store-layer .ensures) (c .before .between .ensures) (c .between2 .ensures)
@@ -40,31 +22,11 @@ amend-list-requires c κs = amend-held (c .before .before .before .before .befor
 narrow-requires : tie.Need-narrow-requires
 narrow-requires c κs = amended-few (c .before .before .before .before .before .before .before .before .before .before .v .given .1) (c .before .before .before .before .amend-list .ensures) (c .before .before .before .before .before .before .before .before .before .before .before .before .before .before .before .before .pre)
 
-same-length-4 : tie.Need-same-length-4
-same-length-4 c = search needs
-
-same-length-5 : tie.Need-same-length-5
-same-length-5 c = search needs
-
 returns-2 : tie.Need-returns-2
 returns-2 c = lists-amended (c .before .before .before .before .before .before .before .before .before .before .before .v .given .1) (c .before .before .before .before .before .amend-list .ensures) (c .narrow .ensures)
 
 pub end-lists-spec : {M : Type 1} → statement M
 end-lists-spec =
-    tie.close
-    (tie.spec
-    enum-known-v
-    enum-told
-    store-captured-requires
-    store-layer-requires
-    between-requires
-    between-requires-2
-    same-length
-    same-length-2
-    same-length-3
-    returns
-    amend-list-requires
-    narrow-requires
-    same-length-4
-    same-length-5
+    tie.close (tie.spec (λ c. search needs) (λ c. search needs) (λ c κs. search needs) store-layer-requires between-requires between-requires-2
+    (λ c. search needs) (λ c. search needs) (λ c. search needs) returns amend-list-requires narrow-requires (λ c. search needs) (λ c. search needs)
     returns-2)

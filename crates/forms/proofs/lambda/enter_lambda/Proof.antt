@@ -21,12 +21,6 @@ entering-requires c κs = (lambda-inside (c .before .before .before .before .bef
 enter-names-requires : tie.Need-enter-names-requires
 enter-names-requires c κs = lambda-names (c .before .before .before .before .before .before .before .before .before .before .before .before .before .before .before .before .before .before .before .pre .few) (c .before .before .before .before .before .before .before .before .before .before .before .before .function-at .result) (c .before .before .before .before .before .before .before .before .before .before .before .before .function-at .ensures) (c .before .before .before .before .before .before .before .before .before .open-list .ensures) (c .before .before .before .before .open-scope .ensures) (c .before .before .entering .ensures) (c .before .before .before .before .before .before .before .before .before .before .before .before .before .before .before .before .before .before .before .pre)
 
-with-entered-requires : tie.Need-with-entered-requires
-with-entered-requires c κs = search needs
-
-same-length : tie.Need-same-length
-same-length c = search needs
-
 same-length-2 : tie.Need-same-length-2
 same-length-2 c = omega (arith, c .before .before .before .before .before .before .before .before .before .before .before .before .before .before .captured .given)
 
@@ -38,15 +32,5 @@ returns c = rw (c .with-entered .ensures) (lambda-entered (c .before .before .be
 
 pub enter-lambda-spec : {M : Type 1} → statement M
 enter-lambda-spec =
-    tie.close
-    (tie.spec
-    function-at-requires
-    open-list-requires
-    open-scope-requires
-    entering-requires
-    enter-names-requires
-    with-entered-requires
-    same-length
-    same-length-2
-    same-length-3
-    returns)
+    tie.close (tie.spec function-at-requires open-list-requires open-scope-requires entering-requires enter-names-requires (λ c κs. search needs)
+    (λ c. search needs) same-length-2 same-length-3 returns)

@@ -7,15 +7,6 @@ use Rattle.forms.proofs.LambdaEnter.{enters-first, enters-again}
 use Rattle.forms.proofs.lambda.entering.Statement.{statement}
 use Rattle.forms.proofs.lambda.entering.Tie as tie
 
-enum-known-v : tie.Need-enum-known-v
-enum-known-v c = search needs
-
-enum-told : tie.Need-enum-told
-enum-told c = search needs
-
-no-entries-requires : tie.Need-no-entries-requires
-no-entries-requires c κs = search needs
-
 returns : tie.Need-returns
 returns c = enters-first (c .before .enum-told .given .1) (c .no-entries .ensures)
 
@@ -32,5 +23,4 @@ returns-2 c =
 
 pub entering-spec : {M : Type 1} → statement M
 entering-spec =
-    tie.close
-    (tie.spec enum-known-v enum-told no-entries-requires returns heap-count-requires add-t11 returns-2)
+    tie.close (tie.spec (λ c. search needs) (λ c. search needs) (λ c κs. search needs) returns heap-count-requires add-t11 returns-2)

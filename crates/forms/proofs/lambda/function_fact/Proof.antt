@@ -3,12 +3,6 @@ use borrow.Author.Needs.{needs}
 use Rattle.forms.proofs.lambda.function_fact.Statement.{statement}
 use Rattle.forms.proofs.lambda.function_fact.Tie as tie
 
-enum-known-v : tie.Need-enum-known-v
-enum-known-v c = search needs
-
-enum-told : tie.Need-enum-told
-enum-told c = search needs
-
 returns : tie.Need-returns
 returns c = rw (c .enum-told .given .1)
 
@@ -16,4 +10,5 @@ returns-2 : tie.Need-returns-2
 returns-2 c = rw (c .before .v .given .1)
 
 pub function-fact-spec : {M : Type 1} → statement M
-function-fact-spec = tie.close (tie.spec enum-known-v enum-told returns returns-2)
+function-fact-spec =
+    tie.close (tie.spec (λ c. search needs) (λ c. search needs) returns returns-2)

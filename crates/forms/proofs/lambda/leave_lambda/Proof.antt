@@ -15,17 +15,8 @@ end-lists-requires c κs = ends-lists (c .before .before .before .before .before
 close-lambda-requires : tie.Need-close-lambda-requires
 close-lambda-requires c κs = ended-names (c .before .before .before .before .before .before .before .before .before .before .before .before .before .before .before .before .before .before .before .before .before .pre .few) (c .before .before .before .before .before .before .before .before .before .before .before .before .before .function-at .result) (c .before .before .before .before .before .before .before .before .before .before .before .before .before .function-at .ensures) (c .before .before .before .before .before .before .before .before .before .end-lists .ensures) (c .before .before .before .before .before .before .before .before .before .before .before .before .before .before .before .before .before .before .before .before .before .pre)
 
-depth-requires : tie.Need-depth-requires
-depth-requires c κs = search needs
-
-function-fact-requires : tie.Need-function-fact-requires
-function-fact-requires c κs = search needs
-
 store-function-requires : tie.Need-store-function-requires
 store-function-requires c κs = ended-fact (c .before .before .before .before .before .before .before .before .before .before .before .before .before .before .before .before .before .before .before .before .before .before .before .before .before .before .before .before .before .before .before .pre .few) (c .before .before .before .before .before .before .before .before .before .before .before .before .before .before .before .before .before .before .before .before .before .before .before .function-at .result) (c .before .before .before .before .before .before .before .before .before .before .before .before .before .before .before .before .before .before .before .before .before .before .before .function-at .ensures) (c .before .before .before .before .before .before .before .before .before .before .before .before .before .before .before .before .before .before .before .end-lists .ensures) (c .before .before .before .before .before .before .before .before .before .close-lambda .ensures) (c .before .before .before .before .before .before .before .before .before .before .before .before .before .before .before .before .before .before .before .before .before .before .before .before .before .before .before .before .before .before .before .pre)
-
-same-length : tie.Need-same-length
-same-length c = search needs
 
 same-length-2 : tie.Need-same-length-2
 same-length-2 c = omega (arith, c .before .before .before .before .before .before .before .before .before .before .before .before .before .before .before .before .before .before .before .before .before .captured .given)
@@ -33,24 +24,10 @@ same-length-2 c = omega (arith, c .before .before .before .before .before .befor
 same-length-3 : tie.Need-same-length-3
 same-length-3 c = omega (arith, c .before .before .before .before .before .before .before .before .before .before .before .before .before .before .before .before .before .before .before .arguments .given)
 
-same-length-4 : tie.Need-same-length-4
-same-length-4 c = search needs
-
 returns : tie.Need-returns
 returns c = lambda-left (c .before .before .before .before .before .before .before .before .before .before .before .before .before .before .before .before .before .before .before .before .before .before .before .before .before .before .before .before .before .before .before .before .before .before .pre .few) (c .before .before .before .before .before .before .before .before .before .before .before .before .before .before .before .before .before .before .before .before .before .before .before .before .before .before .function-at .result) (c .before .before .before .before .before .before .before .before .before .before .before .before .before .before .before .before .before .before .before .before .before .before .before .before .before .before .function-at .ensures) (c .before .before .before .before .before .before .before .before .before .before .before .before .before .before .before .before .before .before .before .before .before .before .end-lists .ensures) (c .before .before .before .before .before .before .before .before .before .before .before .before .close-lambda .ensures) (c .before .before .before .before .before .depth .ensures) (c .before .before .before .before .function-fact .ensures) (c .before .before .store-function .ensures)
 
 pub leave-lambda-spec : {M : Type 1} → statement M
 leave-lambda-spec =
-    tie.close
-    (tie.spec
-    function-at-requires
-    end-lists-requires
-    close-lambda-requires
-    depth-requires
-    function-fact-requires
-    store-function-requires
-    same-length
-    same-length-2
-    same-length-3
-    same-length-4
-    returns)
+    tie.close (tie.spec function-at-requires end-lists-requires close-lambda-requires (λ c κs. search needs) (λ c κs. search needs)
+    store-function-requires (λ c. search needs) same-length-2 same-length-3 (λ c. search needs) returns)

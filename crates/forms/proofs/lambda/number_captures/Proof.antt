@@ -4,35 +4,15 @@ use Rattle.forms.proofs.LambdaEnter.{numbers-nothing, list-numbers, num
 use Rattle.forms.proofs.lambda.number_captures.Statement.{statement}
 use Rattle.forms.proofs.lambda.number_captures.Tie as tie
 
-enum-known-v : tie.Need-enum-known-v
-enum-known-v c = search needs
-
-enum-told : tie.Need-enum-told
-enum-told c = search needs
-
 returns : tie.Need-returns
 returns c = numbers-nothing (c .before .enum-told .given .1)
 
 number-list-requires : tie.Need-number-list-requires
 number-list-requires c κs = list-numbers (c .before .before .before .before .v .given .1) (c .before .before .before .before .before .before .before .before .pre)
 
-same-length : tie.Need-same-length
-same-length c = search needs
-
-same-length-2 : tie.Need-same-length-2
-same-length-2 c = search needs
-
 returns-2 : tie.Need-returns-2
 returns-2 c = numbers-found (c .before .before .before .before .before .before .before .before .before .before .v .given .1) (c .before .before .before .before .before .number-list .ensures)
 
 pub number-captures-spec : {M : Type 1} → statement M
 number-captures-spec =
-    tie.close
-    (tie.spec
-    enum-known-v
-    enum-told
-    returns
-    number-list-requires
-    same-length
-    same-length-2
-    returns-2)
+    tie.close (tie.spec (λ c. search needs) (λ c. search needs) returns number-list-requires (λ c. search needs) (λ c. search needs) returns-2)

@@ -4,15 +4,6 @@ use Rattle.forms.proofs.LetEnds.{closes-layer, closes-none}
 use Rattle.forms.proofs.lets.close_let.Statement.{statement}
 use Rattle.forms.proofs.lets.close_let.Tie as tie
 
-newest-layer-requires : tie.Need-newest-layer-requires
-newest-layer-requires c κs = search needs
-
-close-scope-requires : tie.Need-close-scope-requires
-close-scope-requires c κs = search needs
-
-same-length : tie.Need-same-length
-same-length c = search needs
-
 returns : tie.Need-returns
 returns c = closes-layer (c .before .before .before .before .before .before .if1 .taken) (c .before .before .close-scope .ensures)
 
@@ -20,4 +11,5 @@ returns-2 : tie.Need-returns-2
 returns-2 c = closes-none (c .if1 .left)
 
 pub close-let-spec : {M : Type 1} → statement M
-close-let-spec = tie.close (tie.spec newest-layer-requires close-scope-requires same-length returns returns-2)
+close-let-spec =
+    tie.close (tie.spec (λ c κs. search needs) (λ c κs. search needs) (λ c. search needs) returns returns-2)

@@ -7,36 +7,13 @@ use Rattle.forms.proofs.lets.enter_let.Tie as tie
 heaps-around-requires : tie.Need-heaps-around-requires
 heaps-around-requires c κs = around-fits (c .before .before .before .before .before .before .pre)
 
-let-arguments-requires : tie.Need-let-arguments-requires
-let-arguments-requires c κs = search needs
-
-open-let-requires : tie.Need-open-let-requires
-open-let-requires c κs = search needs
-
 enter-names-requires : tie.Need-enter-names-requires
 enter-names-requires c κs = let-names (c .before .before .open-let .ensures) (c .before .before .before .before .before .heaps-around .ensures) (c .before .before .before .let-arguments .ensures) (c .before .before .before .before .before .before .before .before .before .before .before .before .pre)
-
-with-entered-requires : tie.Need-with-entered-requires
-with-entered-requires c κs = search needs
-
-same-length : tie.Need-same-length
-same-length c = search needs
-
-same-length-2 : tie.Need-same-length-2
-same-length-2 c = search needs
 
 returns : tie.Need-returns
 returns c = rw (c .with-entered .ensures) (let-entered (c .before .before .before .before .before .before .before .before .open-let .ensures) (c .before .before .before .before .before .before .before .before .before .before .before .heaps-around .ensures) (c .before .before .before .before .before .before .before .before .before .let-arguments .ensures) (c .before .before .before .before .before .enter-names .ensures))
 
 pub enter-let-spec : {M : Type 1} → statement M
 enter-let-spec =
-    tie.close
-    (tie.spec
-    heaps-around-requires
-    let-arguments-requires
-    open-let-requires
-    enter-names-requires
-    with-entered-requires
-    same-length
-    same-length-2
-    returns)
+    tie.close (tie.spec heaps-around-requires (λ c κs. search needs) (λ c κs. search needs) enter-names-requires (λ c κs. search needs)
+    (λ c. search needs) (λ c. search needs) returns)

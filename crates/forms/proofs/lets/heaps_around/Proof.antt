@@ -8,20 +8,8 @@ use Rattle.forms.proofs.lets.heaps_around.Tie as tie
 returns : tie.Need-returns
 returns c = no-lambda _ (c .if1 .taken) _ _
 
-sub-at : tie.Need-sub-at
-sub-at c = search needs
-
-cast-at : tie.Need-cast-at
-cast-at c = search needs
-
 function-at-requires : tie.Need-function-at-requires
 function-at-requires c κs = around-fact _ (c .before .if1 .left) (c .before .before .before .before .before .pre)
-
-enum-known-found : tie.Need-enum-known-found
-enum-known-found c = search needs
-
-enum-told : tie.Need-enum-told
-enum-told c = search needs
 
 returns-2 : tie.Need-returns-2
 returns-2 c =
@@ -49,15 +37,5 @@ returns-3 c =
 
 pub heaps-around-spec : {M : Type 1} → statement M
 heaps-around-spec =
-    tie.close
-    (tie.spec
-    returns
-    sub-at
-    cast-at
-    function-at-requires
-    enum-known-found
-    enum-told
-    returns-2
-    heap-count-requires
-    add-t10
-    returns-3)
+    tie.close (tie.spec returns (λ c. search needs) (λ c. search needs) function-at-requires (λ c. search needs) (λ c. search needs) returns-2
+    heap-count-requires add-t10 returns-3)

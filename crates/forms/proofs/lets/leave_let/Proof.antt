@@ -8,9 +8,6 @@ use Rattle.forms.proofs.lets.leave_let.Tie as tie
 is-blank-requires : tie.Need-is-blank-requires
 is-blank-requires c κs = ends-fact (c .before .before .before .before .before .pre)
 
-leave-names-requires : tie.Need-leave-names-requires
-leave-names-requires c κs = search needs
-
 make-let-requires : tie.Need-make-let-requires
 make-let-requires c κs = ends-make (c .before .before .before .before .before .before .before .before .before .before .is-blank .ensures) (c .before .before .before .before .before .before .before .leave-names .ensures) (c .before .before .before .before .before .before .before .before .before .before .before .before .before .before .before .before .pre)
 
@@ -23,24 +20,10 @@ same-length c =
     let at-leave-names = at-make-let .before .before .before .before .before .before .before .before in
     at-make-let .make-let .kept .1 .1 .1 .1 .1 .1 .1 .0 ∙ at-leave-names .leave-names .kept .1 .1 .1 .0
 
-same-length-2 : tie.Need-same-length-2
-same-length-2 c = search needs
-
-same-length-3 : tie.Need-same-length-3
-same-length-3 c = search needs
-
 returns : tie.Need-returns
 returns c = let-left (c .before .before .before .before .before .before .before .before .before .before .before .before .before .before .before .before .before .before .before .is-blank .ensures) (c .before .before .before .before .before .before .before .before .before .before .before .before .before .before .before .before .leave-names .ensures) (c .before .before .before .before .before .before .before .before .make-let .ensures) (c .before .before .before .before .before .before .before .before .before .before .before .before .before .before .before .before .before .before .before .before .before .before .before .before .before .pre .few) (c .before .before .close-let .ensures)
 
 pub leave-let-spec : {M : Type 1} → statement M
 leave-let-spec =
-    tie.close
-    (tie.spec
-    is-blank-requires
-    leave-names-requires
-    make-let-requires
-    close-let-requires
-    same-length
-    same-length-2
-    same-length-3
-    returns)
+    tie.close (tie.spec is-blank-requires (λ c κs. search needs) make-let-requires close-let-requires same-length (λ c. search needs)
+    (λ c. search needs) returns)

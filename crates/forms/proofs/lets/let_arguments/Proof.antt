@@ -7,15 +7,6 @@ use Rattle.forms.proofs.lets.let_arguments.Tie as tie
 let-at-requires : tie.Need-let-at-requires
 let-at-requires c κs = let-fact (c .before .pre)
 
-enum-known-found : tie.Need-enum-known-found
-enum-known-found c = search needs
-
-enum-told : tie.Need-enum-told
-enum-told c = search needs
-
-no-entries-requires : tie.Need-no-entries-requires
-no-entries-requires c κs = search needs
-
 returns : tie.Need-returns
 returns c = no-let (c .before .before .before .before .before .pre) (c .before .before .before .let-at .result) (c .before .before .before .let-at .ensures) (c .before .enum-told .given .1) (c .no-entries .ensures)
 
@@ -24,5 +15,4 @@ returns-2 c = let-list (c .before .before .before .before .before .before .pre) 
 
 pub let-arguments-spec : {M : Type 1} → statement M
 let-arguments-spec =
-    tie.close
-    (tie.spec let-at-requires enum-known-found enum-told no-entries-requires returns returns-2)
+    tie.close (tie.spec let-at-requires (λ c. search needs) (λ c. search needs) (λ c κs. search needs) returns returns-2)

@@ -17,35 +17,13 @@ narrow-requires c κs = omega (arith, make-top (c .before .before .before .befor
 narrow-requires-2 : tie.Need-narrow-requires-2
 narrow-requires-2 c κs = omega (arith, make-top (c .before .before .before .before .before .if1 .left) (c .before .before .before .before .before .before .before .before .before .before .pre))
 
-function-id-requires : tie.Need-function-id-requires
-function-id-requires c κs = search needs
-
-new-requires : tie.Need-new-requires
-new-requires c κs = search needs
-
 store-let-requires : tie.Need-store-let-requires
 store-let-requires c κs = make-fact (c .before .before .before .before .before .before .before .before .before .before .before .before .before .before .pre)
-
-same-length : tie.Need-same-length
-same-length c = search needs
-
-same-length-2 : tie.Need-same-length-2
-same-length-2 c = search needs
 
 returns-2 : tie.Need-returns-2
 returns-2 c = let-made (c .before .before .before .before .before .before .before .before .before .before .before .before .if1 .left) (c .before .before .before .before .before .before .before .before .before .before .before .before .before .before .before .before .before .pre .few) (c .before .before .before .before .before .before .before .before .before .before .store-names .ensures) (c .before .before .before .before .before .before .before .narrow .ensures) (c .before .before .before .before .before .before .narrow2 .ensures) (c .before .before .before .before .before .function-id .ensures) (c .before .before .before .before .new .ensures) (c .before .before .store-let .ensures)
 
 pub make-let-spec : {M : Type 1} → statement M
 make-let-spec =
-    tie.close
-    (tie.spec
-    returns
-    store-names-requires
-    narrow-requires
-    narrow-requires-2
-    function-id-requires
-    new-requires
-    store-let-requires
-    same-length
-    same-length-2
-    returns-2)
+    tie.close (tie.spec returns store-names-requires narrow-requires narrow-requires-2 (λ c κs. search needs) (λ c κs. search needs)
+    store-let-requires (λ c. search needs) (λ c. search needs) returns-2)

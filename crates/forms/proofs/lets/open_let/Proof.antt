@@ -4,12 +4,6 @@ use Rattle.forms.proofs.LetsCase.{layer-opens, layer-stays}
 use Rattle.forms.proofs.lets.open_let.Statement.{statement}
 use Rattle.forms.proofs.lets.open_let.Tie as tie
 
-depth-requires : tie.Need-depth-requires
-depth-requires c κs = search needs
-
-open-scope-requires : tie.Need-open-scope-requires
-open-scope-requires c κs = search needs
-
 returns : tie.Need-returns
 returns c = layer-opens (c .before .before .depth .ensures) (c .before .if1 .taken) (c .open-scope .ensures)
 
@@ -17,4 +11,5 @@ returns-2 : tie.Need-returns-2
 returns-2 c = layer-stays (c .before .depth .ensures) (c .if1 .left)
 
 pub open-let-spec : {M : Type 1} → statement M
-open-let-spec = tie.close (tie.spec depth-requires open-scope-requires returns returns-2)
+open-let-spec =
+    tie.close (tie.spec (λ c κs. search needs) (λ c κs. search needs) returns returns-2)

@@ -17,12 +17,6 @@ Inv-loop index counts seen₀ all d p captured₀ work₀ first n to₀ k₀ see
 abbrev μ-loop : tie.MeasureT-loop
 μ-loop index counts seen₀ all d p captured₀ work₀ first n to₀ k₀ seen captured work to k = n - k
 
-wide-requires : tie.Need-wide-requires Inv-loop μ-loop
-wide-requires c κs = search needs
-
-wide-requires-2 : tie.Need-wide-requires-2 Inv-loop μ-loop
-wide-requires-2 c κs = search needs
-
 loop-holds : tie.Need-loop-holds Inv-loop μ-loop
 loop-holds c =
     let start = c .before .before .before .before .before .before .before .before in
@@ -56,9 +50,6 @@ add-k : tie.Need-add-k Inv-loop μ-loop
 add-k c =
     let at-wide2 = c .before .before .before .before .before .before .before .before .before .before .before .before .before in
     omega (arith, at-wide2 .wide2 .ensures)
-
-loop-less : tie.Need-loop-less Inv-loop μ-loop
-loop-less c = search needs
 
 loop-again : tie.Need-loop-again Inv-loop μ-loop
 loop-again c =
@@ -134,23 +125,5 @@ returns c =
 
 pub amend-rows-spec : {M : Type 1} → statement M
 amend-rows-spec =
-    tie.close
-    (tie.spec
-    Inv-loop
-    μ-loop
-    wide-requires
-    wide-requires-2
-    loop-holds
-    add-keep-row
-    keep-row-requires
-    add-to
-    add-k
-    loop-less
-    loop-again
-    add-clear-items
-    clear-items-requires
-    sub-result
-    same-length
-    same-length-2
-    same-length-3
-    returns)
+    tie.close (tie.spec Inv-loop μ-loop (λ c κs. search needs) (λ c κs. search needs) loop-holds add-keep-row keep-row-requires add-to add-k
+    (λ c. search needs) loop-again add-clear-items clear-items-requires sub-result same-length same-length-2 same-length-3 returns)

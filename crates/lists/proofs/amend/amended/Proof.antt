@@ -4,12 +4,6 @@ use Rattle.lists.proofs.KeptCase.{amended-none, amended-some, amended-i
 use Rattle.lists.proofs.amend.amended.Statement.{statement}
 use Rattle.lists.proofs.amend.amended.Tie as tie
 
-enum-known-found : tie.Need-enum-known-found
-enum-known-found c = search needs
-
-enum-told : tie.Need-enum-told
-enum-told c = search needs
-
 returns : tie.Need-returns
 returns c = amended-none _ _ _ (c .enum-told .given .1)
 
@@ -17,9 +11,6 @@ load-entry-requires : tie.Need-load-entry-requires
 load-entry-requires c κs =
     let start = c .before .before .before .before in
     (start .pre .0 .here .works .long, amended-inside (c .before .found .given .1) (start .pre .1))
-
-enclosing-in-requires : tie.Need-enclosing-in-requires
-enclosing-in-requires c κs = search needs
 
 returns-2 : tie.Need-returns-2
 returns-2 c =
@@ -29,11 +20,4 @@ returns-2 c =
 
 pub amended-spec : {M : Type 1} → statement M
 amended-spec =
-    tie.close
-    (tie.spec
-    enum-known-found
-    enum-told
-    returns
-    load-entry-requires
-    enclosing-in-requires
-    returns-2)
+    tie.close (tie.spec (λ c. search needs) (λ c. search needs) returns load-entry-requires (λ c κs. search needs) returns-2)

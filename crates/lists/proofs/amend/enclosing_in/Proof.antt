@@ -7,11 +7,9 @@ use Rattle.lists.proofs.amend.enclosing_in.Tie as tie
 returns : tie.Need-returns
 returns c = once-no _ _ (c .if1 .taken)
 
-enclosing-of-requires : tie.Need-enclosing-of-requires
-enclosing-of-requires c κs = search needs
-
 returns-2 : tie.Need-returns-2
 returns-2 c = once-yes _ _ (c .before .if1 .left) (c .enclosing-of .ensures)
 
 pub enclosing-in-spec : {M : Type 1} → statement M
-enclosing-in-spec = tie.close (tie.spec returns enclosing-of-requires returns-2)
+enclosing-in-spec =
+    tie.close (tie.spec returns (λ c κs. search needs) returns-2)

@@ -8,12 +8,6 @@ use Rattle.lists.proofs.amend.enclosing_of.Tie as tie
 newest-capture-requires : tie.Need-newest-capture-requires
 newest-capture-requires c κs = spacious (c .before .pre .here .works)
 
-enum-known-found : tie.Need-enum-known-found
-enum-known-found c = search needs
-
-enum-told : tie.Need-enum-told
-enum-told c = search needs
-
 returns : tie.Need-returns
 returns c = enclosing-none (c .before .before .newest-capture .ensures) (c .enum-told .given .1)
 
@@ -31,11 +25,4 @@ returns-2 c =
 
 pub enclosing-of-spec : {M : Type 1} → statement M
 enclosing-of-spec =
-    tie.close
-    (tie.spec
-    newest-capture-requires
-    enum-known-found
-    enum-told
-    returns
-    load-taken-requires
-    returns-2)
+    tie.close (tie.spec newest-capture-requires (λ c. search needs) (λ c. search needs) returns load-taken-requires returns-2)

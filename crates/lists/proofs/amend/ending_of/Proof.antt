@@ -4,15 +4,9 @@ use mathlib.Core.Path.{refl}
 use Rattle.lists.proofs.amend.ending_of.Statement.{statement}
 use Rattle.lists.proofs.amend.ending_of.Tie as tie
 
-holds-lambda-requires : tie.Need-holds-lambda-requires
-holds-lambda-requires c κs = search needs
-
 returns : tie.Need-returns
 returns c = (refl, record { lambda = c .before .before .before .pre; holds = c .holds-lambda .ensures })
 
 pub ending-of-spec : {M : Type 1} → statement M
 ending-of-spec =
-    tie.close
-    (tie.spec
-    holds-lambda-requires
-    returns)
+    tie.close (tie.spec (λ c κs. search needs) returns)

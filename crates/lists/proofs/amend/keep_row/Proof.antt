@@ -18,15 +18,6 @@ count-used-requires c κs =
     let start = c .before .before .before .before .before .before .before .before .before .before .before in
     (start .pre .ended, held-here (start .pre .held))
 
-keeps-requires : tie.Need-keeps-requires
-keeps-requires c κs = search needs
-
-same-length : tie.Need-same-length
-same-length c = search needs
-
-same-length-2 : tie.Need-same-length-2
-same-length-2 c = search needs
-
 returns : tie.Need-returns
 returns c =
     let at-load-item = c .before .before .before .before in
@@ -52,21 +43,6 @@ store-item-requires c κs =
       keep-small (start .pre) (at-load-item .load-item .ensures) (c .before .before .kept .ensures .1),
     )
 
-wide-requires : tie.Need-wide-requires
-wide-requires c κs = search needs
-
-mark-requires : tie.Need-mark-requires
-mark-requires c κs = search needs
-
-same-length-3 : tie.Need-same-length-3
-same-length-3 c = search needs
-
-same-length-4 : tie.Need-same-length-4
-same-length-4 c = search needs
-
-same-length-5 : tie.Need-same-length-5
-same-length-5 c = search needs
-
 returns-2 : tie.Need-returns-2
 returns-2 c =
     let at-mark = c .before .before in
@@ -83,20 +59,6 @@ returns-2 c =
 
 pub keep-row-spec : {M : Type 1} → statement M
 keep-row-spec =
-    tie.close
-    (tie.spec
-    load-item-requires
-    count-used-requires
-    keeps-requires
-    same-length
-    same-length-2
-    returns
-    stands-before-requires
-    kept-requires
-    store-item-requires
-    wide-requires
-    mark-requires
-    same-length-3
-    same-length-4
-    same-length-5
-    returns-2)
+    tie.close (tie.spec load-item-requires count-used-requires (λ c κs. search needs) (λ c. search needs) (λ c. search needs) returns
+    stands-before-requires kept-requires store-item-requires (λ c κs. search needs) (λ c κs. search needs) (λ c. search needs) (λ c. search needs)
+    (λ c. search needs) returns-2)

@@ -6,11 +6,9 @@ use borrow.Author.Needs.{needs}
 use Rattle.lists.proofs.amend.keeps.Statement.{statement}
 use Rattle.lists.proofs.amend.keeps.Tie as tie
 
-returns : tie.Need-returns
-returns c = search needs
-
 returns-2 : tie.Need-returns-2
 returns-2 c = ap (λ (b : Bool). b || not (eqb (c .before .args .n) 0)) (sym (c .if1 .left))
 
 pub keeps-spec : {M : Type 1} → statement M
-keeps-spec = tie.close (tie.spec returns returns-2)
+keeps-spec =
+    tie.close (tie.spec (λ c. search needs) returns-2)

@@ -4,27 +4,12 @@ use Rattle.lists.proofs.KeptCase.{stands-marked, stands-searched}
 use Rattle.lists.proofs.amend.stands_before.Statement.{statement}
 use Rattle.lists.proofs.amend.stands_before.Tie as tie
 
-wide-requires : tie.Need-wide-requires
-wide-requires c κs = search needs
-
-shared-slice-read-result : tie.Need-shared-slice-read-result
-shared-slice-read-result c = search needs
-
 returns : tie.Need-returns
 returns c = stands-marked (c .before .before .wide .ensures) (c .before .if1 .taken)
-
-search-rows-requires : tie.Need-search-rows-requires
-search-rows-requires c κs = search needs
 
 returns-2 : tie.Need-returns-2
 returns-2 c = stands-searched (c .search-rows .ensures)
 
 pub stands-before-spec : {M : Type 1} → statement M
 stands-before-spec =
-    tie.close
-    (tie.spec
-    wide-requires
-    shared-slice-read-result
-    returns
-    search-rows-requires
-    returns-2)
+    tie.close (tie.spec (λ c κs. search needs) (λ c. search needs) returns (λ c κs. search needs) returns-2)

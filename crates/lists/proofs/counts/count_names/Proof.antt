@@ -5,22 +5,10 @@ use Rattle.lists.proofs.TallyCase.{unmarked, tallied}
 use Rattle.lists.proofs.counts.count_names.Statement.{statement}
 use Rattle.lists.proofs.counts.count_names.Tie as tie
 
-slice-aggregate-mark-body : tie.Need-slice-aggregate-mark-body
-slice-aggregate-mark-body c = search needs
-
 mark-body-requires : tie.Need-mark-body-requires
 mark-body-requires c κs =
     let start = c .before .before .before .before .before in
     (start .pre .0, unmarked namesMost)
-
-slice-aggregate-count-rows : tie.Need-slice-aggregate-count-rows
-slice-aggregate-count-rows c = search needs
-
-count-rows-requires : tie.Need-count-rows-requires
-count-rows-requires c κs = search needs
-
-same-length : tie.Need-same-length
-same-length c = search needs
 
 returns : tie.Need-returns
 returns c =
@@ -29,11 +17,4 @@ returns c =
 
 pub count-names-spec : {M : Type 1} → statement M
 count-names-spec =
-    tie.close
-    (tie.spec
-    slice-aggregate-mark-body
-    mark-body-requires
-    slice-aggregate-count-rows
-    count-rows-requires
-    same-length
-    returns)
+    tie.close (tie.spec (λ c. search needs) mark-body-requires (λ c. search needs) (λ c κs. search needs) (λ c. search needs) returns)

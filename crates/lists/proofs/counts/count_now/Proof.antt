@@ -19,9 +19,6 @@ abbrev μ-loop : tie.MeasureT-loop
 loop-holds : tie.Need-loop-holds Inv-loop μ-loop
 loop-holds c = (omega arith, above-start, now-start)
 
-sub-last : tie.Need-sub-last Inv-loop μ-loop
-sub-last c = search needs
-
 live-at-requires : tie.Need-live-at-requires Inv-loop μ-loop
 live-at-requires c κs =
     let start = c .before .before .before .before .before in
@@ -38,15 +35,6 @@ gives-requires : tie.Need-gives-requires Inv-loop μ-loop
 gives-requires c κs =
     let start = c .before .before .before .before .before .before .before .before in
     (start .pre .0, start .pre .1, omega arith)
-
-add-n : tie.Need-add-n Inv-loop μ-loop
-add-n c = search needs
-
-sub-i : tie.Need-sub-i Inv-loop μ-loop
-sub-i c = search needs
-
-loop-less : tie.Need-loop-less Inv-loop μ-loop
-loop-less c = search needs
 
 loop-again : tie.Need-loop-again Inv-loop μ-loop
 loop-again c =
@@ -66,17 +54,5 @@ returns-2 c = now-last (c .before .loop .inv .2) (above-last (c .before .loop .i
 
 pub count-now-spec : {M : Type 1} → statement M
 count-now-spec =
-    tie.close
-    (tie.spec
-    Inv-loop
-    μ-loop
-    loop-holds
-    sub-last
-    live-at-requires
-    returns
-    gives-requires
-    add-n
-    sub-i
-    loop-less
-    loop-again
-    returns-2)
+    tie.close (tie.spec Inv-loop μ-loop loop-holds (λ c. search needs) live-at-requires returns gives-requires (λ c. search needs) (λ c. search needs)
+    (λ c. search needs) loop-again returns-2)

@@ -31,9 +31,6 @@ add-i c =
     let start = at-loop-test .before .before .before .before .before .before .before .before in
     omega (arith, at-loop-test .loop-test .taken, spacious (start .pre .1 .works) .names)
 
-loop-less : tie.Need-loop-less Inv-loop μ-loop
-loop-less c = search needs
-
 loop-again : tie.Need-loop-again Inv-loop μ-loop
 loop-again c =
     let at-count-row = c .before .before in
@@ -52,14 +49,4 @@ returns c = tally-last (c .before .loop .inv .2) (c .loop-test .left)
 
 pub count-rows-spec : {M : Type 1} → statement M
 count-rows-spec =
-    tie.close
-    (tie.spec
-    Inv-loop
-    μ-loop
-    loop-holds
-    count-row-requires
-    add-i
-    loop-less
-    loop-again
-    same-length
-    returns)
+    tie.close (tie.spec Inv-loop μ-loop loop-holds count-row-requires add-i (λ c. search needs) loop-again same-length returns)

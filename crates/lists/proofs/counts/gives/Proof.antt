@@ -13,15 +13,6 @@ live-at-requires c κs =
 returns : tie.Need-returns
 returns c = gives-no (c .before .before .live-at .ensures) (c .if1 .taken)
 
-slice-aggregate-captured-at : tie.Need-slice-aggregate-captured-at
-slice-aggregate-captured-at c = search needs
-
-captured-at-requires : tie.Need-captured-at-requires
-captured-at-requires c κs = search needs
-
-is-at-requires : tie.Need-is-at-requires
-is-at-requires c κs = search needs
-
 returns-2 : tie.Need-returns-2
 returns-2 c =
     let at-if1 = c .before .before .before in
@@ -29,11 +20,4 @@ returns-2 c =
 
 pub gives-spec : {M : Type 1} → statement M
 gives-spec =
-    tie.close
-    (tie.spec
-    live-at-requires
-    returns
-    slice-aggregate-captured-at
-    captured-at-requires
-    is-at-requires
-    returns-2)
+    tie.close (tie.spec live-at-requires returns (λ c. search needs) (λ c κs. search needs) (λ c κs. search needs) returns-2)

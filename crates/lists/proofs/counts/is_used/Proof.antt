@@ -7,19 +7,10 @@ use Rattle.lists.proofs.counts.is_used.Tie as tie
 returns : tie.Need-returns
 returns c = used-held (c .if1 .taken)
 
-wide-requires : tie.Need-wide-requires
-wide-requires c κs = search needs
-
-shared-slice-read-result : tie.Need-shared-slice-read-result
-shared-slice-read-result c = search needs
-
 returns-2 : tie.Need-returns-2
 returns-2 c =
     let at-if1 = c .before .before .before in
     used-marked (at-if1 .if1 .left) (c .before .before .wide .ensures) (c .before .if2 .taken)
-
-uses-name-requires : tie.Need-uses-name-requires
-uses-name-requires c κs = search needs
 
 returns-3 : tie.Need-returns-3
 returns-3 c =
@@ -28,11 +19,4 @@ returns-3 c =
 
 pub is-used-spec : {M : Type 1} → statement M
 is-used-spec =
-    tie.close
-    (tie.spec
-    returns
-    wide-requires
-    shared-slice-read-result
-    returns-2
-    uses-name-requires
-    returns-3)
+    tie.close (tie.spec returns (λ c κs. search needs) (λ c. search needs) returns-2 (λ c κs. search needs) returns-3)

@@ -8,20 +8,9 @@ use Rattle.lists.proofs.counts.mark_body.Tie as tie
 returns : tie.Need-returns
 returns c = record { is = λ e. absurd (false≢true (sym e ∙ c .if1 .taken)) }
 
-mark-uses-requires : tie.Need-mark-uses-requires
-mark-uses-requires c κs = search needs
-
-same-length : tie.Need-same-length
-same-length c = search needs
-
 returns-2 : tie.Need-returns-2
 returns-2 c = record { is = λ e. c .before .before .mark-uses .ensures }
 
 pub mark-body-spec : {M : Type 1} → statement M
 mark-body-spec =
-    tie.close
-    (tie.spec
-    returns
-    mark-uses-requires
-    same-length
-    returns-2)
+    tie.close (tie.spec returns (λ c κs. search needs) (λ c. search needs) returns-2)

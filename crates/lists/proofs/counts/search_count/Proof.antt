@@ -5,27 +5,12 @@ use Rattle.lists.proofs.NowCase.{used-yes, used-no}
 use Rattle.lists.proofs.counts.search_count.Statement.{statement}
 use Rattle.lists.proofs.counts.search_count.Tie as tie
 
-slice-aggregate-is-used : tie.Need-slice-aggregate-is-used
-slice-aggregate-is-used c = search needs
-
-is-used-requires : tie.Need-is-used-requires
-is-used-requires c κs = search needs
-
 returns : tie.Need-returns
 returns c = used-no (c .before .is-used .ensures) (not-true _ (c .if1 .taken))
-
-count-now-requires : tie.Need-count-now-requires
-count-now-requires c κs = search needs
 
 returns-2 : tie.Need-returns-2
 returns-2 c = used-yes (c .before .before .is-used .ensures) (not-false _ (c .before .if1 .left)) (c .count-now .ensures)
 
 pub search-count-spec : {M : Type 1} → statement M
 search-count-spec =
-    tie.close
-    (tie.spec
-    slice-aggregate-is-used
-    is-used-requires
-    returns
-    count-now-requires
-    returns-2)
+    tie.close (tie.spec (λ c. search needs) (λ c κs. search needs) returns (λ c κs. search needs) returns-2)

@@ -7,17 +7,9 @@ use Rattle.lists.proofs.index.clear_name.Tie as tie
 returns : tie.Need-returns
 returns c = clear-past (c .if1 .taken)
 
-mul-index : tie.Need-mul-index
-mul-index c = search needs
-
-slice-write-index : tie.Need-slice-write-index
-slice-write-index c = search needs
-
-same-length : tie.Need-same-length
-same-length c = search needs
-
 returns-2 : tie.Need-returns-2
 returns-2 c = clear-in
 
 pub clear-name-spec : {M : Type 1} → statement M
-clear-name-spec = tie.close (tie.spec returns mul-index slice-write-index same-length returns-2)
+clear-name-spec =
+    tie.close (tie.spec returns (λ c. search needs) (λ c. search needs) (λ c. search needs) returns-2)

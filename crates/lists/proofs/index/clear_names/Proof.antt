@@ -29,18 +29,6 @@ name-requires c κs =
     let start = c .before .before .before .before .before .before in
     omega (arith, names-inside (start .pre .stand), start .pre .many, length-map (start .pre .xs) named)
 
-wide-requires : tie.Need-wide-requires Inv-loop μ-loop
-wide-requires c κs = search needs
-
-clear-name-requires : tie.Need-clear-name-requires Inv-loop μ-loop
-clear-name-requires c κs = search needs
-
-add-i : tie.Need-add-i Inv-loop μ-loop
-add-i c = search needs
-
-loop-less : tie.Need-loop-less Inv-loop μ-loop
-loop-less c = search needs
-
 loop-again : tie.Need-loop-again Inv-loop μ-loop
 loop-again c =
     let at-clear-name = c .before .before in
@@ -61,17 +49,5 @@ returns c = clear-last (c .before .before .loop .inv .1) (c .if1 .left)
 
 pub clear-names-spec : {M : Type 1} → statement M
 clear-names-spec =
-    tie.close
-    (tie.spec
-    Inv-loop
-    μ-loop
-    loop-holds
-    add-name
-    name-requires
-    wide-requires
-    clear-name-requires
-    add-i
-    loop-less
-    loop-again
-    same-length
-    returns)
+    tie.close (tie.spec Inv-loop μ-loop loop-holds add-name name-requires (λ c κs. search needs) (λ c κs. search needs) (λ c. search needs)
+    (λ c. search needs) loop-again same-length returns)

@@ -8,9 +8,6 @@ use Rattle.lists.proofs.index.put_row.Tie as tie
 live-at-requires : tie.Need-live-at-requires
 live-at-requires c κs = let start = c .before .before in (spacious (start .pre .0 .here .works), start .pre .1)
 
-wide-requires : tie.Need-wide-requires
-wide-requires c κs = search needs
-
 returns : tie.Need-returns
 returns c = put-past (c .before .before .live-at .ensures) (c .before .wide .ensures) (c .if1 .taken)
 
@@ -20,27 +17,10 @@ code-of-requires c κs =
     let start = at-live-at .before .before .before in
     (start .pre .0 .here .works .long, value-inside (start .pre .0 .here) (at-live-at .live-at .ensures))
 
-mul-index : tie.Need-mul-index
-mul-index c = search needs
-
-slice-write-index : tie.Need-slice-write-index
-slice-write-index c = search needs
-
-same-length : tie.Need-same-length
-same-length c = search needs
-
 returns-2 : tie.Need-returns-2
 returns-2 c = put-in (c .before .before .before .live-at .ensures) (c .before .before .wide .ensures) (c .code-of .ensures)
 
 pub put-row-spec : {M : Type 1} → statement M
 put-row-spec =
-    tie.close
-    (tie.spec
-    live-at-requires
-    wide-requires
-    returns
-    code-of-requires
-    mul-index
-    slice-write-index
-    same-length
+    tie.close (tie.spec live-at-requires (λ c κs. search needs) returns code-of-requires (λ c. search needs) (λ c. search needs) (λ c. search needs)
     returns-2)

@@ -4,20 +4,8 @@ use Rattle.lists.proofs.GivenCase.{offers-nothing, offers-parameter, of
 use Rattle.lists.proofs.index.search.Statement.{statement}
 use Rattle.lists.proofs.index.search.Tie as tie
 
-captured-binder-requires : tie.Need-captured-binder-requires
-captured-binder-requires c κs = search needs
-
-enum-known-found : tie.Need-enum-known-found
-enum-known-found c = search needs
-
-enum-told : tie.Need-enum-told
-enum-told c = search needs
-
 returns : tie.Need-returns
 returns c = offers-nothing (c .enum-told .given .1) (c .before .before .captured-binder .ensures)
-
-holds-requires : tie.Need-holds-requires
-holds-requires c κs = search needs
 
 returns-2 : tie.Need-returns-2
 returns-2 c = offers-parameter (c .before .holds .ensures) (c .if1 .taken)
@@ -27,12 +15,4 @@ returns-3 c = offers-other (c .before .holds .ensures) (c .if1 .left) (c .before
 
 pub search-spec : {M : Type 1} → statement M
 search-spec =
-    tie.close
-    (tie.spec
-    captured-binder-requires
-    enum-known-found
-    enum-told
-    returns
-    holds-requires
-    returns-2
-    returns-3)
+    tie.close (tie.spec (λ c κs. search needs) (λ c. search needs) (λ c. search needs) returns (λ c κs. search needs) returns-2 returns-3)

@@ -13,20 +13,11 @@ Inv-loop captured work first n k₀ k = (k ≤ n) × Passed captured work first 
 abbrev μ-loop : tie.MeasureT-loop
 μ-loop captured work first n k₀ k = n - k
 
-wide-requires : tie.Need-wide-requires Inv-loop μ-loop
-wide-requires c κs = search needs
-
-wide-requires-2 : tie.Need-wide-requires-2 Inv-loop μ-loop
-wide-requires-2 c κs = search needs
-
 loop-holds : tie.Need-loop-holds Inv-loop μ-loop
 loop-holds c = (omega arith, passed-start)
 
 add-load-item : tie.Need-add-load-item Inv-loop μ-loop
 add-load-item c = omega (arith, c .before .before .before .wide .ensures, c .before .before .wide2 .ensures)
-
-load-item-requires : tie.Need-load-item-requires Inv-loop μ-loop
-load-item-requires c κs = search needs
 
 returns : tie.Need-returns Inv-loop μ-loop
 returns c =
@@ -40,9 +31,6 @@ returns c =
 
 add-k : tie.Need-add-k Inv-loop μ-loop
 add-k c = omega (arith, c .before .before .before .before .before .wide2 .ensures)
-
-loop-less : tie.Need-loop-less Inv-loop μ-loop
-loop-less c = search needs
 
 loop-again : tie.Need-loop-again Inv-loop μ-loop
 loop-again c =
@@ -59,17 +47,5 @@ returns-2 c =
 
 pub has-mutated-spec : {M : Type 1} → statement M
 has-mutated-spec =
-    tie.close
-    (tie.spec
-    Inv-loop
-    μ-loop
-    wide-requires
-    wide-requires-2
-    loop-holds
-    add-load-item
-    load-item-requires
-    returns
-    add-k
-    loop-less
-    loop-again
-    returns-2)
+    tie.close (tie.spec Inv-loop μ-loop (λ c κs. search needs) (λ c κs. search needs) loop-holds add-load-item (λ c κs. search needs) returns add-k
+    (λ c. search needs) loop-again returns-2)

@@ -12,12 +12,6 @@ Inv-loop t first n h₀ k₀ h k = (k ≤ n) × (h ≤ k) × Counted t first n h
 abbrev μ-loop : tie.MeasureT-loop
 μ-loop t first n h₀ k₀ h k = n - k
 
-wide-requires : tie.Need-wide-requires Inv-loop μ-loop
-wide-requires c κs = search needs
-
-wide-requires-2 : tie.Need-wide-requires-2 Inv-loop μ-loop
-wide-requires-2 c κs = search needs
-
 loop-holds : tie.Need-loop-holds Inv-loop μ-loop
 loop-holds c = (omega arith, omega arith, heap-start)
 
@@ -32,9 +26,6 @@ add-h c = omega (arith, c .before .before .before .before .wide2 .ensures)
 
 add-k : tie.Need-add-k Inv-loop μ-loop
 add-k c = omega (arith, c .before .before .before .before .wide2 .ensures)
-
-loop-less : tie.Need-loop-less Inv-loop μ-loop
-loop-less c = search needs
 
 loop-again : tie.Need-loop-again Inv-loop μ-loop
 loop-again c =
@@ -55,17 +46,5 @@ returns c =
 
 pub heap-count-spec : {M : Type 1} → statement M
 heap-count-spec =
-    tie.close
-    (tie.spec
-    Inv-loop
-    μ-loop
-    wide-requires
-    wide-requires-2
-    loop-holds
-    add-is-heap
-    is-heap-requires
-    add-h
-    add-k
-    loop-less
-    loop-again
-    returns)
+    tie.close (tie.spec Inv-loop μ-loop (λ c κs. search needs) (λ c κs. search needs) loop-holds add-is-heap is-heap-requires add-h add-k
+    (λ c. search needs) loop-again returns)

@@ -12,11 +12,9 @@ use Rattle.lists.proofs.number.is_far.Tie as tie
 returns : tie.Need-returns
 returns c = ap not (sym (le-leb (c .before .args .depth - c .before .args .layer) 1 (omega arith)))
 
-sub-result : tie.Need-sub-result
-sub-result c = search needs
-
 returns-2 : tie.Need-returns-2
 returns-2 c = far (c .before .args .depth - c .before .args .layer)
 
 pub is-far-spec : {M : Type 1} → statement M
-is-far-spec = tie.close (tie.spec returns sub-result returns-2)
+is-far-spec =
+    tie.close (tie.spec returns (λ c. search needs) returns-2)

@@ -10,26 +10,14 @@ use Rattle.lists.proofs.number.near.Tie as tie
 newest-capture-requires : tie.Need-newest-capture-requires
 newest-capture-requires c κs = spacious (c .before .before .pre .held .tied .works)
 
-enum-known-found : tie.Need-enum-known-found
-enum-known-found c = search needs
-
-enum-told : tie.Need-enum-told
-enum-told c = search needs
-
 returns : tie.Need-returns
 returns c = near-none (c .before .before .newest-capture .ensures) (c .enum-told .given .1)
-
-is-far-requires : tie.Need-is-far-requires
-is-far-requires c κs = search needs
 
 returns-2 : tie.Need-returns-2
 returns-2 c =
     let at-found = c .before .before .before .before in
     let at-newest-capture = at-found .before .before in
     near-far (at-newest-capture .newest-capture .ensures) (at-found .found .given .1) (c .before .is-far .ensures) (c .if1 .taken)
-
-wide-requires : tie.Need-wide-requires
-wide-requires c κs = search needs
 
 load-info-requires : tie.Need-load-info-requires
 load-info-requires c κs =
@@ -54,14 +42,5 @@ returns-3 c =
 
 pub near-spec : {M : Type 1} → statement M
 near-spec =
-    tie.close
-    (tie.spec
-    newest-capture-requires
-    enum-known-found
-    enum-told
-    returns
-    is-far-requires
-    returns-2
-    wide-requires
-    load-info-requires
-    returns-3)
+    tie.close (tie.spec newest-capture-requires (λ c. search needs) (λ c. search needs) returns (λ c κs. search needs) returns-2
+    (λ c κs. search needs) load-info-requires returns-3)

@@ -23,12 +23,6 @@ has-mutated-requires c κs =
     let h = second-held (start .args .e) (start .pre .0) (at-number-rows .number-rows .ensures) (start .pre .1) (start .pre .2) in
     (start .pre .0, captured-long (h .held .tied), h .held .tied .works .long)
 
-same-length : tie.Need-same-length
-same-length c = search needs
-
-same-length-2 : tie.Need-same-length-2
-same-length-2 c = search needs
-
 returns-2 : tie.Need-returns-2
 returns-2 c =
     let at-number-rows = c .before .before .before .before .before .before .before .before in
@@ -41,12 +35,6 @@ number-rows-requires-2 c κs =
     let start = at-number-rows .before .before .before .before .before .before .before in
     (start .pre .0, second-held (start .args .e) (start .pre .0) (at-number-rows .number-rows .ensures) (start .pre .1) (start .pre .2))
 
-same-length-3 : tie.Need-same-length-3
-same-length-3 c = search needs
-
-same-length-4 : tie.Need-same-length-4
-same-length-4 c = search needs
-
 returns-3 : tie.Need-returns-3
 returns-3 c =
     let at-number-rows2 = c .before .before .before .before in
@@ -56,15 +44,5 @@ returns-3 c =
 
 pub number-list-spec : {M : Type 1} → statement M
 number-list-spec =
-    tie.close
-    (tie.spec
-    returns
-    number-rows-requires
-    has-mutated-requires
-    same-length
-    same-length-2
-    returns-2
-    number-rows-requires-2
-    same-length-3
-    same-length-4
-    returns-3)
+    tie.close (tie.spec returns number-rows-requires has-mutated-requires (λ c. search needs) (λ c. search needs) returns-2 number-rows-requires-2
+    (λ c. search needs) (λ c. search needs) returns-3)

@@ -12,15 +12,6 @@ load-item-requires c κs =
     let start = c .before .before .before .before in
     (captured-long (start .pre .0 .held .tied), start .pre .0 .held .tied .works .long, start .pre .0 .inside)
 
-is-due-requires : tie.Need-is-due-requires
-is-due-requires c κs = search needs
-
-same-length : tie.Need-same-length
-same-length c = search needs
-
-same-length-2 : tie.Need-same-length-2
-same-length-2 c = search needs
-
 returns : tie.Need-returns
 returns c =
     let at-load-item = c .before .before .before in
@@ -33,15 +24,6 @@ take-row-requires c κs =
     let at-load-item = at-is-due .before .before in
     let start = at-load-item .before .before .before .before .before in
     row-taken _ (at-load-item .load-item .ensures) (at-is-due .is-due .ensures) (start .pre .0) (not-false _ (at-if1 .if1 .left))
-
-add-t20 : tie.Need-add-t20
-add-t20 c = search needs
-
-same-length-3 : tie.Need-same-length-3
-same-length-3 c = search needs
-
-same-length-4 : tie.Need-same-length-4
-same-length-4 c = search needs
 
 returns-2 : tie.Need-returns-2
 returns-2 c =
@@ -56,15 +38,5 @@ returns-2 c =
 
 pub number-row-spec : {M : Type 1} → statement M
 number-row-spec =
-    tie.close
-    (tie.spec
-    load-item-requires
-    is-due-requires
-    same-length
-    same-length-2
-    returns
-    take-row-requires
-    add-t20
-    same-length-3
-    same-length-4
-    returns-2)
+    tie.close (tie.spec load-item-requires (λ c κs. search needs) (λ c. search needs) (λ c. search needs) returns take-row-requires
+    (λ c. search needs) (λ c. search needs) (λ c. search needs) returns-2)

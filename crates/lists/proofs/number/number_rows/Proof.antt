@@ -14,12 +14,6 @@ Inv-loop heap captured₀ work₀ first n q₀ i₀ k₀ captured work q i k = (
 abbrev μ-loop : tie.MeasureT-loop
 μ-loop heap captured₀ work₀ first n q₀ i₀ k₀ captured work q i k = n - k
 
-wide-requires : tie.Need-wide-requires Inv-loop μ-loop
-wide-requires c κs = search needs
-
-wide-requires-2 : tie.Need-wide-requires-2 Inv-loop μ-loop
-wide-requires-2 c κs = search needs
-
 loop-holds : tie.Need-loop-holds Inv-loop μ-loop
 loop-holds c =
     let start = c .before .before .before .before in
@@ -37,12 +31,6 @@ number-row-requires c κs =
       numbering-row (at-loop .loop .inv .2) (at-loop-test .loop-test .taken) (omega (arith, at-wide .wide .ensures, at-wide2 .wide2 .ensures)),
       omega (arith, at-wide2 .wide2 .ensures),
     )
-
-add-k : tie.Need-add-k Inv-loop μ-loop
-add-k c = search needs
-
-loop-less : tie.Need-loop-less Inv-loop μ-loop
-loop-less c = search needs
 
 loop-again : tie.Need-loop-again Inv-loop μ-loop
 loop-again c =
@@ -76,18 +64,5 @@ returns c =
 
 pub number-rows-spec : {M : Type 1} → statement M
 number-rows-spec =
-    tie.close
-    (tie.spec
-    Inv-loop
-    μ-loop
-    wide-requires
-    wide-requires-2
-    loop-holds
-    add-number-row
-    number-row-requires
-    add-k
-    loop-less
-    loop-again
-    same-length
-    same-length-2
-    returns)
+    tie.close (tie.spec Inv-loop μ-loop (λ c κs. search needs) (λ c κs. search needs) loop-holds add-number-row number-row-requires
+    (λ c. search needs) (λ c. search needs) loop-again same-length same-length-2 returns)

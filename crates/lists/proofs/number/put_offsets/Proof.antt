@@ -4,24 +4,6 @@ use borrow.Author.Needs.{needs}
 use Rattle.lists.proofs.number.put_offsets.Statement.{statement}
 use Rattle.lists.proofs.number.put_offsets.Tie as tie
 
-heap-from-requires : tie.Need-heap-from-requires
-heap-from-requires c κs = search needs
-
-parent-from-requires : tie.Need-parent-from-requires
-parent-from-requires c κs = search needs
-
-with-heap-offsets-requires : tie.Need-with-heap-offsets-requires
-with-heap-offsets-requires c κs = search needs
-
-capture-from-requires : tie.Need-capture-from-requires
-capture-from-requires c κs = search needs
-
-with-capture-offsets-requires : tie.Need-with-capture-offsets-requires
-with-capture-offsets-requires c κs = search needs
-
-same-length : tie.Need-same-length
-same-length c = search needs
-
 returns : tie.Need-returns
 returns c =
     let at-with-heap-offsets = c .before .before in
@@ -30,9 +12,6 @@ returns c =
     let at-if1 = at-heap-from .before .before in
     puts-heap (at-if1 .if1 .taken) (at-heap-from .heap-from .ensures) (at-parent-from .parent-from .ensures)
     (at-with-heap-offsets .with-heap-offsets .ensures)
-
-same-length-2 : tie.Need-same-length-2
-same-length-2 c = search needs
 
 returns-2 : tie.Need-returns-2
 returns-2 c =
@@ -43,14 +22,5 @@ returns-2 c =
 
 pub put-offsets-spec : {M : Type 1} → statement M
 put-offsets-spec =
-    tie.close
-    (tie.spec
-    heap-from-requires
-    parent-from-requires
-    with-heap-offsets-requires
-    capture-from-requires
-    with-capture-offsets-requires
-    same-length
-    returns
-    same-length-2
-    returns-2)
+    tie.close (tie.spec (λ c κs. search needs) (λ c κs. search needs) (λ c κs. search needs) (λ c κs. search needs) (λ c κs. search needs)
+    (λ c. search needs) returns (λ c. search needs) returns-2)

@@ -17,9 +17,6 @@ put-offsets-requires c κs =
     let start = c .before .before .before .before .before .before .before in
     (captured-long (start .pre .held .tied), start .pre .inside)
 
-is-near-requires : tie.Need-is-near-requires
-is-near-requires c κs = search needs
-
 taken-of-requires : tie.Need-taken-of-requires
 taken-of-requires c κs = omega (arith, take-small (c .before .before .before .before .before .before .before .before .before .before .before .pre))
 
@@ -27,12 +24,6 @@ define-capture-requires : tie.Need-define-capture-requires
 define-capture-requires c κs =
     let start = c .before .before .before .before .before .before .before .before .before .before .before .before .before in
     (spacious (start .pre .held .tied .works), take-room (start .pre), start .pre .inside, take-given (start .pre) (c .before .taken-of .ensures))
-
-same-length : tie.Need-same-length
-same-length c = search needs
-
-same-length-2 : tie.Need-same-length-2
-same-length-2 c = search needs
 
 returns : tie.Need-returns
 returns c =
@@ -47,13 +38,5 @@ returns c =
 
 pub take-row-spec : {M : Type 1} → statement M
 take-row-spec =
-    tie.close
-    (tie.spec
-    near-requires
-    put-offsets-requires
-    is-near-requires
-    taken-of-requires
-    define-capture-requires
-    same-length
-    same-length-2
-    returns)
+    tie.close (tie.spec near-requires put-offsets-requires (λ c κs. search needs) taken-of-requires define-capture-requires (λ c. search needs)
+    (λ c. search needs) returns)

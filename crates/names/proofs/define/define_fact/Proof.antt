@@ -4,36 +4,6 @@ use borrow.Author.Needs.{needs}
 use Rattle.names.proofs.define.define_fact.Statement.{statement}
 use Rattle.names.proofs.define.define_fact.Tie as tie
 
-depth-requires : tie.Need-depth-requires
-depth-requires c κs = search needs
-
-name-requires : tie.Need-name-requires
-name-requires c κs = search needs
-
-newest-id-requires : tie.Need-newest-id-requires
-newest-id-requires c κs = search needs
-
-status-at-requires : tie.Need-status-at-requires
-status-at-requires c κs = search needs
-
-span-at-requires : tie.Need-span-at-requires
-span-at-requires c κs = search needs
-
-new-requires : tie.Need-new-requires
-new-requires c κs = search needs
-
-mark-if-required-requires : tie.Need-mark-if-required-requires
-mark-if-required-requires c κs = search needs
-
-mark-if-builtin-requires : tie.Need-mark-if-builtin-requires
-mark-if-builtin-requires c κs = search needs
-
-shadows-requires : tie.Need-shadows-requires
-shadows-requires c κs = search needs
-
-aliases-to-requires : tie.Need-aliases-to-requires
-aliases-to-requires c κs = search needs
-
 returns : tie.Need-returns
 returns c =
     let p₁ = c .before in
@@ -50,16 +20,5 @@ returns c =
 
 pub define-fact-spec : {M : Type 1} → statement M
 define-fact-spec =
-    tie.close
-    (tie.spec
-    depth-requires
-    name-requires
-    newest-id-requires
-    status-at-requires
-    span-at-requires
-    new-requires
-    mark-if-required-requires
-    mark-if-builtin-requires
-    shadows-requires
-    aliases-to-requires
-    returns)
+    tie.close (tie.spec (λ c κs. search needs) (λ c κs. search needs) (λ c κs. search needs) (λ c κs. search needs) (λ c κs. search needs)
+    (λ c κs. search needs) (λ c κs. search needs) (λ c κs. search needs) (λ c κs. search needs) (λ c κs. search needs) returns)

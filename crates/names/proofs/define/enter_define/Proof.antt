@@ -5,12 +5,6 @@ use borrow.Author.Needs.{needs}
 use Rattle.names.proofs.define.enter_define.Statement.{statement}
 use Rattle.names.proofs.define.enter_define.Tie as tie
 
-define-fact-requires : tie.Need-define-fact-requires
-define-fact-requires c κs = search needs
-
-top-level-requires : tie.Need-top-level-requires
-top-level-requires c κs = search needs
-
 put-name-requires : tie.Need-put-name-requires
 put-name-requires c κs =
     let p₁ = c .before in
@@ -36,15 +30,6 @@ entered-requires c κs =
     let h = start .pre .1 .here in
     (start .pre .0, known-few (h .known) (h .place))
 
-name-in-requires : tie.Need-name-in-requires
-name-in-requires c κs = search needs
-
-same-length : tie.Need-same-length
-same-length c = search needs
-
-same-length-2 : tie.Need-same-length-2
-same-length-2 c = search needs
-
 returns : tie.Need-returns
 returns c =
     let p₀ = c .before in
@@ -56,14 +41,5 @@ returns c =
 
 pub enter-define-spec : {M : Type 1} → statement M
 enter-define-spec =
-    tie.close
-    (tie.spec
-    define-fact-requires
-    top-level-requires
-    put-name-requires
-    store-information-requires
-    entered-requires
-    name-in-requires
-    same-length
-    same-length-2
-    returns)
+    tie.close (tie.spec (λ c κs. search needs) (λ c κs. search needs) put-name-requires store-information-requires entered-requires
+    (λ c κs. search needs) (λ c. search needs) (λ c. search needs) returns)

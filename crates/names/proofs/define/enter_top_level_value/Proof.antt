@@ -4,12 +4,6 @@ use borrow.Author.Needs.{needs}
 use Rattle.names.proofs.define.enter_top_level_value.Statement.{statement}
 use Rattle.names.proofs.define.enter_top_level_value.Tie as tie
 
-name-requires : tie.Need-name-requires
-name-requires c κs = search needs
-
-shadow-requires : tie.Need-shadow-requires
-shadow-requires c κs = search needs
-
 enter-define-requires : tie.Need-enter-define-requires
 enter-define-requires c κs =
     let p₁ = c .before .before .before .before in
@@ -17,12 +11,6 @@ enter-define-requires c κs =
     let start = p₂ .before .before .before .before in
     let a = start .pre in
     (a .0, defined-still (p₂ .name .ensures) (p₁ .shadow .ensures) (a .1))
-
-same-length : tie.Need-same-length
-same-length c = search needs
-
-same-length-2 : tie.Need-same-length-2
-same-length-2 c = search needs
 
 returns : tie.Need-returns
 returns c =
@@ -33,11 +21,4 @@ returns c =
 
 pub enter-top-level-value-spec : {M : Type 1} → statement M
 enter-top-level-value-spec =
-    tie.close
-    (tie.spec
-    name-requires
-    shadow-requires
-    enter-define-requires
-    same-length
-    same-length-2
-    returns)
+    tie.close (tie.spec (λ c κs. search needs) (λ c κs. search needs) enter-define-requires (λ c. search needs) (λ c. search needs) returns)

@@ -5,19 +5,10 @@ use borrow.Author.Needs.{needs}
 use Rattle.names.proofs.define.put_name.Statement.{statement}
 use Rattle.names.proofs.define.put_name.Tie as tie
 
-name-requires : tie.Need-name-requires
-name-requires c κs = search needs
-
 define-name-requires : tie.Need-define-name-requires
 define-name-requires c κs =
     let a = c .before .before .before .before .pre in
     (spacious (a .0 .works), a .1, a .3)
-
-store-entry-requires : tie.Need-store-entry-requires
-store-entry-requires c κs = search needs
-
-same-length : tie.Need-same-length
-same-length c = search needs
 
 returns : tie.Need-returns
 returns c =
@@ -28,5 +19,4 @@ returns c =
 
 pub put-name-spec : {M : Type 1} → statement M
 put-name-spec =
-    tie.close
-    (tie.spec name-requires define-name-requires store-entry-requires same-length returns)
+    tie.close (tie.spec (λ c κs. search needs) define-name-requires (λ c κs. search needs) (λ c. search needs) returns)

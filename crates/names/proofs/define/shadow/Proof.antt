@@ -9,12 +9,6 @@ use Rattle.names.proofs.define.shadow.Tie as tie
 newest-requires : tie.Need-newest-requires
 newest-requires c κs = spacious (c .before .before .pre .tied .works)
 
-enum-known-found : tie.Need-enum-known-found
-enum-known-found c = search needs
-
-enum-told : tie.Need-enum-told
-enum-told c = search needs
-
 returns : tie.Need-returns
 returns c = shadows-none (told-none (c .before .before .newest .ensures) (c .enum-told .given .1))
 
@@ -25,9 +19,6 @@ shadow-if-builtin-requires c κs =
     let start = p₂ .before .before .before in
     newest-bounds (start .pre .good) (start .args .name) (start .pre .tied) (told-at (p₂ .newest .ensures) (p₁ .found .given .1)) .row
 
-same-length : tie.Need-same-length
-same-length c = search needs
-
 returns-2 : tie.Need-returns-2
 returns-2 c =
     let p₁ = c .before .before in
@@ -37,12 +28,4 @@ returns-2 c =
 
 pub shadow-spec : {M : Type 1} → statement M
 shadow-spec =
-    tie.close
-    (tie.spec
-    newest-requires
-    enum-known-found
-    enum-told
-    returns
-    shadow-if-builtin-requires
-    same-length
-    returns-2)
+    tie.close (tie.spec newest-requires (λ c. search needs) (λ c. search needs) returns shadow-if-builtin-requires (λ c. search needs) returns-2)

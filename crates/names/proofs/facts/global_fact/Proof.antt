@@ -4,14 +4,9 @@ use borrow.Author.Needs.{needs}
 use Rattle.names.proofs.facts.global_fact.Statement.{statement}
 use Rattle.names.proofs.facts.global_fact.Tie as tie
 
-reading-requires : tie.Need-reading-requires
-reading-requires c κs = search needs
-
-mark-if-builtin-requires : tie.Need-mark-if-builtin-requires
-mark-if-builtin-requires c κs = search needs
-
 returns : tie.Need-returns
 returns c = global (c .before .reading .ensures) (c .mark-if-builtin .ensures)
 
 pub global-fact-spec : {M : Type 1} → statement M
-global-fact-spec = tie.close (tie.spec reading-requires mark-if-builtin-requires returns)
+global-fact-spec =
+    tie.close (tie.spec (λ c κs. search needs) (λ c κs. search needs) returns)

@@ -5,18 +5,6 @@ use borrow.Author.Needs.{needs}
 use Rattle.names.proofs.facts.local_fact.Statement.{statement}
 use Rattle.names.proofs.facts.local_fact.Tie as tie
 
-reading-requires : tie.Need-reading-requires
-reading-requires c κs = search needs
-
-with-offset-requires : tie.Need-with-offset-requires
-with-offset-requires c κs = search needs
-
-with-read-heap-offset-requires : tie.Need-with-read-heap-offset-requires
-with-read-heap-offset-requires c κs = search needs
-
-with-heap-offset-requires : tie.Need-with-heap-offset-requires
-with-heap-offset-requires c κs = search needs
-
 returns : tie.Need-returns
 returns c =
     let p₁ = c .before in
@@ -27,12 +15,6 @@ returns c =
     local-heap (p₅ .if1 .taken) (p₄ .if2 .taken) (p₃ .reading .ensures) (p₂ .with-offset .ensures) (p₁ .with-read-heap-offset .ensures)
     (c .with-heap-offset .ensures)
 
-reading-requires-2 : tie.Need-reading-requires-2
-reading-requires-2 c κs = search needs
-
-with-offset-requires-2 : tie.Need-with-offset-requires-2
-with-offset-requires-2 c κs = search needs
-
 returns-2 : tie.Need-returns-2
 returns-2 c =
     let p₁ = c .before in
@@ -42,13 +24,5 @@ returns-2 c =
 
 pub local-fact-spec : {M : Type 1} → statement M
 local-fact-spec =
-    tie.close
-    (tie.spec
-    reading-requires
-    with-offset-requires
-    with-read-heap-offset-requires
-    with-heap-offset-requires
-    returns
-    reading-requires-2
-    with-offset-requires-2
-    returns-2)
+    tie.close (tie.spec (λ c κs. search needs) (λ c κs. search needs) (λ c κs. search needs) (λ c κs. search needs) returns (λ c κs. search needs)
+    (λ c κs. search needs) returns-2)

@@ -9,12 +9,6 @@ use Rattle.names.proofs.facts.with_capture_offsets.Tie as tie
 returns : tie.Need-returns
 returns c = let a = c .before .before .args in unmarked (captureOffsets (a .v)) (a .i) (no-number (c .if1 .taken))
 
-with-capture-index-requires : tie.Need-with-capture-index-requires
-with-capture-index-requires c κs = search needs
-
-with-read-capture-offset-requires : tie.Need-with-read-capture-offset-requires
-with-read-capture-offset-requires c κs = search needs
-
 returns-2 : tie.Need-returns-2
 returns-2 c =
     let p₁ = c .before in
@@ -25,5 +19,4 @@ returns-2 c =
 
 pub with-capture-offsets-spec : {M : Type 1} → statement M
 with-capture-offsets-spec =
-    tie.close
-    (tie.spec returns with-capture-index-requires with-read-capture-offset-requires returns-2)
+    tie.close (tie.spec returns (λ c κs. search needs) (λ c κs. search needs) returns-2)

@@ -10,15 +10,6 @@ use Rattle.names.proofs.read.mutate.Tie as tie
 newest-requires : tie.Need-newest-requires
 newest-requires c κs = spacious (c .before .before .before .pre .tied .works)
 
-enum-known-found : tie.Need-enum-known-found
-enum-known-found c = search needs
-
-enum-told : tie.Need-enum-told
-enum-told c = search needs
-
-same-length : tie.Need-same-length
-same-length c = search needs
-
 returns : tie.Need-returns
 returns c = mutates-none (told-none (c .before .before .newest .ensures) (c .enum-told .given .1))
 
@@ -35,9 +26,6 @@ used-requires c κs =
     let start = c .before .before .before .before .before .before .before .before .before in
     let a = start .pre in
     omega (arith, entry-uses (a .good) (a .tied .works) (c .load-entry .ensures))
-
-mutate-requires : tie.Need-mutate-requires
-mutate-requires c κs = search needs
 
 store-entry-requires : tie.Need-store-entry-requires
 store-entry-requires c κs =
@@ -57,12 +45,6 @@ mark-set-requires c κs =
     let start = p₂ .before .before .before .before in
     newest-bounds (start .pre .good) (start .args .name) (start .pre .tied) (told-at (p₂ .newest .ensures) (p₁ .found .given .1)) .row
 
-same-length-2 : tie.Need-same-length-2
-same-length-2 c = search needs
-
-same-length-3 : tie.Need-same-length-3
-same-length-3 c = search needs
-
 returns-2 : tie.Need-returns-2
 returns-2 c =
     let p₁ = c .before .before in
@@ -77,18 +59,5 @@ returns-2 c =
 
 pub mutate-spec : {M : Type 1} → statement M
 mutate-spec =
-    tie.close
-    (tie.spec
-    newest-requires
-    enum-known-found
-    enum-told
-    same-length
-    returns
-    load-entry-requires
-    used-requires
-    mutate-requires
-    store-entry-requires
-    mark-set-requires
-    same-length-2
-    same-length-3
-    returns-2)
+    tie.close (tie.spec newest-requires (λ c. search needs) (λ c. search needs) (λ c. search needs) returns load-entry-requires used-requires
+    (λ c κs. search needs) store-entry-requires mark-set-requires (λ c. search needs) (λ c. search needs) returns-2)

@@ -6,9 +6,6 @@ use borrow.Author.Needs.{needs}
 use Rattle.names.proofs.read.note_taken.Statement.{statement}
 use Rattle.names.proofs.read.note_taken.Tie as tie
 
-first-second-requires : tie.Need-first-second-requires
-first-second-requires c κs = search needs
-
 returns : tie.Need-returns
 returns c = notes (both (number (c .before .before .before .if1 .taken)) (c .before .if2 .taken)) (c .first-second .ensures)
 
@@ -16,4 +13,5 @@ returns-2 : tie.Need-returns-2
 returns-2 c = notes-none (⊎-elim (λ w. not-second (number (w .0 .taken)) (w .2 .left)) (λ w. not-first _ (no-number (w .left))) (c .if1 .came))
 
 pub note-taken-spec : {M : Type 1} → statement M
-note-taken-spec = tie.close (tie.spec first-second-requires returns returns-2)
+note-taken-spec =
+    tie.close (tie.spec (λ c κs. search needs) returns returns-2)

@@ -4,18 +4,6 @@ use borrow.Author.Needs.{needs}
 use Rattle.names.proofs.read.put_use.Statement.{statement}
 use Rattle.names.proofs.read.put_use.Tie as tie
 
-store-entry-requires : tie.Need-store-entry-requires
-store-entry-requires c κs = search needs
-
-with-usage-count-requires : tie.Need-with-usage-count-requires
-with-usage-count-requires c κs = search needs
-
-same-length : tie.Need-same-length
-same-length c = search needs
-
-same-length-2 : tie.Need-same-length-2
-same-length-2 c = search needs
-
 returns : tie.Need-returns
 returns c =
     let p₁ = c .before .before in
@@ -25,5 +13,4 @@ returns c =
 
 pub put-use-spec : {M : Type 1} → statement M
 put-use-spec =
-    tie.close
-    (tie.spec store-entry-requires with-usage-count-requires same-length same-length-2 returns)
+    tie.close (tie.spec (λ c κs. search needs) (λ c κs. search needs) (λ c. search needs) (λ c. search needs) returns)

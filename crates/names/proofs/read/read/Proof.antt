@@ -6,29 +6,11 @@ use borrow.Author.Needs.{needs}
 use Rattle.names.proofs.read.read.Statement.{statement}
 use Rattle.names.proofs.read.read.Tie as tie
 
-name-requires : tie.Need-name-requires
-name-requires c κs = search needs
-
 is-class-requires : tie.Need-is-class-requires
 is-class-requires c κs =
     let start = c .before .before .before .before .before .before in
     let a = start .pre in
     (omega (arith, c .name .ensures, known-name (a .here .known) (a .here .place), a .named), omega arith)
-
-depth-requires : tie.Need-depth-requires
-depth-requires c κs = search needs
-
-rule-of-requires : tie.Need-rule-of-requires
-rule-of-requires c κs = search needs
-
-enum-told : tie.Need-enum-told
-enum-told c = search needs
-
-span-at-requires : tie.Need-span-at-requires
-span-at-requires c κs = search needs
-
-free-fact-requires : tie.Need-free-fact-requires
-free-fact-requires c κs = search needs
 
 use-or-store-requires : tie.Need-use-or-store-requires
 use-or-store-requires c κs =
@@ -36,9 +18,6 @@ use-or-store-requires c κs =
     let h = start .pre .here in
     let k = bounds (h .good) (h .tied) (known-few (h .known) (h .place)) in
     (k .row, k .fits)
-
-enum-known-rule : tie.Need-enum-known-rule
-enum-known-rule c = search needs
 
 read-global-requires : tie.Need-read-global-requires
 read-global-requires c κs =
@@ -48,9 +27,6 @@ read-global-requires c κs =
     let start = p₃ .before .before .before .before .before .before in
     bound-global (p₃ .name .ensures) (p₂ .rule-of .ensures) (start .pre .here) (p₁ .rule .given .1)
 
-enum-known-rule-2 : tie.Need-enum-known-rule-2
-enum-known-rule-2 c = search needs
-
 read-local-requires : tie.Need-read-local-requires
 read-local-requires c κs =
     let p₁ = c .before .before .before in
@@ -58,9 +34,6 @@ read-local-requires c κs =
     let p₃ = p₂ .before .before .before .before .before in
     let start = p₃ .before .before .before .before .before .before in
     bound-local (p₃ .name .ensures) (p₂ .rule-of .ensures) (start .pre .here) (p₁ .rule2 .given .1)
-
-enum-known-rule-3 : tie.Need-enum-known-rule-3
-enum-known-rule-3 c = search needs
 
 read-taken-requires : tie.Need-read-taken-requires
 read-taken-requires c κs =
@@ -70,9 +43,6 @@ read-taken-requires c κs =
     let start = p₃ .before .before .before .before .before .before in
     bound-taken (p₃ .name .ensures) (p₂ .rule-of .ensures) (start .pre .here) (p₁ .rule3 .given .1)
 
-enum-known-rule-4 : tie.Need-enum-known-rule-4
-enum-known-rule-4 c = search needs
-
 read-home-requires : tie.Need-read-home-requires
 read-home-requires c κs =
     let p₁ = c .before .before .before in
@@ -80,12 +50,6 @@ read-home-requires c κs =
     let p₃ = p₂ .before .before .before .before .before in
     let start = p₃ .before .before .before .before .before .before in
     bound-home (p₃ .name .ensures) (p₂ .rule-of .ensures) (start .pre .here) (p₁ .rule4 .given .1)
-
-same-length : tie.Need-same-length
-same-length c = search needs
-
-same-length-2 : tie.Need-same-length-2
-same-length-2 c = search needs
 
 returns : tie.Need-returns
 returns c =
@@ -101,12 +65,6 @@ returns c =
     does-free (p₈ .name .ensures) (p₅ .rule-of .ensures) (start .args .classes .now) (p₄ .enum-told .given .1) (p₃ .span-at .ensures)
     (p₇ .is-class .ensures) (p₆ .depth .ensures) (p₂ .free-fact .ensures) (p₁ .use-or-store .ensures)
 
-same-length-3 : tie.Need-same-length-3
-same-length-3 c = search needs
-
-same-length-4 : tie.Need-same-length-4
-same-length-4 c = search needs
-
 returns-2 : tie.Need-returns-2
 returns-2 c =
     let p₁ = c .before .before .before .before in
@@ -117,12 +75,6 @@ returns-2 c =
     let start = p₅ .before .before .before .before .before .before in
     does-global (p₅ .name .ensures) (p₃ .rule-of .ensures) (start .args .classes .now) (p₂ .rule .given .1) (p₄ .is-class .ensures)
     (p₁ .read-global .ensures)
-
-same-length-5 : tie.Need-same-length-5
-same-length-5 c = search needs
-
-same-length-6 : tie.Need-same-length-6
-same-length-6 c = search needs
 
 returns-3 : tie.Need-returns-3
 returns-3 c =
@@ -135,12 +87,6 @@ returns-3 c =
     does-local (p₅ .name .ensures) (p₃ .rule-of .ensures) (start .args .classes .now) (p₂ .rule2 .given .1) (p₄ .depth .ensures)
     (p₁ .read-local .ensures)
 
-same-length-7 : tie.Need-same-length-7
-same-length-7 c = search needs
-
-same-length-8 : tie.Need-same-length-8
-same-length-8 c = search needs
-
 returns-4 : tie.Need-returns-4
 returns-4 c =
     let p₁ = c .before .before .before .before in
@@ -149,12 +95,6 @@ returns-4 c =
     let p₄ = p₃ .before .before .before .before .before in
     let start = p₄ .before .before .before .before .before .before in
     does-taken (p₄ .name .ensures) (p₃ .rule-of .ensures) (start .args .classes .now) (p₂ .rule3 .given .1) (p₁ .read-taken .ensures)
-
-same-length-9 : tie.Need-same-length-9
-same-length-9 c = search needs
-
-same-length-10 : tie.Need-same-length-10
-same-length-10 c = search needs
 
 returns-5 : tie.Need-returns-5
 returns-5 c =
@@ -168,36 +108,8 @@ returns-5 c =
 
 pub read-spec : {M : Type 1} → statement M
 read-spec =
-    tie.close
-    (tie.spec
-    name-requires
-    is-class-requires
-    depth-requires
-    rule-of-requires
-    enum-told
-    span-at-requires
-    free-fact-requires
-    use-or-store-requires
-    enum-known-rule
-    read-global-requires
-    enum-known-rule-2
-    read-local-requires
-    enum-known-rule-3
-    read-taken-requires
-    enum-known-rule-4
-    read-home-requires
-    same-length
-    same-length-2
-    returns
-    same-length-3
-    same-length-4
-    returns-2
-    same-length-5
-    same-length-6
-    returns-3
-    same-length-7
-    same-length-8
-    returns-4
-    same-length-9
-    same-length-10
-    returns-5)
+    tie.close (tie.spec (λ c κs. search needs) is-class-requires (λ c κs. search needs) (λ c κs. search needs) (λ c. search needs)
+    (λ c κs. search needs) (λ c κs. search needs) use-or-store-requires (λ c. search needs) read-global-requires (λ c. search needs)
+    read-local-requires (λ c. search needs) read-taken-requires (λ c. search needs) read-home-requires (λ c. search needs) (λ c. search needs) returns
+    (λ c. search needs) (λ c. search needs) returns-2 (λ c. search needs) (λ c. search needs) returns-3 (λ c. search needs) (λ c. search needs)
+    returns-4 (λ c. search needs) (λ c. search needs) returns-5)

@@ -6,9 +6,6 @@ use borrow.Author.Needs.{needs}
 use Rattle.names.proofs.read.read_global.Statement.{statement}
 use Rattle.names.proofs.read.read_global.Tie as tie
 
-load-entry-requires : tie.Need-load-entry-requires
-load-entry-requires c κs = search needs
-
 used-requires : tie.Need-used-requires
 used-requires c κs = omega (arith, binder-uses (c .before .before .before .before .before .before .pre) (c .before .load-entry .ensures))
 
@@ -25,26 +22,11 @@ one-use-more-requires c κs =
     let k = binder-bounds (start .pre) in
     (k .row, k .fits)
 
-id-requires : tie.Need-id-requires
-id-requires c κs = search needs
-
-span-at-requires : tie.Need-span-at-requires
-span-at-requires c κs = search needs
-
-global-fact-requires : tie.Need-global-fact-requires
-global-fact-requires c κs = search needs
-
 store-information-requires : tie.Need-store-information-requires
 store-information-requires c κs =
     let p₁ = c .before .before .before .before .before .before in
     let start = p₁ .before .before .before .before .before .before .before .before .before .before .before .before in
     row-still (here-bounds (start .pre)) (p₁ .one-use-more .kept .0)
-
-same-length : tie.Need-same-length
-same-length c = search needs
-
-same-length-2 : tie.Need-same-length-2
-same-length-2 c = search needs
 
 returns : tie.Need-returns
 returns c =
@@ -61,16 +43,5 @@ returns c =
 
 pub read-global-spec : {M : Type 1} → statement M
 read-global-spec =
-    tie.close
-    (tie.spec
-    load-entry-requires
-    used-requires
-    store-entry-requires
-    one-use-more-requires
-    id-requires
-    span-at-requires
-    global-fact-requires
-    store-information-requires
-    same-length
-    same-length-2
-    returns)
+    tie.close (tie.spec (λ c κs. search needs) used-requires store-entry-requires one-use-more-requires (λ c κs. search needs) (λ c κs. search needs)
+    (λ c κs. search needs) store-information-requires (λ c. search needs) (λ c. search needs) returns)

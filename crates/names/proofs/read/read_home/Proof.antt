@@ -6,17 +6,8 @@ use borrow.Author.Needs.{needs}
 use Rattle.names.proofs.read.read_home.Statement.{statement}
 use Rattle.names.proofs.read.read_home.Tie as tie
 
-load-entry-requires : tie.Need-load-entry-requires
-load-entry-requires c κs = search needs
-
 used-requires : tie.Need-used-requires
 used-requires c κs = omega (arith, binder-uses (c .before .before .before .before .before .pre) (c .load-entry .ensures))
-
-used-by-requires : tie.Need-used-by-requires
-used-by-requires c κs = search needs
-
-capture-requires : tie.Need-capture-requires
-capture-requires c κs = search needs
 
 put-use-requires : tie.Need-put-use-requires
 put-use-requires c κs =
@@ -39,20 +30,11 @@ span-at-requires c κs =
     let start = c .before .before .before .before .before .before .before .before .before .before .before .before .before .before .before .before in
     known-inside (start .pre .here .known) (start .pre .here .place)
 
-home-fact-requires : tie.Need-home-fact-requires
-home-fact-requires c κs = search needs
-
 store-information-requires : tie.Need-store-information-requires
 store-information-requires c κs =
     let p₁ = c .before .before .before .before .before .before .before .before in
     let start = p₁ .before .before .before .before .before .before .before .before .before .before .before in
     row-still (here-bounds (start .pre)) (p₁ .put-use .kept .1 .1 .0)
-
-same-length : tie.Need-same-length
-same-length c = search needs
-
-same-length-2 : tie.Need-same-length-2
-same-length-2 c = search needs
 
 returns : tie.Need-returns
 returns c =
@@ -70,17 +52,5 @@ returns c =
 
 pub read-home-spec : {M : Type 1} → statement M
 read-home-spec =
-    tie.close
-    (tie.spec
-    load-entry-requires
-    used-requires
-    used-by-requires
-    capture-requires
-    put-use-requires
-    id-requires
-    span-at-requires
-    home-fact-requires
-    store-information-requires
-    same-length
-    same-length-2
-    returns)
+    tie.close (tie.spec (λ c κs. search needs) used-requires (λ c κs. search needs) (λ c κs. search needs) put-use-requires id-requires
+    span-at-requires (λ c κs. search needs) store-information-requires (λ c. search needs) (λ c. search needs) returns)

@@ -6,14 +6,8 @@ use borrow.Author.Needs.{needs}
 use Rattle.names.proofs.read.read_local.Statement.{statement}
 use Rattle.names.proofs.read.read_local.Tie as tie
 
-load-entry-requires : tie.Need-load-entry-requires
-load-entry-requires c κs = search needs
-
 used-requires : tie.Need-used-requires
 used-requires c κs = omega (arith, binder-uses (c .before .before .before .before .before .pre) (c .load-entry .ensures))
-
-used-by-requires : tie.Need-used-by-requires
-used-by-requires c κs = search needs
 
 put-use-requires : tie.Need-put-use-requires
 put-use-requires c κs =
@@ -25,28 +19,16 @@ put-use-requires c κs =
     let f = used-fits (p₂ .used .ensures) (binder-uses (start .pre) (p₃ .load-entry .ensures)) in
     (k .long, k .few, omega (arith, uses-are (p₁ .used-by .ensures)), k .row)
 
-id-requires : tie.Need-id-requires
-id-requires c κs = search needs
-
 span-at-requires : tie.Need-span-at-requires
 span-at-requires c κs =
     let start = c .before .before .before .before .before .before .before .before .before .before .before .before .before .before .before in
     known-inside (start .pre .here .known) (start .pre .here .place)
-
-local-fact-requires : tie.Need-local-fact-requires
-local-fact-requires c κs = search needs
 
 store-information-requires : tie.Need-store-information-requires
 store-information-requires c κs =
     let p₁ = c .before .before .before .before .before .before .before .before in
     let start = p₁ .before .before .before .before .before .before .before .before .before .before in
     row-still (here-bounds (start .pre)) (p₁ .put-use .kept .1 .1 .0)
-
-same-length : tie.Need-same-length
-same-length c = search needs
-
-same-length-2 : tie.Need-same-length-2
-same-length-2 c = search needs
 
 returns : tie.Need-returns
 returns c =
@@ -63,16 +45,5 @@ returns c =
 
 pub read-local-spec : {M : Type 1} → statement M
 read-local-spec =
-    tie.close
-    (tie.spec
-    load-entry-requires
-    used-requires
-    used-by-requires
-    put-use-requires
-    id-requires
-    span-at-requires
-    local-fact-requires
-    store-information-requires
-    same-length
-    same-length-2
-    returns)
+    tie.close (tie.spec (λ c κs. search needs) used-requires (λ c κs. search needs) put-use-requires (λ c κs. search needs) span-at-requires
+    (λ c κs. search needs) store-information-requires (λ c. search needs) (λ c. search needs) returns)

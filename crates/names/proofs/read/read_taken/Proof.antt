@@ -10,12 +10,6 @@ use Rattle.names.proofs.read.read_taken.Tie as tie
 load-info-requires : tie.Need-load-info-requires
 load-info-requires c κs = row-inside-captured (c .before .before .before .before .pre)
 
-use-taken-requires : tie.Need-use-taken-requires
-use-taken-requires c κs = search needs
-
-wide-requires : tie.Need-wide-requires
-wide-requires c κs = search needs
-
 add-with-usage-count : tie.Need-add-with-usage-count
 add-with-usage-count c =
     let p₁ = c .before .before .before .before .before in
@@ -29,17 +23,11 @@ with-usage-count-requires c κs =
     let start = p₂ .before .before .before .before .before .before .before in
     loaded-row (start .pre) (p₂ .use-taken .ensures) (p₁ .wide .ensures)
 
-depth-requires : tie.Need-depth-requires
-depth-requires c κs = search needs
-
 span-at-requires : tie.Need-span-at-requires
 span-at-requires c κs =
     let start = c .before .before .before .before .before .before .before .before .before .before .before .before .before .before .before .before in
     let h = start .pre .here in
     known-inside (h .known) (h .place)
-
-taken-fact-requires : tie.Need-taken-fact-requires
-taken-fact-requires c κs = search needs
 
 store-information-requires : tie.Need-store-information-requires
 store-information-requires c κs =
@@ -47,12 +35,6 @@ store-information-requires c κs =
     let start = p₁ .before .before .before .before .before .before .before .before .before .before .before .before .before in
     let h = start .pre .here in
     row-still (bounds (h .good) (h .tied) (known-few (h .known) (h .place))) (p₁ .with-usage-count .kept .0)
-
-note-taken-requires : tie.Need-note-taken-requires
-note-taken-requires c κs = search needs
-
-same-length : tie.Need-same-length
-same-length c = search needs
 
 same-length-2 : tie.Need-same-length-2
 same-length-2 c =
@@ -74,18 +56,6 @@ returns c =
 
 pub read-taken-spec : {M : Type 1} → statement M
 read-taken-spec =
-    tie.close
-    (tie.spec
-    load-info-requires
-    use-taken-requires
-    wide-requires
-    add-with-usage-count
-    with-usage-count-requires
-    depth-requires
-    span-at-requires
-    taken-fact-requires
-    store-information-requires
-    note-taken-requires
-    same-length
-    same-length-2
+    tie.close (tie.spec load-info-requires (λ c κs. search needs) (λ c κs. search needs) add-with-usage-count with-usage-count-requires
+    (λ c κs. search needs) span-at-requires (λ c κs. search needs) store-information-requires (λ c κs. search needs) (λ c. search needs) same-length-2
     returns)

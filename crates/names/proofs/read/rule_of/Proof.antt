@@ -9,12 +9,6 @@ use Rattle.names.proofs.read.rule_of.Tie as tie
 newest-requires : tie.Need-newest-requires
 newest-requires c κs = spacious (c .before .pre .works)
 
-enum-known-found : tie.Need-enum-known-found
-enum-known-found c = search needs
-
-enum-told : tie.Need-enum-told
-enum-told c = search needs
-
 returns : tie.Need-returns
 returns c = decides-none (told-none (c .before .before .newest .ensures) (c .enum-told .given .1))
 
@@ -31,9 +25,6 @@ returns-2 c =
     let p₂ = p₁ .before .before in
     let p₃ = p₂ .before .before in
     decides-global (told-at (p₃ .newest .ensures) (p₂ .found .given .1)) (p₁ .load-entry .ensures) (c .if1 .taken)
-
-depth-requires : tie.Need-depth-requires
-depth-requires c κs = search needs
 
 returns-3 : tie.Need-returns-3
 returns-3 c =
@@ -60,15 +51,5 @@ returns-4 c =
 
 pub rule-of-spec : {M : Type 1} → statement M
 rule-of-spec =
-    tie.close
-    (tie.spec
-    newest-requires
-    enum-known-found
-    enum-told
-    returns
-    load-entry-requires
-    returns-2
-    depth-requires
-    returns-3
-    capture-rule-requires
-    returns-4)
+    tie.close (tie.spec newest-requires (λ c. search needs) (λ c. search needs) returns load-entry-requires returns-2 (λ c κs. search needs) returns-3
+    capture-rule-requires returns-4)

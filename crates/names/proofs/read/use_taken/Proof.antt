@@ -12,15 +12,6 @@ load-taken-requires c κs = let k = c .before .before .pre .2 in (k .works .long
 use-capture-requires : tie.Need-use-capture-requires
 use-capture-requires c κs = let k = c .before .before .before .before .pre .2 in (k .works .long, takeable-place k, takeable-cell k)
 
-load-entry-requires : tie.Need-load-entry-requires
-load-entry-requires c κs = search needs
-
-used-by-requires : tie.Need-used-by-requires
-used-by-requires c κs = search needs
-
-capture-requires : tie.Need-capture-requires
-capture-requires c κs = search needs
-
 store-entry-requires : tie.Need-store-entry-requires
 store-entry-requires c κs =
     let p₁ = c .before .before in
@@ -30,9 +21,6 @@ store-entry-requires c κs =
     let a = start .pre in
     let u = takeable-uses (a .2) (p₃ .use-capture .ensures) (p₂ .load-entry .ensures) in
     (search needs, a .1, omega (arith, uses-are (p₁ .used-by .ensures), uses-are (c .capture .ensures)))
-
-same-length : tie.Need-same-length
-same-length c = search needs
 
 returns : tie.Need-returns
 returns c =
@@ -47,13 +35,5 @@ returns c =
 
 pub use-taken-spec : {M : Type 1} → statement M
 use-taken-spec =
-    tie.close
-    (tie.spec
-    load-taken-requires
-    use-capture-requires
-    load-entry-requires
-    used-by-requires
-    capture-requires
-    store-entry-requires
-    same-length
-    returns)
+    tie.close (tie.spec load-taken-requires use-capture-requires (λ c κs. search needs) (λ c κs. search needs) (λ c κs. search needs)
+    store-entry-requires (λ c. search needs) returns)

@@ -7,39 +7,6 @@ use borrow.Author.Needs.{needs}
 use Rattle.printing.proofs.rows.row_line.Statement.{statement}
 use Rattle.printing.proofs.rows.row_line.Tie as tie
 
-row-at-requires : tie.Need-row-at-requires
-row-at-requires c κs = search needs
-
-row-kind-requires : tie.Need-row-kind-requires
-row-kind-requires c κs = search needs
-
-enum-told : tie.Need-enum-told
-enum-told c = search needs
-
-enum-told-2 : tie.Need-enum-told-2
-enum-told-2 c = search needs
-
-variable-line-requires : tie.Need-variable-line-requires
-variable-line-requires c κs = search needs
-
-enum-told-3 : tie.Need-enum-told-3
-enum-told-3 c = search needs
-
-function-line-requires : tie.Need-function-line-requires
-function-line-requires c κs = search needs
-
-enum-told-4 : tie.Need-enum-told-4
-enum-told-4 c = search needs
-
-call-line-requires : tie.Need-call-line-requires
-call-line-requires c κs = search needs
-
-enum-told-5 : tie.Need-enum-told-5
-enum-told-5 c = search needs
-
-let-line-requires : tie.Need-let-line-requires
-let-line-requires c κs = search needs
-
 returns : tie.Need-returns
 unfolding textOf
 returns c =
@@ -47,9 +14,6 @@ returns c =
     let c₂ = c₁ .before in
     let c₃ = c₂ .before .before .before in
     let o = c₃ .args in (omega arith, row-told (o .facts .now) (o .at) _ (c₂ .row-at .ensures) (c₁ .row-kind .ensures) (c .enum-told .given .1) refl)
-
-same-length : tie.Need-same-length
-same-length c = search needs
 
 returns-2 : tie.Need-returns-2
 unfolding textOf
@@ -63,9 +27,6 @@ returns-2 c =
     let v = c₁ .variable-line .ensures in
     (v .short, row-told (o .facts .now) (o .at) _ (c₄ .row-at .ensures) (c₃ .row-kind .ensures) (c₂ .enum-told2 .given .1) (v .text))
 
-same-length-2 : tie.Need-same-length-2
-same-length-2 c = search needs
-
 returns-3 : tie.Need-returns-3
 unfolding textOf
 returns-3 c =
@@ -78,9 +39,6 @@ returns-3 c =
     let v = c₁ .function-line .ensures in
     (v .short, row-told (o .facts .now) (o .at) _ (c₄ .row-at .ensures) (c₃ .row-kind .ensures) (c₂ .enum-told3 .given .1) (v .text))
 
-same-length-3 : tie.Need-same-length-3
-same-length-3 c = search needs
-
 returns-4 : tie.Need-returns-4
 unfolding textOf
 returns-4 c =
@@ -92,9 +50,6 @@ returns-4 c =
     let o = c₅ .args in
     let v = c₁ .call-line .ensures in
     (v .short, row-told (o .facts .now) (o .at) _ (c₄ .row-at .ensures) (c₃ .row-kind .ensures) (c₂ .enum-told4 .given .1) (v .text))
-
-same-length-4 : tie.Need-same-length-4
-same-length-4 c = search needs
 
 returns-5 : tie.Need-returns-5
 unfolding textOf
@@ -110,25 +65,6 @@ returns-5 c =
 
 pub row-line-spec : {M : Type 1} → statement M
 row-line-spec =
-    tie.close
-    (tie.spec
-    row-at-requires
-    row-kind-requires
-    enum-told
-    enum-told-2
-    variable-line-requires
-    enum-told-3
-    function-line-requires
-    enum-told-4
-    call-line-requires
-    enum-told-5
-    let-line-requires
-    returns
-    same-length
-    returns-2
-    same-length-2
-    returns-3
-    same-length-3
-    returns-4
-    same-length-4
-    returns-5)
+    tie.close (tie.spec (λ c κs. search needs) (λ c κs. search needs) (λ c. search needs) (λ c. search needs) (λ c κs. search needs)
+    (λ c. search needs) (λ c κs. search needs) (λ c. search needs) (λ c κs. search needs) (λ c. search needs) (λ c κs. search needs) returns
+    (λ c. search needs) returns-2 (λ c. search needs) returns-3 (λ c. search needs) returns-4 (λ c. search needs) returns-5)

@@ -6,45 +6,6 @@ use borrow.Author.Needs.{needs}
 use Rattle.printing.proofs.rows.variable_line.Statement.{statement}
 use Rattle.printing.proofs.rows.variable_line.Tie as tie
 
-variable-start-requires : tie.Need-variable-start-requires
-variable-start-requires c κs = search needs
-
-slice-aggregate-option : tie.Need-slice-aggregate-option
-slice-aggregate-option c = search needs
-
-array-read-option : tie.Need-array-read-option
-array-read-option c = search needs
-
-option-requires : tie.Need-option-requires
-option-requires c κs = search needs
-
-slice-aggregate-option-2 : tie.Need-slice-aggregate-option-2
-slice-aggregate-option-2 c = search needs
-
-array-read-option-2 : tie.Need-array-read-option-2
-array-read-option-2 c = search needs
-
-option-requires-2 : tie.Need-option-requires-2
-option-requires-2 c κs = search needs
-
-slice-aggregate-number : tie.Need-slice-aggregate-number
-slice-aggregate-number c = search needs
-
-array-read-number : tie.Need-array-read-number
-array-read-number c = search needs
-
-number-requires : tie.Need-number-requires
-number-requires c κs = search needs
-
-slice-aggregate-word : tie.Need-slice-aggregate-word
-slice-aggregate-word c = search needs
-
-word-requires : tie.Need-word-requires
-word-requires c κs = search needs
-
-same-length : tie.Need-same-length
-same-length c = search needs
-
 returns : tie.Need-returns
 returns c =
     let c₁ = c .before .before in
@@ -60,19 +21,6 @@ returns c =
 
 pub variable-line-spec : {M : Type 1} → statement M
 variable-line-spec =
-    tie.close
-    (tie.spec
-    variable-start-requires
-    slice-aggregate-option
-    array-read-option
-    option-requires
-    slice-aggregate-option-2
-    array-read-option-2
-    option-requires-2
-    slice-aggregate-number
-    array-read-number
-    number-requires
-    slice-aggregate-word
-    word-requires
-    same-length
-    returns)
+    tie.close (tie.spec (λ c κs. search needs) (λ c. search needs) (λ c. search needs) (λ c κs. search needs) (λ c. search needs) (λ c. search needs)
+    (λ c κs. search needs) (λ c. search needs) (λ c. search needs) (λ c κs. search needs) (λ c. search needs) (λ c κs. search needs)
+    (λ c. search needs) returns)

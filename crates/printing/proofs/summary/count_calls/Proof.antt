@@ -27,29 +27,11 @@ loop-holds : tie.Need-loop-holds Inv-loop μ-loop
 unfolding count
 loop-holds c = (omega arith, omega arith, omega arith, λ l e. refl, λ l e. refl)
 
-is-call-requires : tie.Need-is-call-requires Inv-loop μ-loop
-is-call-requires c κs = omega arith
-
-one-requires : tie.Need-one-requires Inv-loop μ-loop
-one-requires c κs = search needs
-
 add-all : tie.Need-add-all Inv-loop μ-loop
 add-all c = omega (arith, c .one .ensures, bit-most (c .before .is-call .result))
 
-is-tail-requires : tie.Need-is-tail-requires Inv-loop μ-loop
-is-tail-requires c κs = omega arith
-
-one-requires-2 : tie.Need-one-requires-2 Inv-loop μ-loop
-one-requires-2 c κs = search needs
-
 add-tail : tie.Need-add-tail Inv-loop μ-loop
 add-tail c = omega (arith, c .one2 .ensures, bit-most (c .before .is-tail .result))
-
-add-i : tie.Need-add-i Inv-loop μ-loop
-add-i c = search needs
-
-loop-less : tie.Need-loop-less Inv-loop μ-loop
-loop-less c = omega arith
 
 loop-again : tie.Need-loop-again Inv-loop μ-loop
 loop-again c =
@@ -83,18 +65,5 @@ returns c =
 
 pub count-calls-spec : {M : Type 1} → statement M
 count-calls-spec =
-    tie.close
-    (tie.spec
-    Inv-loop
-    μ-loop
-    loop-holds
-    is-call-requires
-    one-requires
-    add-all
-    is-tail-requires
-    one-requires-2
-    add-tail
-    add-i
-    loop-less
-    loop-again
-    returns)
+    tie.close (tie.spec Inv-loop μ-loop loop-holds (λ c κs. omega arith) (λ c κs. search needs) add-all (λ c κs. omega arith) (λ c κs. search needs)
+    add-tail (λ c. search needs) (λ c. omega arith) loop-again returns)

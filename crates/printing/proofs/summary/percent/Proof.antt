@@ -9,21 +9,10 @@ returns : tie.Need-returns
 unfolding percent
 returns c = let o = c .before .args in rw (percent, eq-eqb (o .all) 0 (c .if1 .taken))
 
-mul-result : tie.Need-mul-result
-mul-result c = search needs
-
-add-result : tie.Need-add-result
-add-result c = search needs
-
-mul-result-2 : tie.Need-mul-result-2
-mul-result-2 c = search needs
-
-div-result : tie.Need-div-result
-div-result c = search needs
-
 returns-2 : tie.Need-returns-2
 unfolding percent
 returns-2 c = let o = c .before .args in rw (percent, ne-eqb (o .all) 0 (c .if1 .left))
 
 pub percent-spec : {M : Type 1} → statement M
-percent-spec = tie.close (tie.spec returns mul-result add-result mul-result-2 div-result returns-2)
+percent-spec =
+    tie.close (tie.spec returns (λ c. search needs) (λ c. search needs) (λ c. search needs) (λ c. search needs) returns-2)

@@ -6,39 +6,6 @@ use borrow.Author.Needs.{needs}
 use Rattle.printing.proofs.summary.summary.Statement.{statement}
 use Rattle.printing.proofs.summary.summary.Tie as tie
 
-count-calls-requires : tie.Need-count-calls-requires
-count-calls-requires c κs = search needs
-
-slice-aggregate-number : tie.Need-slice-aggregate-number
-slice-aggregate-number c = search needs
-
-number-requires : tie.Need-number-requires
-number-requires c κs = search needs
-
-slice-aggregate-number-2 : tie.Need-slice-aggregate-number-2
-slice-aggregate-number-2 c = search needs
-
-number-requires-2 : tie.Need-number-requires-2
-number-requires-2 c κs = search needs
-
-slice-aggregate-long-number : tie.Need-slice-aggregate-long-number
-slice-aggregate-long-number c = search needs
-
-percent-requires : tie.Need-percent-requires
-percent-requires c κs = search needs
-
-long-number-requires : tie.Need-long-number-requires
-long-number-requires c κs = search needs
-
-slice-aggregate-word : tie.Need-slice-aggregate-word
-slice-aggregate-word c = search needs
-
-word-requires : tie.Need-word-requires
-word-requires c κs = search needs
-
-same-length : tie.Need-same-length
-same-length c = search needs
-
 returns : tie.Need-returns
 returns c =
     let c₁ = c .before .before in
@@ -54,17 +21,5 @@ returns c =
 
 pub summary-spec : {M : Type 1} → statement M
 summary-spec =
-    tie.close
-    (tie.spec
-    count-calls-requires
-    slice-aggregate-number
-    number-requires
-    slice-aggregate-number-2
-    number-requires-2
-    slice-aggregate-long-number
-    percent-requires
-    long-number-requires
-    slice-aggregate-word
-    word-requires
-    same-length
-    returns)
+    tie.close (tie.spec (λ c κs. search needs) (λ c. search needs) (λ c κs. search needs) (λ c. search needs) (λ c κs. search needs)
+    (λ c. search needs) (λ c κs. search needs) (λ c κs. search needs) (λ c. search needs) (λ c κs. search needs) (λ c. search needs) returns)

@@ -4,18 +4,6 @@ use borrow.Author.Needs.{needs}
 use Rattle.printing.proofs.text.option.Statement.{statement}
 use Rattle.printing.proofs.text.option.Tie as tie
 
-word-requires : tie.Need-word-requires
-word-requires c κs = search needs
-
-slice-aggregate-word : tie.Need-slice-aggregate-word
-slice-aggregate-word c = search needs
-
-word-requires-2 : tie.Need-word-requires-2
-word-requires-2 c κs = search needs
-
-same-length : tie.Need-same-length
-same-length c = search needs
-
 returns : tie.Need-returns
 returns c =
     let c₁ = c .before .before in
@@ -23,12 +11,6 @@ returns c =
     let c₃ = c₂ .before .before in
     let c₄ = c₃ .before .before .before in
     let o = c₄ in puts-none (o .args .n) (c₃ .if1 .taken) (c₂ .word .ensures) (c₁ .word2 .ensures)
-
-number-requires : tie.Need-number-requires
-number-requires c κs = search needs
-
-same-length-2 : tie.Need-same-length-2
-same-length-2 c = search needs
 
 returns-2 : tie.Need-returns-2
 returns-2 c =
@@ -39,13 +21,5 @@ returns-2 c =
 
 pub option-spec : {M : Type 1} → statement M
 option-spec =
-    tie.close
-    (tie.spec
-    word-requires
-    slice-aggregate-word
-    word-requires-2
-    same-length
-    returns
-    number-requires
-    same-length-2
-    returns-2)
+    tie.close (tie.spec (λ c κs. search needs) (λ c. search needs) (λ c κs. search needs) (λ c. search needs) returns (λ c κs. search needs)
+    (λ c. search needs) returns-2)

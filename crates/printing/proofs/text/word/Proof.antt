@@ -50,12 +50,6 @@ loop-again c =
     let o = c .before .before .before .args in
     (omega arith, simp length-set (l .inv .1), turn (o .out .now) (l .out) (o .w .now) (o .at) (l .i) (omega arith) (omega arith) (l .inv .2))
 
-same-length : tie.Need-same-length Inv-loop μ-loop
-same-length c = search needs
-
-add-result : tie.Need-add-result Inv-loop μ-loop
-add-result c = search needs
-
 -- src/text.rt:11:1
 returns : tie.Need-returns Inv-loop μ-loop
 returns c =
@@ -70,17 +64,5 @@ returns c =
 
 pub word-spec : {M : Type 1} → statement M
 word-spec =
-    tie.close
-    (tie.spec
-    Inv-loop
-    μ-loop
-    loop-holds
-    shared-slice-read-out
-    add-out
-    slice-write-out
-    add-i
-    loop-less
-    loop-again
-    add-result
-    same-length
-    returns)
+    tie.close (tie.spec Inv-loop μ-loop loop-holds shared-slice-read-out add-out slice-write-out add-i loop-less loop-again (λ c. search needs)
+    (λ c. search needs) returns)

@@ -22,15 +22,6 @@ abbrev μ-loop : tie.MeasureT-loop
 loop-holds : tie.Need-loop-holds Inv-loop μ-loop
 loop-holds c = (c .before .pre, omega (arith, c .before .fits), refl)
 
-shared-slice-read-x : tie.Need-shared-slice-read-x Inv-loop μ-loop
-shared-slice-read-x c = omega arith
-
-is-digit-requires : tie.Need-is-digit-requires Inv-loop μ-loop
-is-digit-requires c κs = search needs
-
-cast-t12 : tie.Need-cast-t12 Inv-loop μ-loop
-cast-t12 c = omega arith
-
 returns : tie.Need-returns Inv-loop μ-loop
 returns c =
     let c₁ = c .before in
@@ -41,9 +32,6 @@ returns c =
     let v = c₃ .loop in
     found-digits (o .l .now) _ (v .value) (v .i) (v .inv .0) (v .inv .1) (v .inv .2)
     (digits-over (o .l .now) (v .value) (v .i) (c₂ .loop-test .taken) (sym (c₁ .is-digit .ensures) ∙ not-true (c₁ .is-digit .result) (c .if1 .taken)))
-
-mul-value : tie.Need-mul-value Inv-loop μ-loop
-mul-value c = omega arith
 
 sub-value : tie.Need-sub-value Inv-loop μ-loop
 sub-value c =
@@ -79,12 +67,6 @@ returns-2 c =
     (v .inv .2 ∙ digits-turn (o .l .now) (v .value) (v .i) (c₃ .loop-test .taken)
     (sym (c₂ .is-digit .ensures) ∙ not-false (c₂ .is-digit .result) (c₁ .if1 .left)))
 
-add-i : tie.Need-add-i Inv-loop μ-loop
-add-i c = omega arith
-
-loop-less : tie.Need-loop-less Inv-loop μ-loop
-loop-less c = omega arith
-
 loop-again : tie.Need-loop-again Inv-loop μ-loop
 loop-again c =
     let c₁ = c .before in
@@ -100,9 +82,6 @@ loop-again c =
           (sym (c₂ .is-digit .ensures) ∙ not-false (c₂ .is-digit .result) (c₁ .if1 .left)),
     )
 
-cast-t15 : tie.Need-cast-t15 Inv-loop μ-loop
-cast-t15 c = omega arith
-
 returns-3 : tie.Need-returns-3 Inv-loop μ-loop
 returns-3 c =
     let c₁ = c .before in
@@ -113,22 +92,5 @@ returns-3 c =
 
 pub digits-spec : {M : Type 1} → statement M
 digits-spec =
-    tie.close
-    (tie.spec
-    Inv-loop
-    μ-loop
-    loop-holds
-    shared-slice-read-x
-    is-digit-requires
-    cast-t12
-    returns
-    mul-value
-    sub-value
-    cast-value
-    add-value
-    returns-2
-    add-i
-    loop-less
-    loop-again
-    cast-t15
-    returns-3)
+    tie.close (tie.spec Inv-loop μ-loop loop-holds (λ c. omega arith) (λ c κs. search needs) (λ c. omega arith) returns (λ c. omega arith) sub-value
+    cast-value add-value returns-2 (λ c. omega arith) (λ c. omega arith) loop-again (λ c. omega arith) returns-3)

@@ -5,17 +5,11 @@ use borrow.Author.Needs.{needs}
 use Rattle.reading.proofs.line.field_at.Statement.{statement}
 use Rattle.reading.proofs.line.field_at.Tie as tie
 
-starts-requires : tie.Need-starts-requires
-starts-requires c κs = search needs
-
 returns : tie.Need-returns
 returns c =
     let c₁ = c .before in
     let c₂ = c₁ .before .before .before in
     let o = c₂ .args in field-none (o .l .now) (o .mark .now) (o .at) _ (not-true (c₁ .starts .result) (c .if1 .taken)) (c₁ .starts .ensures)
-
-add-number : tie.Need-add-number
-add-number c = search needs
 
 number-requires : tie.Need-number-requires
 number-requires c κs =
@@ -32,4 +26,5 @@ returns-2 c =
     field-some (o .l .now) (o .mark .now) (o .at) _ (not-false (c₂ .starts .result) (c₁ .if1 .left)) (c₂ .starts .ensures) (c .number .ensures)
 
 pub field-at-spec : {M : Type 1} → statement M
-field-at-spec = tie.close (tie.spec starts-requires returns add-number number-requires returns-2)
+field-at-spec =
+    tie.close (tie.spec (λ c κs. search needs) returns (λ c. search needs) number-requires returns-2)

@@ -11,19 +11,10 @@ use Rattle.reading.proofs.line.number.Tie as tie
 returns : tie.Need-returns
 returns c = let o = c .before .before .args in number-end (o .l .now) (o .at) (omega arith)
 
-shared-slice-read-x : tie.Need-shared-slice-read-x
-shared-slice-read-x c = search needs
-
-add-t8 : tie.Need-add-t8
-add-t8 c = search needs
-
 returns-2 : tie.Need-returns-2
 returns-2 c =
     let c₁ = c .before .before .before .before in
     let o = c₁ .args in number-nought (o .l .now) (o .at) (omega arith) (c .if2 .taken)
-
-is-digit-requires : tie.Need-is-digit-requires
-is-digit-requires c κs = search needs
 
 returns-3 : tie.Need-returns-3
 returns-3 c =
@@ -32,9 +23,6 @@ returns-3 c =
     let c₃ = c₂ .before .before .before .before in
     let o = c₃ .args in
     number-none (o .l .now) (o .at) (omega arith) (c₂ .if2 .left) (sym (c₁ .is-digit .ensures) ∙ not-true (c₁ .is-digit .result) (c .if3 .taken))
-
-add-digits : tie.Need-add-digits
-add-digits c = search needs
 
 sub-digits : tie.Need-sub-digits
 sub-digits c =
@@ -48,9 +36,6 @@ cast-digits c =
     let c₂ = c₁ .before .before .before .before .before in
     omega (arith, digit-range (getD (c₂ .args .l .now) (c₂ .args .at) 0) (sym (c₁ .is-digit .ensures) ∙ not-false (c₁ .is-digit .result) (c .if3 .left)))
 
-digits-requires : tie.Need-digits-requires
-digits-requires c κs = search needs
-
 returns-4 : tie.Need-returns-4
 returns-4 c =
     let c₁ = c .before in
@@ -63,16 +48,5 @@ returns-4 c =
 
 pub number-spec : {M : Type 1} → statement M
 number-spec =
-    tie.close
-    (tie.spec
-    returns
-    shared-slice-read-x
-    add-t8
-    returns-2
-    is-digit-requires
-    returns-3
-    add-digits
-    sub-digits
-    cast-digits
-    digits-requires
-    returns-4)
+    tie.close (tie.spec returns (λ c. search needs) (λ c. search needs) returns-2 (λ c κs. search needs) returns-3 (λ c. search needs) sub-digits
+    cast-digits (λ c κs. search needs) returns-4)

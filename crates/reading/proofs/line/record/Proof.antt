@@ -74,41 +74,14 @@ read₆ c o = read₅ (c .before .before .before .before .before) (onto (c .to .
 stage₆ : (c : lts.After-to calls reads.Pre reads.Post) → Stage recordMarks (line₆ c) (drop 6 recordMarks) (c .to .given .0 .1 .0) (read₆ c)
 stage₆ c = let f = c .before .before .field-at6 in stage-next (stage₅ (c .before .before .before .before .before)) (f .result) (c .to .given .1) (f .ensures)
 
-slice-aggregate-field-at : tie.Need-slice-aggregate-field-at
-slice-aggregate-field-at c = search needs
-
-field-at-requires : tie.Need-field-at-requires
-field-at-requires c κs = search needs
-
-enum-known-form : tie.Need-enum-known-form
-enum-known-form c = search needs
-
-enum-told : tie.Need-enum-told
-enum-told c = search needs
-
-none-requires : tie.Need-none-requires
-none-requires c κs = search needs
-
 returns : tie.Need-returns
 returns c =
     let f = c .before .before .before .field-at in
     stage-none (stage-first recordMarks (c .before .before .before .before .before .before .args .l .now)) (f .result) (c .before .enum-told .given .1) (f .ensures)
     ∙ sym (c .none .ensures)
 
-slice-aggregate-field-at-2 : tie.Need-slice-aggregate-field-at-2
-slice-aggregate-field-at-2 c = search needs
-
 field-at-requires-2 : tie.Need-field-at-requires-2
 field-at-requires-2 c κs = stage₁ (c .before .before) .inside
-
-enum-known-id : tie.Need-enum-known-id
-enum-known-id c = search needs
-
-enum-told-2 : tie.Need-enum-told-2
-enum-told-2 c = search needs
-
-none-requires-2 : tie.Need-none-requires-2
-none-requires-2 c κs = search needs
 
 returns-2 : tie.Need-returns-2
 returns-2 c =
@@ -116,20 +89,8 @@ returns-2 c =
     stage-none (stage₁ (c .before .before .before .before .before .before)) (f .result) (c .before .enum-told2 .given .1) (f .ensures)
     ∙ sym (c .none2 .ensures)
 
-slice-aggregate-field-at-3 : tie.Need-slice-aggregate-field-at-3
-slice-aggregate-field-at-3 c = search needs
-
 field-at-requires-3 : tie.Need-field-at-requires-3
 field-at-requires-3 c κs = stage₂ (c .before .before) .inside
-
-enum-known-name : tie.Need-enum-known-name
-enum-known-name c = search needs
-
-enum-told-3 : tie.Need-enum-told-3
-enum-told-3 c = search needs
-
-none-requires-3 : tie.Need-none-requires-3
-none-requires-3 c κs = search needs
 
 returns-3 : tie.Need-returns-3
 returns-3 c =
@@ -137,20 +98,8 @@ returns-3 c =
     stage-none (stage₂ (c .before .before .before .before .before .before)) (f .result) (c .before .enum-told3 .given .1) (f .ensures)
     ∙ sym (c .none3 .ensures)
 
-slice-aggregate-field-at-4 : tie.Need-slice-aggregate-field-at-4
-slice-aggregate-field-at-4 c = search needs
-
 field-at-requires-4 : tie.Need-field-at-requires-4
 field-at-requires-4 c κs = stage₃ (c .before .before) .inside
-
-enum-known-count : tie.Need-enum-known-count
-enum-known-count c = search needs
-
-enum-told-4 : tie.Need-enum-told-4
-enum-told-4 c = search needs
-
-none-requires-4 : tie.Need-none-requires-4
-none-requires-4 c κs = search needs
 
 returns-4 : tie.Need-returns-4
 returns-4 c =
@@ -158,20 +107,8 @@ returns-4 c =
     stage-none (stage₃ (c .before .before .before .before .before .before)) (f .result) (c .before .enum-told4 .given .1) (f .ensures)
     ∙ sym (c .none4 .ensures)
 
-slice-aggregate-field-at-5 : tie.Need-slice-aggregate-field-at-5
-slice-aggregate-field-at-5 c = search needs
-
 field-at-requires-5 : tie.Need-field-at-requires-5
 field-at-requires-5 c κs = stage₄ (c .before .before) .inside
-
-enum-known-from : tie.Need-enum-known-from
-enum-known-from c = search needs
-
-enum-told-5 : tie.Need-enum-told-5
-enum-told-5 c = search needs
-
-none-requires-5 : tie.Need-none-requires-5
-none-requires-5 c κs = search needs
 
 returns-5 : tie.Need-returns-5
 returns-5 c =
@@ -179,29 +116,14 @@ returns-5 c =
     stage-none (stage₄ (c .before .before .before .before .before .before)) (f .result) (c .before .enum-told5 .given .1) (f .ensures)
     ∙ sym (c .none5 .ensures)
 
-slice-aggregate-field-at-6 : tie.Need-slice-aggregate-field-at-6
-slice-aggregate-field-at-6 c = search needs
-
 field-at-requires-6 : tie.Need-field-at-requires-6
 field-at-requires-6 c κs = stage₅ (c .before .before) .inside
-
-enum-known-to : tie.Need-enum-known-to
-enum-known-to c = search needs
-
-enum-told-6 : tie.Need-enum-told-6
-enum-told-6 c = search needs
-
-none-requires-6 : tie.Need-none-requires-6
-none-requires-6 c κs = search needs
 
 returns-6 : tie.Need-returns-6
 returns-6 c =
     let f = c .before .before .before .field-at6 in
     stage-none (stage₅ (c .before .before .before .before .before .before)) (f .result) (c .before .enum-told6 .given .1) (f .ensures)
     ∙ sym (c .none6 .ensures)
-
-none-requires-7 : tie.Need-none-requires-7
-none-requires-7 c κs = search needs
 
 returns-7 : tie.Need-returns-7
 returns-7 c = stage-more (stage₆ (c .before .before .before)) (c .before .if1 .taken) ∙ sym (c .none7 .ensures)
@@ -211,44 +133,9 @@ returns-8 c = stage-end (stage₆ (c .before .before)) (c .if1 .left)
 
 pub record-spec : {M : Type 1} → statement M
 record-spec =
-    tie.close
-    (tie.spec
-    slice-aggregate-field-at
-    field-at-requires
-    enum-known-form
-    enum-told
-    none-requires
-    returns
-    slice-aggregate-field-at-2
-    field-at-requires-2
-    enum-known-id
-    enum-told-2
-    none-requires-2
-    returns-2
-    slice-aggregate-field-at-3
-    field-at-requires-3
-    enum-known-name
-    enum-told-3
-    none-requires-3
-    returns-3
-    slice-aggregate-field-at-4
-    field-at-requires-4
-    enum-known-count
-    enum-told-4
-    none-requires-4
-    returns-4
-    slice-aggregate-field-at-5
-    field-at-requires-5
-    enum-known-from
-    enum-told-5
-    none-requires-5
-    returns-5
-    slice-aggregate-field-at-6
-    field-at-requires-6
-    enum-known-to
-    enum-told-6
-    none-requires-6
-    returns-6
-    none-requires-7
-    returns-7
-    returns-8)
+    tie.close (tie.spec (λ c. search needs) (λ c κs. search needs) (λ c. search needs) (λ c. search needs) (λ c κs. search needs) returns
+    (λ c. search needs) field-at-requires-2 (λ c. search needs) (λ c. search needs) (λ c κs. search needs) returns-2 (λ c. search needs)
+    field-at-requires-3 (λ c. search needs) (λ c. search needs) (λ c κs. search needs) returns-3 (λ c. search needs) field-at-requires-4
+    (λ c. search needs) (λ c. search needs) (λ c κs. search needs) returns-4 (λ c. search needs) field-at-requires-5 (λ c. search needs)
+    (λ c. search needs) (λ c κs. search needs) returns-5 (λ c. search needs) field-at-requires-6 (λ c. search needs) (λ c. search needs)
+    (λ c κs. search needs) returns-6 (λ c κs. search needs) returns-7 returns-8)

@@ -5,15 +5,6 @@ use borrow.Author.Needs.{needs}
 use Rattle.reading.proofs.line.single.Statement.{statement}
 use Rattle.reading.proofs.line.single.Tie as tie
 
-field-at-requires : tie.Need-field-at-requires
-field-at-requires c κs = search needs
-
-enum-known-n : tie.Need-enum-known-n
-enum-known-n c = search needs
-
-enum-told : tie.Need-enum-told
-enum-told c = search needs
-
 returns : tie.Need-returns
 returns c =
     let c₁ = c .before .before in
@@ -39,4 +30,4 @@ returns-3 c =
 
 pub single-spec : {M : Type 1} → statement M
 single-spec =
-    tie.close (tie.spec field-at-requires enum-known-n enum-told returns returns-2 returns-3)
+    tie.close (tie.spec (λ c κs. search needs) (λ c. search needs) (λ c. search needs) returns returns-2 returns-3)

@@ -22,23 +22,11 @@ loop-holds c =
     let k : o .at ≡ o .at + 0 = omega arith in
     (omega arith, omega arith, ap (λ (n : ℕ). after (o .mark .now) (drop n (o .l .now))) k)
 
-sub-if1 : tie.Need-sub-if1 Inv-loop μ-loop
-sub-if1 c = omega arith
-
 returns : tie.Need-returns Inv-loop μ-loop
 returns c =
     let o = c .before .before .before .args in
     let v = c .before .before .loop in
     starts-not (v .inv .2 ∙ after-short (o .mark .now) (o .l .now) (v .i) (o .at + v .i) (omega arith) (omega arith))
-
-shared-slice-read-if2 : tie.Need-shared-slice-read-if2 Inv-loop μ-loop
-shared-slice-read-if2 c = omega arith
-
-add-if2 : tie.Need-add-if2 Inv-loop μ-loop
-add-if2 c = omega arith
-
-shared-slice-read-if2-2 : tie.Need-shared-slice-read-if2-2 Inv-loop μ-loop
-shared-slice-read-if2-2 c = omega arith
 
 returns-2 : tie.Need-returns-2 Inv-loop μ-loop
 returns-2 c =
@@ -47,12 +35,6 @@ returns-2 c =
     let o = c₂ .args in
     let v = c₁ .loop in
     starts-not (v .inv .2 ∙ after-differs (o .mark .now) (o .l .now) (v .i) (o .at + v .i) (omega arith) (omega arith) (c .if2 .taken))
-
-add-i : tie.Need-add-i Inv-loop μ-loop
-add-i c = omega arith
-
-loop-less : tie.Need-loop-less Inv-loop μ-loop
-loop-less c = omega arith
 
 loop-again : tie.Need-loop-again Inv-loop μ-loop
 loop-again c =
@@ -78,18 +60,5 @@ returns-3 c =
 
 pub starts-spec : {M : Type 1} → statement M
 starts-spec =
-    tie.close
-    (tie.spec
-    Inv-loop
-    μ-loop
-    loop-holds
-    sub-if1
-    returns
-    shared-slice-read-if2
-    add-if2
-    shared-slice-read-if2-2
-    returns-2
-    add-i
-    loop-less
-    loop-again
-    returns-3)
+    tie.close (tie.spec Inv-loop μ-loop loop-holds (λ c. omega arith) returns (λ c. omega arith) (λ c. omega arith) (λ c. omega arith) returns-2
+    (λ c. omega arith) (λ c. omega arith) loop-again returns-3)

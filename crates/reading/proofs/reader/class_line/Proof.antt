@@ -8,21 +8,6 @@ use borrow.Author.Needs.{needs}
 use Rattle.reading.proofs.reader.class_line.Statement.{statement}
 use Rattle.reading.proofs.reader.class_line.Tie as tie
 
-slice-aggregate-single : tie.Need-slice-aggregate-single
-slice-aggregate-single c = search needs
-
-single-requires : tie.Need-single-requires
-single-requires c κs = search needs
-
-enum-known-c : tie.Need-enum-known-c
-enum-known-c c = search needs
-
-enum-told : tie.Need-enum-told
-enum-told c = search needs
-
-spoil-requires : tie.Need-spoil-requires
-spoil-requires c κs = search needs
-
 returns : tie.Need-returns
 returns c =
     let c₁ = c .before in
@@ -31,9 +16,6 @@ returns c =
       is = λ R n cs rs v h. class-none v (c .spoil .ensures) h (c₂ .single .ensures ∙ ap ones (c₁ .enum-told .given .1));
       spares = λ R h. spares-spoiled (c .spoil .ensures);
     }
-
-spoil-requires-2 : tie.Need-spoil-requires-2
-spoil-requires-2 c κs = search needs
 
 returns-2 : tie.Need-returns-2
 returns-2 c =
@@ -44,21 +26,6 @@ returns-2 c =
       is = λ R n cs rs v h. class-large v (c .spoil2 .ensures) h (c₃ .single .ensures ∙ ap ones (c₂ .c .given .1)) (c₁ .if1 .taken);
       spares = λ R h. spares-spoiled (c .spoil2 .ensures);
     }
-
-cast-store-class : tie.Need-cast-store-class
-cast-store-class c = search needs
-
-store-class-requires : tie.Need-store-class-requires
-store-class-requires c κs = search needs
-
-next-requires : tie.Need-next-requires
-next-requires c κs = search needs
-
-next-requires-2 : tie.Need-next-requires-2
-next-requires-2 c κs = search needs
-
-same-length : tie.Need-same-length
-same-length c = search needs
 
 returns-3 : tie.Need-returns-3
 returns-3 c =
@@ -75,19 +42,6 @@ returns-3 c =
 
 pub class-line-spec : {M : Type 1} → statement M
 class-line-spec =
-    tie.close
-    (tie.spec
-    slice-aggregate-single
-    single-requires
-    enum-known-c
-    enum-told
-    spoil-requires
-    returns
-    spoil-requires-2
-    returns-2
-    cast-store-class
-    store-class-requires
-    next-requires
-    next-requires-2
-    same-length
+    tie.close (tie.spec (λ c. search needs) (λ c κs. search needs) (λ c. search needs) (λ c. search needs) (λ c κs. search needs) returns
+    (λ c κs. search needs) returns-2 (λ c. search needs) (λ c κs. search needs) (λ c κs. search needs) (λ c κs. search needs) (λ c. search needs)
     returns-3)

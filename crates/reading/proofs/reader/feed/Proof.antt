@@ -25,18 +25,6 @@ loop-holds c =
     let c₁ = c .before .before .before .before in
     let o = c₁ .args in (omega arith, refl, refl, refl, fed-none (o .r) (o .line .now) (o .classes .now) (o .records .now))
 
-shared-slice-read-one-byte : tie.Need-shared-slice-read-one-byte Inv-loop μ-loop
-shared-slice-read-one-byte c = omega arith
-
-one-byte-requires : tie.Need-one-byte-requires Inv-loop μ-loop
-one-byte-requires c κs = search needs
-
-add-i : tie.Need-add-i Inv-loop μ-loop
-add-i c = omega arith
-
-loop-less : tie.Need-loop-less Inv-loop μ-loop
-loop-less c = omega arith
-
 loop-again : tie.Need-loop-again Inv-loop μ-loop
 loop-again c =
     let c₁ = c .before .before .before .before .before .before in
@@ -52,15 +40,6 @@ loop-again c =
       fed-turn (c₄ .args .chunk .now) (v .i) (c₂ .loop-test .taken) (v .inv .4) (c₁ .one-byte .ensures),
     )
 
-same-length : tie.Need-same-length Inv-loop μ-loop
-same-length c = search needs
-
-same-length-2 : tie.Need-same-length-2 Inv-loop μ-loop
-same-length-2 c = search needs
-
-same-length-3 : tie.Need-same-length-3 Inv-loop μ-loop
-same-length-3 c = search needs
-
 returns : tie.Need-returns Inv-loop μ-loop
 returns c =
     let c₁ = c .before in
@@ -69,17 +48,5 @@ returns c =
 
 pub feed-spec : {M : Type 1} → statement M
 feed-spec =
-    tie.close
-    (tie.spec
-    Inv-loop
-    μ-loop
-    loop-holds
-    shared-slice-read-one-byte
-    one-byte-requires
-    add-i
-    loop-less
-    loop-again
-    same-length
-    same-length-2
-    same-length-3
-    returns)
+    tie.close (tie.spec Inv-loop μ-loop loop-holds (λ c. omega arith) (λ c κs. search needs) (λ c. omega arith) (λ c. omega arith) loop-again
+    (λ c. search needs) (λ c. search needs) (λ c. search needs) returns)

@@ -7,9 +7,6 @@ use Rattle.reading.proofs.reader.finish.Tie as tie
 returns : tie.Need-returns
 returns c = ends-lost (c .before .before .args .r) (c .if1 .taken)
 
-next-requires : tie.Need-next-requires
-next-requires c κs = search needs
-
 returns-2 : tie.Need-returns-2
 returns-2 c =
     let c₁ = c .before in
@@ -23,9 +20,6 @@ returns-3 c =
     let c₂ = c₁ .before .before in
     let c₃ = c₂ .before .before in
     ends-empty (c₃ .args .r) (c₂ .if1 .left) (c₁ .if2 .left) (c .if3 .taken)
-
-next-requires-2 : tie.Need-next-requires-2
-next-requires-2 c κs = search needs
 
 returns-4 : tie.Need-returns-4
 returns-4 c =
@@ -46,5 +40,4 @@ returns-5 c =
 
 pub finish-spec : {M : Type 1} → statement M
 finish-spec =
-    tie.close
-    (tie.spec returns next-requires returns-2 returns-3 next-requires-2 returns-4 returns-5)
+    tie.close (tie.spec returns (λ c κs. search needs) returns-2 returns-3 (λ c κs. search needs) returns-4 returns-5)

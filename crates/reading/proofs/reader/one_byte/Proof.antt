@@ -12,9 +12,6 @@ returns c =
     let c₁ = c .before .before .before .before .before in
     let o = c₁ .args in fed-lost (o .r) _ (o .line .now) (o .classes .now) (o .records .now) (λ z. absurd (omega (arith, c .if1 .taken)))
 
-spoil-requires : tie.Need-spoil-requires
-spoil-requires c κs = search needs
-
 returns-2 : tie.Need-returns-2
 returns-2 c =
     let c₁ = c .before in
@@ -22,26 +19,11 @@ returns-2 c =
     let c₃ = c₂ .before .before .before .before .before in
     let o = c₃ .args in byte-never (o .r) (o .line .now) (o .classes .now) (o .records .now) (o .x) (omega (arith, c₂ .if1 .left)) (c₁ .if2 .taken) (c .spoil .ensures)
 
-slice-reshare-prefix-end-line : tie.Need-slice-reshare-prefix-end-line
-slice-reshare-prefix-end-line c = search needs
-
 slice-aggregate-end-line : tie.Need-slice-aggregate-end-line
 slice-aggregate-end-line c =
     let c₁ = c .before .before in
     let c₂ = c₁ .before .before .before .before .before .before in
     let o = c₂ .args in sym (length-take-le (o .r .length) (o .line .now) (c₁ .if2 .left))
-
-end-line-requires : tie.Need-end-line-requires
-end-line-requires c κs = search needs
-
-same-length : tie.Need-same-length
-same-length c = search needs
-
-same-length-2 : tie.Need-same-length-2
-same-length-2 c = search needs
-
-same-length-3 : tie.Need-same-length-3
-same-length-3 c = search needs
 
 returns-3 : tie.Need-returns-3
 returns-3 c =
@@ -50,9 +32,6 @@ returns-3 c =
     let c₃ = c₂ .before .before in
     let c₄ = c₃ .before .before .before .before .before in
     let o = c₄ .args in byte-line (o .r) (o .line .now) (o .classes .now) (o .records .now) (o .x) (c₂ .if3 .taken) (omega (arith, c₃ .if1 .left)) (c₁ .end-line .ensures)
-
-spoil-requires-2 : tie.Need-spoil-requires-2
-spoil-requires-2 c κs = search needs
 
 returns-4 : tie.Need-returns-4
 returns-4 c =
@@ -63,15 +42,6 @@ returns-4 c =
     let o = c₄ .args in
     byte-long (o .r) (o .line .now) (o .classes .now) (o .records .now) (o .x) (c₂ .if3 .left) (omega (arith, c₃ .if1 .left)) (c₁ .if4 .taken) (c .spoil2 .ensures)
 
-slice-write-line : tie.Need-slice-write-line
-slice-write-line c = search needs
-
-add-t8 : tie.Need-add-t8
-add-t8 c = search needs
-
-same-length-4 : tie.Need-same-length-4
-same-length-4 c = search needs
-
 returns-5 : tie.Need-returns-5
 returns-5 c =
     let c₁ = c .before in
@@ -81,21 +51,6 @@ returns-5 c =
 
 pub one-byte-spec : {M : Type 1} → statement M
 one-byte-spec =
-    tie.close
-    (tie.spec
-    returns
-    spoil-requires
-    returns-2
-    slice-reshare-prefix-end-line
-    slice-aggregate-end-line
-    end-line-requires
-    same-length
-    same-length-2
-    same-length-3
-    returns-3
-    spoil-requires-2
-    returns-4
-    slice-write-line
-    add-t8
-    same-length-4
-    returns-5)
+    tie.close (tie.spec returns (λ c κs. search needs) returns-2 (λ c. search needs) slice-aggregate-end-line (λ c κs. search needs)
+    (λ c. search needs) (λ c. search needs) (λ c. search needs) returns-3 (λ c κs. search needs) returns-4 (λ c. search needs) (λ c. search needs)
+    (λ c. search needs) returns-5)

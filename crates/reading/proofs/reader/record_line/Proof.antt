@@ -10,12 +10,6 @@ use borrow.Author.Needs.{needs}
 use Rattle.reading.proofs.reader.record_line.Statement.{statement}
 use Rattle.reading.proofs.reader.record_line.Tie as tie
 
-record-requires : tie.Need-record-requires
-record-requires c κs = search needs
-
-spoil-requires : tie.Need-spoil-requires
-spoil-requires c κs = search needs
-
 returns : tie.Need-returns
 returns c =
     let c₁ = c .before in
@@ -23,18 +17,6 @@ returns c =
     let w = c₂ .«record» in
     let e = w .ensures ∙ ap (λ (b : Bool). sixIf b (w .result .numbers)) (not-true (w .result .ok) (c₁ .if1 .taken)) in
     record { is = λ T n cs rs v h. record-none v (c .spoil .ensures) h e; spares = λ T h. spares-spoiled (c .spoil .ensures) }
-
-store-record-requires : tie.Need-store-record-requires
-store-record-requires c κs = search needs
-
-next-requires : tie.Need-next-requires
-next-requires c κs = search needs
-
-next-requires-2 : tie.Need-next-requires-2
-next-requires-2 c κs = search needs
-
-same-length : tie.Need-same-length
-same-length c = search needs
 
 returns-2 : tie.Need-returns-2
 returns-2 c =
@@ -52,13 +34,5 @@ returns-2 c =
 
 pub record-line-spec : {M : Type 1} → statement M
 record-line-spec =
-    tie.close
-    (tie.spec
-    record-requires
-    spoil-requires
-    returns
-    store-record-requires
-    next-requires
-    next-requires-2
-    same-length
-    returns-2)
+    tie.close (tie.spec (λ c κs. search needs) (λ c κs. search needs) returns (λ c κs. search needs) (λ c κs. search needs) (λ c κs. search needs)
+    (λ c. search needs) returns-2)

@@ -6,9 +6,6 @@ use borrow.Author.Needs.{needs}
 use Rattle.reading.proofs.reader.spoil.Statement.{statement}
 use Rattle.reading.proofs.reader.spoil.Tie as tie
 
-next-requires : tie.Need-next-requires
-next-requires c κs = search needs
-
 returns : tie.Need-returns
 returns c =
     let c₁ = c .before in
@@ -18,4 +15,5 @@ returns c =
     (c .next .ensures)
 
 pub spoil-spec : {M : Type 1} → statement M
-spoil-spec = tie.close (tie.spec next-requires returns)
+spoil-spec =
+    tie.close (tie.spec (λ c κs. search needs) returns)

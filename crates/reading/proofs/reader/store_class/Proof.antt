@@ -5,17 +5,9 @@ use borrow.Author.Needs.{needs}
 use Rattle.reading.proofs.reader.store_class.Statement.{statement}
 use Rattle.reading.proofs.reader.store_class.Tie as tie
 
-slice-write-classes : tie.Need-slice-write-classes
-slice-write-classes c = search needs
-
-same-length : tie.Need-same-length
-same-length c = search needs
-
-returns : tie.Need-returns
-returns c = search needs
-
 returns-2 : tie.Need-returns-2
 returns-2 c = let o = c .before .args in sym (set-out (o .classes .now) (o .at) (o .c) (c .if1 .left))
 
 pub store-class-spec : {M : Type 1} → statement M
-store-class-spec = tie.close (tie.spec slice-write-classes same-length returns returns-2)
+store-class-spec =
+    tie.close (tie.spec (λ c. search needs) (λ c. search needs) (λ c. search needs) returns-2)

@@ -5,18 +5,6 @@ use borrow.Author.Needs.{needs}
 use Rattle.reading.proofs.reader.store_record.Statement.{statement}
 use Rattle.reading.proofs.reader.store_record.Tie as tie
 
-mul-put : tie.Need-mul-put
-mul-put c = search needs
-
-slice-aggregate-put : tie.Need-slice-aggregate-put
-slice-aggregate-put c = search needs
-
-put-requires : tie.Need-put-requires
-put-requires c κs = search needs
-
-same-length : tie.Need-same-length
-same-length c = search needs
-
 returns : tie.Need-returns
 returns c = record { is = λ h. search needs; out = λ h. absurd (omega arith); long = search needs; small = search needs }
 
@@ -25,4 +13,4 @@ returns-2 c = let o = (c .before .before) in record { is = λ h. absurd (omega a
 
 pub store-record-spec : {M : Type 1} → statement M
 store-record-spec =
-    tie.close (tie.spec mul-put slice-aggregate-put put-requires same-length returns returns-2)
+    tie.close (tie.spec (λ c. search needs) (λ c. search needs) (λ c κs. search needs) (λ c. search needs) returns returns-2)

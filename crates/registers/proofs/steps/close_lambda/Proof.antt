@@ -5,38 +5,8 @@ use borrow.Author.Needs.{needs}
 use Rattle.registers.proofs.steps.close_lambda.Statement.{statement}
 use Rattle.registers.proofs.steps.close_lambda.Tie as tie
 
-load-requires : tie.Need-load-requires
-load-requires c κs = search needs
-
 leave-lambda-requires : tie.Need-leave-lambda-requires
 leave-lambda-requires c κs = rw (c .before .before .before .before .load .ensures) (c .before .before .before .before .before .before .before .before .before .before .before .pre)
-
-put-scope-requires : tie.Need-put-scope-requires
-put-scope-requires c κs = search needs
-
-put-captures-requires : tie.Need-put-captures-requires
-put-captures-requires c κs = search needs
-
-put-requires : tie.Need-put-requires
-put-requires c κs = search needs
-
-put-requires-2 : tie.Need-put-requires-2
-put-requires-2 c κs = search needs
-
-put-requires-3 : tie.Need-put-requires-3
-put-requires-3 c κs = search needs
-
-same-length : tie.Need-same-length
-same-length c = search needs
-
-same-length-2 : tie.Need-same-length-2
-same-length-2 c = search needs
-
-same-length-3 : tie.Need-same-length-3
-same-length-3 c = search needs
-
-same-length-4 : tie.Need-same-length-4
-same-length-4 c = search needs
 
 returns : tie.Need-returns
 returns c =
@@ -48,4 +18,6 @@ returns c =
     rw (ten, arguments, captured, c .before .before .before .before .before .before .put-captures .ensures, c .before .before .before .before .before .before .before .before .put-scope .ensures, ← loaded .load .ensures) (lambda-closed (step .leave-lambda .ensures))
 
 pub close-lambda-spec : {M : Type 1} → statement M
-close-lambda-spec = tie.close (tie.spec load-requires leave-lambda-requires put-scope-requires put-captures-requires put-requires put-requires-2 put-requires-3 same-length same-length-2 same-length-3 same-length-4 returns)
+close-lambda-spec =
+    tie.close (tie.spec (λ c κs. search needs) leave-lambda-requires (λ c κs. search needs) (λ c κs. search needs) (λ c κs. search needs)
+    (λ c κs. search needs) (λ c κs. search needs) (λ c. search needs) (λ c. search needs) (λ c. search needs) (λ c. search needs) returns)

@@ -5,26 +5,8 @@ use borrow.Author.Needs.{needs}
 use Rattle.registers.proofs.steps.close_let.Statement.{statement}
 use Rattle.registers.proofs.steps.close_let.Tie as tie
 
-load-requires : tie.Need-load-requires
-load-requires c κs = search needs
-
 leave-let-requires : tie.Need-leave-let-requires
 leave-let-requires c κs = rw (c .before .before .before .load .ensures) (c .before .before .before .before .before .before .before .before .before .pre)
-
-put-scope-requires : tie.Need-put-scope-requires
-put-scope-requires c κs = search needs
-
-put-requires : tie.Need-put-requires
-put-requires c κs = search needs
-
-same-length : tie.Need-same-length
-same-length c = search needs
-
-same-length-2 : tie.Need-same-length-2
-same-length-2 c = search needs
-
-same-length-3 : tie.Need-same-length-3
-same-length-3 c = search needs
 
 returns : tie.Need-returns
 returns c =
@@ -34,4 +16,6 @@ returns c =
     rw (arguments, c .before .before .put-scope .ensures, ← loaded .load .ensures) (let-left (step .leave-let .ensures))
 
 pub close-let-spec : {M : Type 1} → statement M
-close-let-spec = tie.close (tie.spec load-requires leave-let-requires put-scope-requires put-requires same-length same-length-2 same-length-3 returns)
+close-let-spec =
+    tie.close (tie.spec (λ c κs. search needs) leave-let-requires (λ c κs. search needs) (λ c κs. search needs) (λ c. search needs)
+    (λ c. search needs) (λ c. search needs) returns)

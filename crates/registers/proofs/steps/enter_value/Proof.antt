@@ -3,20 +3,8 @@ use borrow.Author.Needs.{needs}
 use Rattle.registers.proofs.steps.enter_value.Statement.{statement}
 use Rattle.registers.proofs.steps.enter_value.Tie as tie
 
-load-requires : tie.Need-load-requires
-load-requires c κs = search needs
-
 enter-top-level-value-requires : tie.Need-enter-top-level-value-requires
 enter-top-level-value-requires c κs = rw (c .before .before .load .ensures) (c .before .before .before .before .before .before .before .pre)
-
-put-entered-requires : tie.Need-put-entered-requires
-put-entered-requires c κs = search needs
-
-same-length : tie.Need-same-length
-same-length c = search needs
-
-same-length-2 : tie.Need-same-length-2
-same-length-2 c = search needs
 
 returns : tie.Need-returns
 returns c =
@@ -25,4 +13,5 @@ returns c =
     rw (c .put-entered .ensures, ← loaded .load .ensures) (step .enter-top-level-value .ensures)
 
 pub enter-value-spec : {M : Type 1} → statement M
-enter-value-spec = tie.close (tie.spec load-requires enter-top-level-value-requires put-entered-requires same-length same-length-2 returns)
+enter-value-spec =
+    tie.close (tie.spec (λ c κs. search needs) enter-top-level-value-requires (λ c κs. search needs) (λ c. search needs) (λ c. search needs) returns)

@@ -5,35 +5,8 @@ use borrow.Author.Needs.{needs}
 use Rattle.registers.proofs.steps.open_lambda.Statement.{statement}
 use Rattle.registers.proofs.steps.open_lambda.Tie as tie
 
-load-requires : tie.Need-load-requires
-load-requires c κs = search needs
-
 enter-lambda-requires : tie.Need-enter-lambda-requires
 enter-lambda-requires c κs = rw (c .before .before .before .load .ensures) (c .before .before .before .before .before .before .before .before .before .before .pre)
-
-set-context-requires : tie.Need-set-context-requires
-set-context-requires c κs = search needs
-
-put-scope-requires : tie.Need-put-scope-requires
-put-scope-requires c κs = search needs
-
-put-captures-requires : tie.Need-put-captures-requires
-put-captures-requires c κs = search needs
-
-put-requires : tie.Need-put-requires
-put-requires c κs = search needs
-
-put-second-requires : tie.Need-put-second-requires
-put-second-requires c κs = search needs
-
-same-length : tie.Need-same-length
-same-length c = search needs
-
-same-length-2 : tie.Need-same-length-2
-same-length-2 c = search needs
-
-same-length-3 : tie.Need-same-length-3
-same-length-3 c = search needs
 
 returns : tie.Need-returns
 returns c =
@@ -43,4 +16,6 @@ returns c =
     rw (c .put-second .ensures, nine, c .before .before .before .before .put-captures .ensures, c .before .before .before .before .before .before .put-scope .ensures, c .before .before .before .before .before .before .before .before .set-context .ensures, ← loaded .load .ensures) (lambda-opened (step .enter-lambda .ensures))
 
 pub open-lambda-spec : {M : Type 1} → statement M
-open-lambda-spec = tie.close (tie.spec load-requires enter-lambda-requires set-context-requires put-scope-requires put-captures-requires put-requires put-second-requires same-length same-length-2 same-length-3 returns)
+open-lambda-spec =
+    tie.close (tie.spec (λ c κs. search needs) enter-lambda-requires (λ c κs. search needs) (λ c κs. search needs) (λ c κs. search needs)
+    (λ c κs. search needs) (λ c κs. search needs) (λ c. search needs) (λ c. search needs) (λ c. search needs) returns)

@@ -5,26 +5,8 @@ use borrow.Author.Needs.{needs}
 use Rattle.registers.proofs.steps.open_let.Statement.{statement}
 use Rattle.registers.proofs.steps.open_let.Tie as tie
 
-load-requires : tie.Need-load-requires
-load-requires c κs = search needs
-
 enter-let-requires : tie.Need-enter-let-requires
 enter-let-requires c κs = rw (c .before .before .load .ensures) (c .before .before .before .before .before .before .before .before .before .pre)
-
-put-scope-requires : tie.Need-put-scope-requires
-put-scope-requires c κs = search needs
-
-put-requires : tie.Need-put-requires
-put-requires c κs = search needs
-
-put-second-requires : tie.Need-put-second-requires
-put-second-requires c κs = search needs
-
-same-length : tie.Need-same-length
-same-length c = search needs
-
-same-length-2 : tie.Need-same-length-2
-same-length-2 c = search needs
 
 returns : tie.Need-returns
 returns c =
@@ -34,4 +16,6 @@ returns c =
     rw (c .put-second .ensures, nine, c .before .before .before .before .put-scope .ensures, ← loaded .load .ensures) (let-entered (step .enter-let .ensures))
 
 pub open-let-spec : {M : Type 1} → statement M
-open-let-spec = tie.close (tie.spec load-requires enter-let-requires put-scope-requires put-requires put-second-requires same-length same-length-2 returns)
+open-let-spec =
+    tie.close (tie.spec (λ c κs. search needs) enter-let-requires (λ c κs. search needs) (λ c κs. search needs) (λ c κs. search needs)
+    (λ c. search needs) (λ c. search needs) returns)

@@ -4,15 +4,6 @@ use borrow.Author.Needs.{needs}
 use Rattle.registers.proofs.steps.open_set.Statement.{statement}
 use Rattle.registers.proofs.steps.open_set.Tie as tie
 
-load-requires : tie.Need-load-requires
-load-requires c κs = search needs
-
-clear-context-requires : tie.Need-clear-context-requires
-clear-context-requires c κs = search needs
-
-set-context-requires : tie.Need-set-context-requires
-set-context-requires c κs = search needs
-
 returns : tie.Need-returns
 returns c =
     let step = c .before .before in
@@ -20,4 +11,5 @@ returns c =
     rw (c .set-context .ensures, ← loaded .load .ensures) (context-cleared (step .clear-context .ensures))
 
 pub open-set-spec : {M : Type 1} → statement M
-open-set-spec = tie.close (tie.spec load-requires clear-context-requires set-context-requires returns)
+open-set-spec =
+    tie.close (tie.spec (λ c κs. search needs) (λ c κs. search needs) (λ c κs. search needs) returns)

@@ -4,14 +4,9 @@ use borrow.Author.Needs.{needs}
 use Rattle.registers.proofs.steps.set_context.Statement.{statement}
 use Rattle.registers.proofs.steps.set_context.Tie as tie
 
-wide-requires : tie.Need-wide-requires
-wide-requires c κs = search needs
-
-put-requires : tie.Need-put-requires
-put-requires c κs = search needs
-
 returns : tie.Need-returns
 returns c = context-back (c .before .before .before .args .r .now) (c .before .before .put-arg .given .0 .1) (c .before .wide .ensures) (c .put .ensures)
 
 pub set-context-spec : {M : Type 1} → statement M
-set-context-spec = tie.close (tie.spec wide-requires put-requires returns)
+set-context-spec =
+    tie.close (tie.spec (λ c κs. search needs) (λ c κs. search needs) returns)

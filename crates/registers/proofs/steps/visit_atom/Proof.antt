@@ -8,9 +8,6 @@ use Rattle.registers.proofs.steps.visit_atom.Tie as tie
 returns : tie.Need-returns
 returns c = const-visited (c .before .before .before .before .before .before .pre) (λ e. omega (arith, c .if1 .taken))
 
-load-requires : tie.Need-load-requires
-load-requires c κs = search needs
-
 read-requires : tie.Need-read-requires
 read-requires c κs =
     let loaded = c .before .before in
@@ -19,12 +16,6 @@ read-requires c κs =
 
 put-second-requires : tie.Need-put-second-requires
 put-second-requires c κs = c .put-second-arg .given .0 .1
-
-same-length : tie.Need-same-length
-same-length c = search needs
-
-same-length-2 : tie.Need-same-length-2
-same-length-2 c = search needs
 
 returns-2 : tie.Need-returns-2
 returns-2 c =
@@ -36,5 +27,4 @@ returns-2 c =
 
 pub visit-atom-spec : {M : Type 1} → statement M
 visit-atom-spec =
-    tie.close
-    (tie.spec returns load-requires read-requires put-second-requires same-length same-length-2 returns-2)
+    tie.close (tie.spec returns (λ c κs. search needs) read-requires put-second-requires (λ c. search needs) (λ c. search needs) returns-2)

@@ -10,45 +10,7 @@ Inv-loop t first width input at told same₀ next₀ j₀ same next j = at ≤ n
 abbrev μ-loop : tie.MeasureT-loop
 μ-loop t first width input at told same₀ next₀ j₀ same next j = width - j
 
-next-number-requires : tie.Need-next-number-requires Inv-loop μ-loop
-next-number-requires c κs = search needs
-
-wide-requires : tie.Need-wide-requires Inv-loop μ-loop
-wide-requires c κs = search needs
-
-loop-holds : tie.Need-loop-holds Inv-loop μ-loop
-loop-holds c = search needs
-
-add-same-number : tie.Need-add-same-number Inv-loop μ-loop
-add-same-number c = search needs
-
-same-number-requires : tie.Need-same-number-requires Inv-loop μ-loop
-same-number-requires c κs = search needs
-
-add-j : tie.Need-add-j Inv-loop μ-loop
-add-j c = search needs
-
-loop-less : tie.Need-loop-less Inv-loop μ-loop
-loop-less c = search needs
-
-loop-again : tie.Need-loop-again Inv-loop μ-loop
-loop-again c = search needs
-
-returns : tie.Need-returns Inv-loop μ-loop
-returns c = search needs
-
 pub same-row-spec : {M : Type 1} → statement M
 same-row-spec =
-    tie.close
-    (tie.spec
-    Inv-loop
-    μ-loop
-    next-number-requires
-    wide-requires
-    loop-holds
-    add-same-number
-    same-number-requires
-    add-j
-    loop-less
-    loop-again
-    returns)
+    tie.close (tie.spec Inv-loop μ-loop (λ c κs. search needs) (λ c κs. search needs) (λ c. search needs) (λ c. search needs) (λ c κs. search needs)
+    (λ c. search needs) (λ c. search needs) (λ c. search needs) (λ c. search needs))

@@ -4,11 +4,9 @@ use borrow.Author.Needs.{needs}
 use Rattle.scope_map.proofs.ScopeMap.contains_key_at_top.Statement.{statement}
 use Rattle.scope_map.proofs.ScopeMap.contains_key_at_top.Tie as tie
 
-place-requires : tie.Need-place-requires
-place-requires c κs = search needs
-
 returns : tie.Need-returns
 returns c = at-top (c .before .place .ensures)
 
 pub contains-key-at-top-spec : {M : Type 1} → statement M
-contains-key-at-top-spec = tie.close (tie.spec place-requires returns)
+contains-key-at-top-spec =
+    tie.close (tie.spec (λ c κs. search needs) returns)

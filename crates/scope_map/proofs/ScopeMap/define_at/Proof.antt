@@ -6,55 +6,20 @@ use borrow.Author.Needs.{needs}
 use Rattle.scope_map.proofs.ScopeMap.define_at.Statement.{statement}
 use Rattle.scope_map.proofs.ScopeMap.define_at.Tie as tie
 
-place-requires : tie.Need-place-requires
-place-requires c κs = search needs
-
-mul-link : tie.Need-mul-link
-mul-link c = search needs
-
-add-link : tie.Need-add-link
-add-link c = search needs
-
-mul-link-2 : tie.Need-mul-link-2
-mul-link-2 c = search needs
-
-slice-read-link : tie.Need-slice-read-link
-slice-read-link c = search needs
-
 put-requires : tie.Need-put-requires
 put-requires c κs =
     let i = c .before .before .before .place .result in
     (omega (arith, c .before .before .before .place .ensures .most), c .before .before .before .before .before .before .pre .1, omega (arith, c .before .slice-known2 .given (3 * i + 2)))
-
-same-length : tie.Need-same-length
-same-length c = search needs
 
 returns : tie.Need-returns
 returns c =
     let s = c .before .before .before .before .before .before .before .before .before in
     define-old (c .before .before .before .before .before .before .place .ensures) _ (s .pre .0) (s .pre .1) (c .before .before .before .before .before .if1 .taken) (c .before .before .put .ensures)
 
-enter-requires : tie.Need-enter-requires
-enter-requires c κs = search needs
-
-same-length-2 : tie.Need-same-length-2
-same-length-2 c = search needs
-
 returns-2 : tie.Need-returns-2
 returns-2 c = define-new (c .before .before .before .before .before .place .ensures) (c .before .before .before .before .before .before .before .before .pre .0) (c .before .before .enter .ensures) (c .before .before .before .before .if1 .left)
 
 pub define-at-spec : {M : Type 1} → statement M
 define-at-spec =
-    tie.close
-    (tie.spec
-    place-requires
-    mul-link
-    add-link
-    mul-link-2
-    slice-read-link
-    put-requires
-    same-length
-    returns
-    enter-requires
-    same-length-2
-    returns-2)
+    tie.close (tie.spec (λ c κs. search needs) (λ c. search needs) (λ c. search needs) (λ c. search needs) (λ c. search needs) put-requires
+    (λ c. search needs) returns (λ c κs. search needs) (λ c. search needs) returns-2)

@@ -45,55 +45,10 @@ Inv-loop t name i₀ i = (i ≤ i₀) × (foundIn (liveIn t i) name ≡ foundIn 
 abbrev μ-loop : tie.MeasureT-loop
 μ-loop t name i₀ i = i
 
-bound-requires : tie.Need-bound-requires Inv-loop μ-loop
-bound-requires c κs = search needs
-
-loop-holds : tie.Need-loop-holds Inv-loop μ-loop
-loop-holds c = search needs
-
-sub-i : tie.Need-sub-i Inv-loop μ-loop
-sub-i c = search needs
-
-mul-if1 : tie.Need-mul-if1 Inv-loop μ-loop
-mul-if1 c = search needs
-
-mul-if1-2 : tie.Need-mul-if1-2 Inv-loop μ-loop
-mul-if1-2 c = search needs
-
-shared-slice-read-if1 : tie.Need-shared-slice-read-if1 Inv-loop μ-loop
-shared-slice-read-if1 c = search needs
-
-mul-t10 : tie.Need-mul-t10 Inv-loop μ-loop
-mul-t10 c = search needs
-
-add-t11 : tie.Need-add-t11 Inv-loop μ-loop
-add-t11 c = search needs
-
-mul-t12 : tie.Need-mul-t12 Inv-loop μ-loop
-mul-t12 c = search needs
-
-shared-slice-read-t14 : tie.Need-shared-slice-read-t14 Inv-loop μ-loop
-shared-slice-read-t14 c = search needs
-
-mul-t15 : tie.Need-mul-t15 Inv-loop μ-loop
-mul-t15 c = search needs
-
-add-t16 : tie.Need-add-t16 Inv-loop μ-loop
-add-t16 c = search needs
-
-mul-t17 : tie.Need-mul-t17 Inv-loop μ-loop
-mul-t17 c = search needs
-
-shared-slice-read-t19 : tie.Need-shared-slice-read-t19 Inv-loop μ-loop
-shared-slice-read-t19 c = search needs
-
 returns : tie.Need-returns Inv-loop μ-loop
 returns c =
     let l = c .before .before .before .before in
     gets (row-below (omega (arith, l .before .before .bound .ensures .most))) (λ k. sym (found _ _ _ (l .loop-test .taken) (c .before .before .if1 .taken)) ∙ l .before .loop .inv .1 ∙ among-all (l .before .before .bound .ensures) (k .index))
-
-loop-less : tie.Need-loop-less Inv-loop μ-loop
-loop-less c = search needs
 
 loop-again : tie.Need-loop-again Inv-loop μ-loop
 unfolding find
@@ -107,25 +62,6 @@ returns-2 c = gets (λ j d v e. absurd (let z : _≡_ {A = ℕ} 0 1 = cc in omeg
 
 pub get-spec : {M : Type 1} → statement M
 get-spec =
-    tie.close
-    (tie.spec
-    Inv-loop
-    μ-loop
-    bound-requires
-    loop-holds
-    sub-i
-    mul-if1
-    mul-if1-2
-    shared-slice-read-if1
-    mul-t10
-    add-t11
-    mul-t12
-    shared-slice-read-t14
-    mul-t15
-    add-t16
-    mul-t17
-    shared-slice-read-t19
-    returns
-    loop-less
-    loop-again
-    returns-2)
+    tie.close (tie.spec Inv-loop μ-loop (λ c κs. search needs) (λ c. search needs) (λ c. search needs) (λ c. search needs) (λ c. search needs)
+    (λ c. search needs) (λ c. search needs) (λ c. search needs) (λ c. search needs) (λ c. search needs) (λ c. search needs) (λ c. search needs)
+    (λ c. search needs) (λ c. search needs) returns (λ c. search needs) loop-again returns-2)

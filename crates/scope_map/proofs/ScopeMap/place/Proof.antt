@@ -4,15 +4,6 @@ use borrow.Author.Needs.{needs}
 use Rattle.scope_map.proofs.ScopeMap.place.Statement.{statement}
 use Rattle.scope_map.proofs.ScopeMap.place.Tie as tie
 
-get-requires : tie.Need-get-requires
-get-requires c κs = search needs
-
-enum-known-found : tie.Need-enum-known-found
-enum-known-found c = search needs
-
-enum-told : tie.Need-enum-told
-enum-told c = search needs
-
 returns : tie.Need-returns
 returns c = no-place (c .before .before .get .ensures) (c .enum-told .given .1)
 
@@ -24,4 +15,4 @@ returns-3 c = place-under (c .before .before .before .before .before .get .ensur
 
 pub place-spec : {M : Type 1} → statement M
 place-spec =
-    tie.close (tie.spec get-requires enum-known-found enum-told returns returns-2 returns-3)
+    tie.close (tie.spec (λ c κs. search needs) (λ c. search needs) (λ c. search needs) returns returns-2 returns-3)

@@ -6,9 +6,6 @@ use borrow.Author.Needs.{needs}
 use Rattle.scope_map.proofs.ScopeMap.push_layer.Statement.{statement}
 use Rattle.scope_map.proofs.ScopeMap.push_layer.Tie as tie
 
-add-t2 : tie.Need-add-t2
-add-t2 c = search needs
-
 returns : tie.Need-returns
 returns c = λ t. record {
   held = λ s g. record {
@@ -23,4 +20,5 @@ returns c = λ t. record {
 }
 
 pub push-layer-spec : {M : Type 1} → statement M
-push-layer-spec = tie.close (tie.spec add-t2 returns)
+push-layer-spec =
+    tie.close (tie.spec (λ c. search needs) returns)

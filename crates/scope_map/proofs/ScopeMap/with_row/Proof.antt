@@ -7,11 +7,9 @@ use Rattle.scope_map.proofs.ScopeMap.with_row.Tie as tie
 returns : tie.Need-returns
 returns c = rw (lt-ltb _ _ (c .if1 .taken))
 
-add-t4 : tie.Need-add-t4
-add-t4 c = search needs
-
 returns-2 : tie.Need-returns-2
 returns-2 c = rw (le-ltb _ _ (c .before .if1 .left))
 
 pub with-row-spec : {M : Type 1} → statement M
-with-row-spec = tie.close (tie.spec returns add-t4 returns-2)
+with-row-spec =
+    tie.close (tie.spec returns (λ c. search needs) returns-2)

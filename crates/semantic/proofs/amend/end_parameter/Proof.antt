@@ -7,15 +7,6 @@ use borrow.Author.Needs.{needs}
 use Rattle.semantic.proofs.amend.end_parameter.Statement.{statement}
 use Rattle.semantic.proofs.amend.end_parameter.Tie as tie
 
-set-number-requires : tie.Need-set-number-requires
-set-number-requires c κs = search needs
-
-set-number-requires-2 : tie.Need-set-number-requires-2
-set-number-requires-2 c κs = search needs
-
-same-length : tie.Need-same-length
-same-length c = search needs
-
 returns : tie.Need-returns
 unfolding putRow
 returns c = let o = c .before .before .before .before .before .before .before .before .before .args in
@@ -25,4 +16,4 @@ returns c = let o = c .before .before .before .before .before .before .before .b
 
 pub end-parameter-spec : {M : Type 1} → statement M
 end-parameter-spec =
-    tie.close (tie.spec set-number-requires set-number-requires-2 same-length returns)
+    tie.close (tie.spec (λ c κs. search needs) (λ c κs. search needs) (λ c. search needs) returns)

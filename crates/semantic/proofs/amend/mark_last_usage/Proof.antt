@@ -6,15 +6,10 @@ use borrow.Author.Needs.{needs}
 use Rattle.semantic.proofs.amend.mark_last_usage.Statement.{statement}
 use Rattle.semantic.proofs.amend.mark_last_usage.Tie as tie
 
-set-number-requires : tie.Need-set-number-requires
-set-number-requires c κs = search needs
-
-same-length : tie.Need-same-length
-same-length c = search needs
-
 returns : tie.Need-returns
 unfolding putRow
 returns c = c .before .before .set-number .ensures .is markLastUsage (λ l e h v q. refl)
 
 pub mark-last-usage-spec : {M : Type 1} → statement M
-mark-last-usage-spec = tie.close (tie.spec set-number-requires same-length returns)
+mark-last-usage-spec =
+    tie.close (tie.spec (λ c κs. search needs) (λ c. search needs) returns)

@@ -4,24 +4,6 @@ use borrow.Author.Needs.{needs}
 use Rattle.semantic.proofs.amend.shadow_if_builtin.Statement.{statement}
 use Rattle.semantic.proofs.amend.shadow_if_builtin.Tie as tie
 
-mul-if1 : tie.Need-mul-if1
-mul-if1 c = search needs
-
-add-if1 : tie.Need-add-if1
-add-if1 c = search needs
-
-mul-if1-2 : tie.Need-mul-if1-2
-mul-if1-2 c = search needs
-
-slice-read-if1 : tie.Need-slice-read-if1
-slice-read-if1 c = search needs
-
-set-number-requires : tie.Need-set-number-requires
-set-number-requires c κs = search needs
-
-same-length : tie.Need-same-length
-same-length c = search needs
-
 returns : tie.Need-returns
 returns c = shadows-builtin _ _ (c .before .before .before .before .if1 .taken) (c .before .before .set-number .ensures)
 
@@ -30,13 +12,5 @@ returns-2 c = shadows-none _ _ (c .if1 .left)
 
 pub shadow-if-builtin-spec : {M : Type 1} → statement M
 shadow-if-builtin-spec =
-    tie.close
-    (tie.spec
-    mul-if1
-    add-if1
-    mul-if1-2
-    slice-read-if1
-    set-number-requires
-    same-length
-    returns
-    returns-2)
+    tie.close (tie.spec (λ c. search needs) (λ c. search needs) (λ c. search needs) (λ c. search needs) (λ c κs. search needs) (λ c. search needs)
+    returns returns-2)

@@ -6,12 +6,10 @@ use borrow.Author.Needs.{needs}
 use Rattle.semantic.proofs.items.item_row.Statement.{statement}
 use Rattle.semantic.proofs.items.item_row.Tie as tie
 
-marks-requires : tie.Need-marks-requires
-marks-requires c κs = search needs
-
 returns : tie.Need-returns
 unfolding putInfo
 returns c = item-row (c .before .args .name) (c .before .args .i) (c .marks .ensures)
 
 pub item-row-spec : {M : Type 1} → statement M
-item-row-spec = tie.close (tie.spec marks-requires returns)
+item-row-spec =
+    tie.close (tie.spec (λ c κs. search needs) returns)

@@ -4,14 +4,9 @@ use borrow.Author.Needs.{needs}
 use Rattle.semantic.proofs.items.load_info.Statement.{statement}
 use Rattle.semantic.proofs.items.load_info.Tie as tie
 
-item-at-requires : tie.Need-item-at-requires
-item-at-requires c κs = search needs
-
-info-of-requires : tie.Need-info-of-requires
-info-of-requires c κs = search needs
-
 returns : tie.Need-returns
 returns c = info-told _ _ (c .before .item-at .ensures) (c .info-of .ensures)
 
 pub load-info-spec : {M : Type 1} → statement M
-load-info-spec = tie.close (tie.spec item-at-requires info-of-requires returns)
+load-info-spec =
+    tie.close (tie.spec (λ c κs. search needs) (λ c κs. search needs) returns)

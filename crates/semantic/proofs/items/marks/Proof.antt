@@ -5,20 +5,11 @@ use borrow.Author.Needs.{needs}
 use Rattle.semantic.proofs.items.marks.Statement.{statement}
 use Rattle.semantic.proofs.items.marks.Tie as tie
 
-cast-result : tie.Need-cast-result
-cast-result c = search needs
-
-cast-result-2 : tie.Need-cast-result-2
-cast-result-2 c = search needs
-
 mul-result : tie.Need-mul-result
 mul-result c = omega (arith, bit-low (c .args .escapes))
 
 add-result : tie.Need-add-result
 add-result c = omega (arith, bit-low (c .args .captured), bit-low (c .args .escapes))
-
-cast-result-3 : tie.Need-cast-result-3
-cast-result-3 c = search needs
 
 mul-result-2 : tie.Need-mul-result-2
 mul-result-2 c = omega (arith, bit-low (c .args .enclosing))
@@ -26,30 +17,13 @@ mul-result-2 c = omega (arith, bit-low (c .args .enclosing))
 add-result-2 : tie.Need-add-result-2
 add-result-2 c = omega (arith, bit-low (c .args .captured), bit-low (c .args .escapes), bit-low (c .args .enclosing))
 
-cast-result-4 : tie.Need-cast-result-4
-cast-result-4 c = search needs
-
 mul-result-3 : tie.Need-mul-result-3
 mul-result-3 c = omega (arith, bit-low (c .args .mutated))
 
 add-result-3 : tie.Need-add-result-3
 add-result-3 c = omega (arith, bit-low (c .args .captured), bit-low (c .args .escapes), bit-low (c .args .enclosing), bit-low (c .args .mutated))
 
-returns : tie.Need-returns
-returns c = search needs
-
 pub marks-spec : {M : Type 1} → statement M
 marks-spec =
-    tie.close
-    (tie.spec
-    cast-result
-    cast-result-2
-    mul-result
-    add-result
-    cast-result-3
-    mul-result-2
-    add-result-2
-    cast-result-4
-    mul-result-3
-    add-result-3
-    returns)
+    tie.close (tie.spec (λ c. search needs) (λ c. search needs) mul-result add-result (λ c. search needs) mul-result-2 add-result-2
+    (λ c. search needs) mul-result-3 add-result-3 (λ c. search needs))

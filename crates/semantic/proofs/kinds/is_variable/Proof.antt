@@ -8,15 +8,6 @@ use borrow.Author.Needs.{needs}
 use Rattle.semantic.proofs.kinds.is_variable.Statement.{statement}
 use Rattle.semantic.proofs.kinds.is_variable.Tie as tie
 
-mul-first : tie.Need-mul-first
-mul-first c = search needs
-
-mul-first-2 : tie.Need-mul-first-2
-mul-first-2 c = search needs
-
-shared-slice-read-first : tie.Need-shared-slice-read-first
-shared-slice-read-first c = search needs
-
 returns : tie.Need-returns
 returns c = sym (ap isIdentifier (c .if1 .taken))
 
@@ -25,4 +16,4 @@ returns-2 c = let n = getD (c .before .before .args .facts .now) (20 * c .before
 
 pub is-variable-spec : {M : Type 1} → statement M
 is-variable-spec =
-    tie.close (tie.spec mul-first mul-first-2 shared-slice-read-first returns returns-2)
+    tie.close (tie.spec (λ c. search needs) (λ c. search needs) (λ c. search needs) returns returns-2)

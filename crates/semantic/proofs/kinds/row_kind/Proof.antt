@@ -7,15 +7,6 @@ use borrow.Author.Needs.{needs}
 use Rattle.semantic.proofs.kinds.row_kind.Statement.{statement}
 use Rattle.semantic.proofs.kinds.row_kind.Tie as tie
 
-mul-first : tie.Need-mul-first
-mul-first c = search needs
-
-mul-first-2 : tie.Need-mul-first-2
-mul-first-2 c = search needs
-
-shared-slice-read-first : tie.Need-shared-slice-read-first
-shared-slice-read-first c = search needs
-
 returns : tie.Need-returns
 returns c = kind-told _ _ (sym (ap kindOf (c .match .keys1)))
 
@@ -33,13 +24,4 @@ returns-5 c = let m = c .before .match .rest in kind-told _ _ (sym (high-kind _ 
 
 pub row-kind-spec : {M : Type 1} → statement M
 row-kind-spec =
-    tie.close
-    (tie.spec
-    mul-first
-    mul-first-2
-    shared-slice-read-first
-    returns
-    returns-2
-    returns-3
-    returns-4
-    returns-5)
+    tie.close (tie.spec (λ c. search needs) (λ c. search needs) (λ c. search needs) returns returns-2 returns-3 returns-4 returns-5)

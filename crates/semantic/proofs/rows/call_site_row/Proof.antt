@@ -6,18 +6,6 @@ use borrow.Author.Needs.{needs}
 use Rattle.semantic.proofs.rows.call_site_row.Statement.{statement}
 use Rattle.semantic.proofs.rows.call_site_row.Tie as tie
 
-call-number-requires : tie.Need-call-number-requires
-call-number-requires c κs = search needs
-
-self-number-requires : tie.Need-self-number-requires
-self-number-requires c κs = search needs
-
-slice-aggregate-filled : tie.Need-slice-aggregate-filled
-slice-aggregate-filled c = search needs
-
-filled-requires : tie.Need-filled-requires
-filled-requires c κs = search needs
-
 returns : tie.Need-returns
 returns c =
     c .filled .ensures
@@ -25,10 +13,4 @@ returns c =
 
 pub call-site-row-spec : {M : Type 1} → statement M
 call-site-row-spec =
-    tie.close
-    (tie.spec
-    call-number-requires
-    self-number-requires
-    slice-aggregate-filled
-    filled-requires
-    returns)
+    tie.close (tie.spec (λ c κs. search needs) (λ c κs. search needs) (λ c. search needs) (λ c κs. search needs) returns)

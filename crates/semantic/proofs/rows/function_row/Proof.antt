@@ -4,18 +4,10 @@ use borrow.Author.Needs.{needs}
 use Rattle.semantic.proofs.rows.function_row.Statement.{statement}
 use Rattle.semantic.proofs.rows.function_row.Tie as tie
 
-cast-t3 : tie.Need-cast-t3
-cast-t3 c = search needs
-
-slice-aggregate-filled : tie.Need-slice-aggregate-filled
-slice-aggregate-filled c = search needs
-
-filled-requires : tie.Need-filled-requires
-filled-requires c κs = search needs
-
 returns : tie.Need-returns
 unfolding putRow
 returns c = c .filled .ensures
 
 pub function-row-spec : {M : Type 1} → statement M
-function-row-spec = tie.close (tie.spec cast-t3 slice-aggregate-filled filled-requires returns)
+function-row-spec =
+    tie.close (tie.spec (λ c. search needs) (λ c. search needs) (λ c κs. search needs) returns)

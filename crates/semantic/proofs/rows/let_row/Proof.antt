@@ -4,15 +4,10 @@ use borrow.Author.Needs.{needs}
 use Rattle.semantic.proofs.rows.let_row.Statement.{statement}
 use Rattle.semantic.proofs.rows.let_row.Tie as tie
 
-slice-aggregate-filled : tie.Need-slice-aggregate-filled
-slice-aggregate-filled c = search needs
-
-filled-requires : tie.Need-filled-requires
-filled-requires c κs = search needs
-
 returns : tie.Need-returns
 unfolding putRow
 returns c = c .filled .ensures
 
 pub let-row-spec : {M : Type 1} → statement M
-let-row-spec = tie.close (tie.spec slice-aggregate-filled filled-requires returns)
+let-row-spec =
+    tie.close (tie.spec (λ c. search needs) (λ c κs. search needs) returns)

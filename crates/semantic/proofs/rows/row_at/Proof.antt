@@ -5,17 +5,9 @@ use borrow.Author.Needs.{needs}
 use Rattle.semantic.proofs.rows.row_at.Statement.{statement}
 use Rattle.semantic.proofs.rows.row_at.Tie as tie
 
-mul-get : tie.Need-mul-get
-mul-get c = search needs
-
-slice-aggregate-get : tie.Need-slice-aggregate-get
-slice-aggregate-get c = search needs
-
-get-requires : tie.Need-get-requires
-get-requires c κs = search needs
-
 returns : tie.Need-returns
 returns c = tells-row rowWidth putRow row-long Blank _ _ (c .before .get .ensures)
 
 pub row-at-spec : {M : Type 1} → statement M
-row-at-spec = tie.close (tie.spec mul-get slice-aggregate-get get-requires returns)
+row-at-spec =
+    tie.close (tie.spec (λ c. search needs) (λ c. search needs) (λ c κs. search needs) returns)

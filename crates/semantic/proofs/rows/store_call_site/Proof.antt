@@ -4,15 +4,6 @@ use borrow.Author.Needs.{needs}
 use Rattle.semantic.proofs.rows.store_call_site.Statement.{statement}
 use Rattle.semantic.proofs.rows.store_call_site.Tie as tie
 
-call-site-row-requires : tie.Need-call-site-row-requires
-call-site-row-requires c κs = search needs
-
-put-row-requires : tie.Need-put-row-requires
-put-row-requires c κs = search needs
-
-same-length : tie.Need-same-length
-same-length c = search needs
-
 returns : tie.Need-returns
 returns c =
     let o = c .before .before .before .before .before .before .args in
@@ -20,4 +11,4 @@ returns c =
 
 pub store-call-site-spec : {M : Type 1} → statement M
 store-call-site-spec =
-    tie.close (tie.spec call-site-row-requires put-row-requires same-length returns)
+    tie.close (tie.spec (λ c κs. search needs) (λ c κs. search needs) (λ c. search needs) returns)

@@ -4,19 +4,11 @@ use borrow.Author.Needs.{needs}
 use Rattle.semantic.proofs.rows.store_let.Statement.{statement}
 use Rattle.semantic.proofs.rows.store_let.Tie as tie
 
-let-row-requires : tie.Need-let-row-requires
-let-row-requires c κs = search needs
-
-put-row-requires : tie.Need-put-row-requires
-put-row-requires c κs = search needs
-
-same-length : tie.Need-same-length
-same-length c = search needs
-
 returns : tie.Need-returns
 returns c =
     let o = c .before .before .before .before .before .before .args in
     stored (o .facts .now) (o .at) _ (c .before .before .before .before .let-row .ensures) (c .before .before .put-row .ensures)
 
 pub store-let-spec : {M : Type 1} → statement M
-store-let-spec = tie.close (tie.spec let-row-requires put-row-requires same-length returns)
+store-let-spec =
+    tie.close (tie.spec (λ c κs. search needs) (λ c κs. search needs) (λ c. search needs) returns)

@@ -9,11 +9,6 @@ returns : tie.Need-returns
 unfolding namesOf othersOf childrenOf
 returns c = rw (unknown _ (c .if1 .taken))
 
-looked-up-requires : tie.Need-looked-up-requires
-looked-up-requires c κs = search needs
-
-returns-2 : tie.Need-returns-2
-returns-2 c = search needs
-
 pub children-spec : {M : Type 1} → statement M
-children-spec = tie.close (tie.spec returns looked-up-requires returns-2)
+children-spec =
+    tie.close (tie.spec returns (λ c κs. search needs) (λ c. search needs))

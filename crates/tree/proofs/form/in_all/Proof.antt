@@ -6,15 +6,6 @@ use Prim.Native.Nat.{_*_, _≤_}
 use Rattle.tree.proofs.form.in_all.Statement.{statement}
 use Rattle.tree.proofs.form.in_all.Tie as tie
 
-byte-requires : tie.Need-byte-requires
-byte-requires c κs = search needs
-
-byte-requires-2 : tie.Need-byte-requires-2
-byte-requires-2 c κs = search needs
-
-wide-requires : tie.Need-wide-requires
-wide-requires c κs = search needs
-
 small : (c : tie.After-wide) → c .before .byte2 .result * c .wide .result ≤ 255 * c .wide .result
 small c = mul-le-mul-right (c .wide .result) (omega arith)
 
@@ -28,4 +19,5 @@ returns : tie.Need-returns
 returns c = rw (c .wide .ensures, c .before .byte2 .ensures, c .before .before .byte .ensures)
 
 pub in-all-spec : {M : Type 1} → statement M
-in-all-spec = tie.close (tie.spec byte-requires byte-requires-2 wide-requires mul-result add-result returns)
+in-all-spec =
+    tie.close (tie.spec (λ c κs. search needs) (λ c κs. search needs) (λ c κs. search needs) mul-result add-result returns)

@@ -7,8 +7,6 @@ use Rattle.tree.proofs.form.known_children.Tie as tie
 looked-up-requires : tie.Need-looked-up-requires
 looked-up-requires c κs = known-most _ (c .pre)
 
-returns : tie.Need-returns
-returns c = search needs
-
 pub known-children-spec : {M : Type 1} → statement M
-known-children-spec = tie.close (tie.spec looked-up-requires returns)
+known-children-spec =
+    tie.close (tie.spec looked-up-requires (λ c. search needs))

@@ -25,22 +25,11 @@ returns : tie.Need-returns
 unfolding namesOf
 returns c = rw (unknown _ (c .if1 .taken))
 
-wide-requires : tie.Need-wide-requires
-wide-requires c κs = search needs
-
-array-read-in-all : tie.Need-array-read-in-all
-array-read-in-all c = search needs
-
-array-read-in-all-2 : tie.Need-array-read-in-all-2
-array-read-in-all-2 c = search needs
-
-in-all-requires : tie.Need-in-all-requires
-in-all-requires c κs = search needs
-
 returns-2 : tie.Need-returns-2
 returns-2 c =
     let n = c .before .before .before .args .count in
     c .in-all .ensures ∙ rule (c .before .wide .result) n (omega arith) ∙ ap (λ (f : ℕ). namesOf f n) (c .before .wide .ensures)
 
 pub names-spec : {M : Type 1} → statement M
-names-spec = tie.close (tie.spec returns wide-requires array-read-in-all array-read-in-all-2 in-all-requires returns-2)
+names-spec =
+    tie.close (tie.spec returns (λ c κs. search needs) (λ c. search needs) (λ c. search needs) (λ c κs. search needs) returns-2)

@@ -23,32 +23,8 @@ next-few c =
     let l = c .before .before .before .before .loop in
     omega (arith, c .pick2 .ensures, picked-most (eqb (c .before .wide .result) 0) (l .last) (c .before .wide .result) {m = 4294967296} (l .inv .few) (omega (arith, c .before .wide .ensures)))
 
-len-requires : tie.Need-len-requires Inv-loop μ-loop
-len-requires c κs = search needs
-
-pick-requires : tie.Need-pick-requires Inv-loop μ-loop
-pick-requires c κs = search needs
-
 loop-holds : tie.Need-loop-holds Inv-loop μ-loop
 loop-holds c = order-begin (c .before .before .before .args .rising) (c .before .before .before .args .rs .now) (c .pick .ensures)
-
-id-requires : tie.Need-id-requires Inv-loop μ-loop
-id-requires c κs = omega arith
-
-wide-requires : tie.Need-wide-requires Inv-loop μ-loop
-wide-requires c κs = search needs
-
-pick-requires-2 : tie.Need-pick-requires-2 Inv-loop μ-loop
-pick-requires-2 c κs = search needs
-
-pick-requires-3 : tie.Need-pick-requires-3 Inv-loop μ-loop
-pick-requires-3 c κs = search needs
-
-pick-requires-4 : tie.Need-pick-requires-4 Inv-loop μ-loop
-pick-requires-4 c κs = search needs
-
-pick-requires-5 : tie.Need-pick-requires-5 Inv-loop μ-loop
-pick-requires-5 c κs = search needs
 
 add-if1 : tie.Need-add-if1 Inv-loop μ-loop
 add-if1 c =
@@ -65,12 +41,6 @@ returns c =
     (order-fails (l .inv) (w .wide .ensures ∙ w .before .id .ensures) (omega (arith, w .wide .ensures)) (q .pick2 .ensures) (omega arith)
     (omega (arith, c .before .pick5 .ensures, c .before .before .pick4 .ensures, c .before .before .before .pick3 .ensures, c .if1 .taken)))
 
-add-i : tie.Need-add-i Inv-loop μ-loop
-add-i c = omega arith
-
-loop-less : tie.Need-loop-less Inv-loop μ-loop
-loop-less c = omega arith
-
 loop-again : tie.Need-loop-again Inv-loop μ-loop
 loop-again c =
     let q = c .before .before .before .before in
@@ -84,22 +54,6 @@ returns-2 c = record { yes = λ e. order-end (c .before .loop .inv) (omega arith
 
 pub ordered-spec : {M : Type 1} → statement M
 ordered-spec =
-    tie.close
-    (tie.spec
-    Inv-loop
-    μ-loop
-    len-requires
-    pick-requires
-    loop-holds
-    id-requires
-    wide-requires
-    pick-requires-2
-    pick-requires-3
-    pick-requires-4
-    pick-requires-5
-    add-if1
-    returns
-    add-i
-    loop-less
-    loop-again
-    returns-2)
+    tie.close (tie.spec Inv-loop μ-loop (λ c κs. search needs) (λ c κs. search needs) loop-holds (λ c κs. omega arith) (λ c κs. search needs)
+    (λ c κs. search needs) (λ c κs. search needs) (λ c κs. search needs) (λ c κs. search needs) add-if1 returns (λ c. omega arith) (λ c. omega arith)
+    loop-again returns-2)

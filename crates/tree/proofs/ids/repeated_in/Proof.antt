@@ -16,31 +16,16 @@ Inv-loop rs newest₀ before₀ n i₀ newest before i = Compared rs i × (Chain
 abbrev μ-loop : tie.MeasureT-loop
 μ-loop rs newest₀ before₀ n i₀ newest before i = length (records rs) - i
 
-len-requires : tie.Need-len-requires Inv-loop μ-loop
-len-requires c κs = search needs
-
 loop-holds : tie.Need-loop-holds Inv-loop μ-loop
 loop-holds c = (ids-begin _, c .before .before .before .before .pre .1, refl, refl)
 
 repeats-requires : tie.Need-repeats-requires Inv-loop μ-loop
 repeats-requires c κs = let l = c .before .before .before in (l .before .before .before .before .before .pre .0, (omega arith, l .loop .inv .1))
 
-same-length : tie.Need-same-length Inv-loop μ-loop
-same-length c = search needs
-
-same-length-2 : tie.Need-same-length-2 Inv-loop μ-loop
-same-length-2 c = search needs
-
 returns : tie.Need-returns Inv-loop μ-loop
 returns c =
     let r = c .before .before .before .before .before in
     ids-hit (r .before .before .before .before .loop .inv .0) (omega arith) (r .repeats .ensures .0) (c .if1 .taken)
-
-add-i : tie.Need-add-i Inv-loop μ-loop
-add-i c = omega arith
-
-loop-less : tie.Need-loop-less Inv-loop μ-loop
-loop-less c = omega arith
 
 loop-again : tie.Need-loop-again Inv-loop μ-loop
 loop-again c =
@@ -52,30 +37,10 @@ loop-again c =
       r .repeats .kept .1 .1 .1 .0 ∙ l .inv .3,
     )
 
-same-length-3 : tie.Need-same-length-3 Inv-loop μ-loop
-same-length-3 c = search needs
-
-same-length-4 : tie.Need-same-length-4 Inv-loop μ-loop
-same-length-4 c = search needs
-
 returns-2 : tie.Need-returns-2 Inv-loop μ-loop
 returns-2 c = ids-end (c .before .loop .inv .0) (omega arith)
 
 pub repeated-in-spec : {M : Type 1} → statement M
 repeated-in-spec =
-    tie.close
-    (tie.spec
-    Inv-loop
-    μ-loop
-    len-requires
-    loop-holds
-    repeats-requires
-    same-length
-    same-length-2
-    returns
-    add-i
-    loop-less
-    loop-again
-    same-length-3
-    same-length-4
-    returns-2)
+    tie.close (tie.spec Inv-loop μ-loop (λ c κs. search needs) loop-holds repeats-requires (λ c. search needs) (λ c. search needs) returns
+    (λ c. omega arith) (λ c. omega arith) loop-again (λ c. search needs) (λ c. search needs) returns-2)

@@ -11,24 +11,6 @@ use Rattle.tree.proofs.Chaining.{Picked, picked}
 use Rattle.tree.proofs.ids.repeats.Statement.{statement}
 use Rattle.tree.proofs.ids.repeats.Tie as tie
 
-id-requires : tie.Need-id-requires
-id-requires c κs = search needs
-
-bucket-requires : tie.Need-bucket-requires
-bucket-requires c κs = search needs
-
-mul-head : tie.Need-mul-head
-mul-head c = search needs
-
-slice-read-head : tie.Need-slice-read-head
-slice-read-head c = search needs
-
-pick-link-requires : tie.Need-pick-link-requires
-pick-link-requires c κs = search needs
-
-link-requires : tie.Need-link-requires
-link-requires c κs = search needs
-
 -- what is picked of the links
 at-pick : (c : tie.After-pick-link) → let d = c .before .before in let s = d .before .before .before .before .before in
     let head = getD (s .args .newest .now) (d .bucket .result) 0 in
@@ -45,62 +27,14 @@ compared c = at-pick (c .before .before .before) .along (rw (← c .before .link
 stands-requires : tie.Need-stands-requires
 stands-requires c κs = let k = at-pick (c .before .before) in rw (c .link .ensures) (k .none, k .chain)
 
-same-length : tie.Need-same-length
-same-length c = search needs
-
 returns : tie.Need-returns
 returns c = (sym (c .if1 .taken) ∙ compared (c .before), λ f. absurd (true≢false f))
-
-mul-before : tie.Need-mul-before
-mul-before c = search needs
-
-slice-write-before : tie.Need-slice-write-before
-slice-write-before c = search needs
-
-add-pick-link : tie.Need-add-pick-link
-add-pick-link c = search needs
-
-cast-pick-link : tie.Need-cast-pick-link
-cast-pick-link c = search needs
-
-pick-link-requires-2 : tie.Need-pick-link-requires-2
-pick-link-requires-2 c κs = search needs
-
-mul-newest : tie.Need-mul-newest
-mul-newest c = search needs
-
-slice-write-newest : tie.Need-slice-write-newest
-slice-write-newest c = search needs
-
-same-length-2 : tie.Need-same-length-2
-same-length-2 c = search needs
-
-same-length-3 : tie.Need-same-length-3
-same-length-3 c = search needs
 
 returns-2 : tie.Need-returns-2
 returns-2 c = (sym (c .before .if1 .left) ∙ compared (c .before .before), λ f. rw (c .pick-link2 .ensures) (at-pick (c .before .before .before .before .before) .chained))
 
 pub repeats-spec : {M : Type 1} → statement M
 repeats-spec =
-    tie.close
-    (tie.spec
-    id-requires
-    bucket-requires
-    mul-head
-    slice-read-head
-    pick-link-requires
-    link-requires
-    stands-requires
-    same-length
-    returns
-    mul-before
-    slice-write-before
-    add-pick-link
-    cast-pick-link
-    pick-link-requires-2
-    mul-newest
-    slice-write-newest
-    same-length-2
-    same-length-3
-    returns-2)
+    tie.close (tie.spec (λ c κs. search needs) (λ c κs. search needs) (λ c. search needs) (λ c. search needs) (λ c κs. search needs)
+    (λ c κs. search needs) stands-requires (λ c. search needs) returns (λ c. search needs) (λ c. search needs) (λ c. search needs) (λ c. search needs)
+    (λ c κs. search needs) (λ c. search needs) (λ c. search needs) (λ c. search needs) (λ c. search needs) returns-2)

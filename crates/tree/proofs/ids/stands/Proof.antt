@@ -20,26 +20,11 @@ abbrev μ-loop : tie.MeasureT-loop
 loop-holds : tie.Need-loop-holds Inv-loop μ-loop
 loop-holds c = (c .before .before .pre .1, refl, c .before .before .pre .0)
 
-sub-p : tie.Need-sub-p Inv-loop μ-loop
-sub-p c = search needs
-
-id-requires : tie.Need-id-requires Inv-loop μ-loop
-id-requires c κs = omega arith
-
 returns : tie.Need-returns Inv-loop μ-loop
 returns c =
     let l = c .before .before .before .loop in
     let s : l .p ≡ suc (l .p - 1) = omega arith in
     sym (l .inv .1 ∙ seen-hit _ _ s (sym (c .before .id .ensures) ∙ c .if1 .taken))
-
-mul-link : tie.Need-mul-link Inv-loop μ-loop
-mul-link c = omega arith
-
-shared-slice-read-link : tie.Need-shared-slice-read-link Inv-loop μ-loop
-shared-slice-read-link c = omega arith
-
-link-requires : tie.Need-link-requires Inv-loop μ-loop
-link-requires c κs = search needs
 
 loop-less : tie.Need-loop-less Inv-loop μ-loop
 loop-less c = chain-less (c .before .before .before .before .before .loop .inv .0) (c .before .before .before .before .loop-test .taken) (c .link .ensures)
@@ -64,17 +49,5 @@ returns-2 c =
 
 pub stands-spec : {M : Type 1} → statement M
 stands-spec =
-    tie.close
-    (tie.spec
-    Inv-loop
-    μ-loop
-    loop-holds
-    sub-p
-    id-requires
-    returns
-    mul-link
-    shared-slice-read-link
-    link-requires
-    loop-less
-    loop-again
-    returns-2)
+    tie.close (tie.spec Inv-loop μ-loop loop-holds (λ c. search needs) (λ c κs. omega arith) returns (λ c. omega arith) (λ c. omega arith)
+    (λ c κs. search needs) loop-less loop-again returns-2)

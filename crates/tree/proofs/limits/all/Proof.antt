@@ -5,30 +5,6 @@ use Rattle.tree.specs.Limits.{limits}
 use Rattle.tree.proofs.limits.all.Statement.{statement}
 use Rattle.tree.proofs.limits.all.Tie as tie
 
-id-column-requires : tie.Need-id-column-requires
-id-column-requires c κs = search needs
-
-id-column-requires-2 : tie.Need-id-column-requires-2
-id-column-requires-2 c κs = search needs
-
-column-requires : tie.Need-column-requires
-column-requires c κs = search needs
-
-add-column : tie.Need-add-column
-add-column c = search needs
-
-column-requires-2 : tie.Need-column-requires-2
-column-requires-2 c κs = search needs
-
-column-requires-3 : tie.Need-column-requires-3
-column-requires-3 c κs = search needs
-
-add-column-2 : tie.Need-add-column-2
-add-column-2 c = search needs
-
-column-requires-4 : tie.Need-column-requires-4
-column-requires-4 c κs = search needs
-
 returns : tie.Need-returns
 unfolding limits formOf namesOf othersOf childrenOf
 returns c =
@@ -45,14 +21,5 @@ returns c =
 
 pub all-spec : {M : Type 1} → statement M
 all-spec =
-    tie.close
-    (tie.spec
-    id-column-requires
-    id-column-requires-2
-    column-requires
-    add-column
-    column-requires-2
-    column-requires-3
-    add-column-2
-    column-requires-4
-    returns)
+    tie.close (tie.spec (λ c κs. search needs) (λ c κs. search needs) (λ c κs. search needs) (λ c. search needs) (λ c κs. search needs)
+    (λ c κs. search needs) (λ c. search needs) (λ c κs. search needs) returns)

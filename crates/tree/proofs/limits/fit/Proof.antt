@@ -38,46 +38,19 @@ module _ (t : List (List ℕ)) (r : Record) {f : ℕ} (ef : f ≡ r .form) where
         all = λ w. lt-ltb x l (omega (arith, w .name, limit-at t 4 ef));
       }
 
-form-requires : tie.Need-form-requires
-form-requires c κs = search needs
-
 returns : tie.Need-returns
 returns c = form-out _ _ (c .before .form .ensures) (c .if1 .taken)
-
-id-requires : tie.Need-id-requires
-id-requires c κs = search needs
-
-between-requires : tie.Need-between-requires
-between-requires c κs = search needs
 
 returns-2 : tie.Need-returns-2
 returns-2 c =
     let a = c .before in
     id-out _ _ (a .before .before .before .form .ensures) (a .before .id .ensures) (a .between .ensures) (not-true _ (c .if2 .taken))
 
-limit-requires : tie.Need-limit-requires
-limit-requires c κs = search needs
-
-count-requires : tie.Need-count-requires
-count-requires c κs = search needs
-
-wide-requires : tie.Need-wide-requires
-wide-requires c κs = search needs
-
 returns-3 : tie.Need-returns-3
 returns-3 c =
     let d = c .before in
     let a = d .before .before .before .before in
     count-out _ _ (a .before .before .before .form .ensures) (a .before .id .ensures) (a .between .ensures) (d .wide .ensures ∙ d .before .count .ensures) (d .before .before .limit .ensures) (c .if3 .taken)
-
-name-requires : tie.Need-name-requires
-name-requires c κs = search needs
-
-wide-requires-2 : tie.Need-wide-requires-2
-wide-requires-2 c κs = search needs
-
-limit-requires-2 : tie.Need-limit-requires-2
-limit-requires-2 c κs = search needs
 
 returns-4 : tie.Need-returns-4
 returns-4 c =
@@ -90,18 +63,5 @@ returns-4 c =
 
 pub fit-spec : {M : Type 1} → statement M
 fit-spec =
-    tie.close
-    (tie.spec
-    form-requires
-    returns
-    id-requires
-    between-requires
-    returns-2
-    limit-requires
-    count-requires
-    wide-requires
-    returns-3
-    name-requires
-    wide-requires-2
-    limit-requires-2
-    returns-4)
+    tie.close (tie.spec (λ c κs. search needs) returns (λ c κs. search needs) (λ c κs. search needs) returns-2 (λ c κs. search needs)
+    (λ c κs. search needs) (λ c κs. search needs) returns-3 (λ c κs. search needs) (λ c κs. search needs) (λ c κs. search needs) returns-4)

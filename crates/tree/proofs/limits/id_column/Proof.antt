@@ -3,42 +3,6 @@ use borrow.Author.Needs.{needs}
 use Rattle.tree.proofs.limits.id_column.Statement.{statement}
 use Rattle.tree.proofs.limits.id_column.Tie as tie
 
-id-limit-requires : tie.Need-id-limit-requires
-id-limit-requires c κs = search needs
-
-id-limit-requires-2 : tie.Need-id-limit-requires-2
-id-limit-requires-2 c κs = search needs
-
-id-limit-requires-3 : tie.Need-id-limit-requires-3
-id-limit-requires-3 c κs = search needs
-
-id-limit-requires-4 : tie.Need-id-limit-requires-4
-id-limit-requires-4 c κs = search needs
-
-id-limit-requires-5 : tie.Need-id-limit-requires-5
-id-limit-requires-5 c κs = search needs
-
-id-limit-requires-6 : tie.Need-id-limit-requires-6
-id-limit-requires-6 c κs = search needs
-
-id-limit-requires-7 : tie.Need-id-limit-requires-7
-id-limit-requires-7 c κs = search needs
-
-id-limit-requires-8 : tie.Need-id-limit-requires-8
-id-limit-requires-8 c κs = search needs
-
-id-limit-requires-9 : tie.Need-id-limit-requires-9
-id-limit-requires-9 c κs = search needs
-
-id-limit-requires-10 : tie.Need-id-limit-requires-10
-id-limit-requires-10 c κs = search needs
-
-id-limit-requires-11 : tie.Need-id-limit-requires-11
-id-limit-requires-11 c κs = search needs
-
-id-limit-requires-12 : tie.Need-id-limit-requires-12
-id-limit-requires-12 c κs = search needs
-
 returns : tie.Need-returns
 returns c =
     let d = c .before .before .before .before in
@@ -60,18 +24,6 @@ returns c =
 
 pub id-column-spec : {M : Type 1} → statement M
 id-column-spec =
-    tie.close
-    (tie.spec
-    id-limit-requires
-    id-limit-requires-2
-    id-limit-requires-3
-    id-limit-requires-4
-    id-limit-requires-5
-    id-limit-requires-6
-    id-limit-requires-7
-    id-limit-requires-8
-    id-limit-requires-9
-    id-limit-requires-10
-    id-limit-requires-11
-    id-limit-requires-12
-    returns)
+    tie.close (tie.spec (λ c κs. search needs) (λ c κs. search needs) (λ c κs. search needs) (λ c κs. search needs) (λ c κs. search needs)
+    (λ c κs. search needs) (λ c κs. search needs) (λ c κs. search needs) (λ c κs. search needs) (λ c κs. search needs) (λ c κs. search needs)
+    (λ c κs. search needs) returns)

@@ -4,9 +4,6 @@ use mathlib.Core.Path.{sym, _∙_}
 use Rattle.tree.proofs.limits.id_limit.Statement.{statement}
 use Rattle.tree.proofs.limits.id_limit.Tie as tie
 
-has-id-requires : tie.Need-has-id-requires
-has-id-requires c κs = search needs
-
 returns : tie.Need-returns
 returns c = rw (sym (c .before .has-id .ensures) ∙ c .if1 .taken)
 
@@ -14,4 +11,5 @@ returns-2 : tie.Need-returns-2
 returns-2 c = rw (sym (c .before .has-id .ensures) ∙ c .if1 .left)
 
 pub id-limit-spec : {M : Type 1} → statement M
-id-limit-spec = tie.close (tie.spec has-id-requires returns returns-2)
+id-limit-spec =
+    tie.close (tie.spec (λ c κs. search needs) returns returns-2)

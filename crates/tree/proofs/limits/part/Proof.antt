@@ -23,20 +23,8 @@ module _ (j f : ℕ) where
   children-more : (j ≡ 6 → ⊥) → (j ≡ 7 → ⊥) → (j ≡ 8 → ⊥) → childrenOf f 1 - childrenOf f 0 ≡ partIn j f
   children-more n m k = rw (ne-eqb j 6 n, ne-eqb j 7 m, ne-eqb j 8 k)
 
-names-requires : tie.Need-names-requires
-names-requires c κs = search needs
-
 returns : tie.Need-returns
 returns c = c .names .ensures ∙ names-first _ _ (c .before .if1 .taken)
-
-add-if2 : tie.Need-add-if2
-add-if2 c = search needs
-
-names-requires-2 : tie.Need-names-requires-2
-names-requires-2 c κs = search needs
-
-names-requires-3 : tie.Need-names-requires-3
-names-requires-3 c κs = search needs
 
 sub-result : tie.Need-sub-result
 sub-result c = omega (arith, c .names3 .ensures, c .before .names2 .ensures, more-names (c .before .before .before .before .args .form))
@@ -44,17 +32,8 @@ sub-result c = omega (arith, c .names3 .ensures, c .before .names2 .ensures, mor
 returns-2 : tie.Need-returns-2
 returns-2 c = rw (c .names3 .ensures, c .before .names2 .ensures) (names-more _ _ (c .before .before .before .if1 .left) (c .before .before .if2 .taken))
 
-children-requires : tie.Need-children-requires
-children-requires c κs = search needs
-
 returns-3 : tie.Need-returns-3
 returns-3 c = c .children .ensures ∙ children-first _ _ (c .before .before .before .if1 .left) (c .before .before .if2 .left) (c .before .if3 .taken)
-
-children-requires-2 : tie.Need-children-requires-2
-children-requires-2 c κs = search needs
-
-children-requires-3 : tie.Need-children-requires-3
-children-requires-3 c κs = search needs
 
 sub-result-2 : tie.Need-sub-result-2
 sub-result-2 c = omega (arith, c .children3 .ensures, c .before .children2 .ensures, more-children (c .before .before .before .before .before .args .form))
@@ -64,18 +43,5 @@ returns-4 c = rw (c .children3 .ensures, c .before .children2 .ensures) (childre
 
 pub part-spec : {M : Type 1} → statement M
 part-spec =
-    tie.close
-    (tie.spec
-    names-requires
-    returns
-    add-if2
-    names-requires-2
-    names-requires-3
-    sub-result
-    returns-2
-    children-requires
-    returns-3
-    children-requires-2
-    children-requires-3
-    sub-result-2
-    returns-4)
+    tie.close (tie.spec (λ c κs. search needs) returns (λ c. search needs) (λ c κs. search needs) (λ c κs. search needs) sub-result returns-2
+    (λ c κs. search needs) returns-3 (λ c κs. search needs) (λ c κs. search needs) sub-result-2 returns-4)

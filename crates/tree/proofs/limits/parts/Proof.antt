@@ -14,24 +14,6 @@ sum c =
     let d = c .before .before in
     rw (d .before .limit .ensures, d .limit2 .ensures, c .wide .ensures, c .before .count .ensures, d .before .before .form .ensures)
 
-form-requires : tie.Need-form-requires
-form-requires c κs = search needs
-
-limit-requires : tie.Need-limit-requires
-limit-requires c κs = search needs
-
-add-limit : tie.Need-add-limit
-add-limit c = search needs
-
-limit-requires-2 : tie.Need-limit-requires-2
-limit-requires-2 c κs = search needs
-
-count-requires : tie.Need-count-requires
-count-requires c κs = search needs
-
-wide-requires : tie.Need-wide-requires
-wide-requires c κs = search needs
-
 mul-result : tie.Need-mul-result
 mul-result c = omega (arith, sum c)
 
@@ -43,14 +25,5 @@ returns c = sum c
 
 pub parts-spec : {M : Type 1} → statement M
 parts-spec =
-    tie.close
-    (tie.spec
-    form-requires
-    limit-requires
-    add-limit
-    limit-requires-2
-    count-requires
-    wide-requires
-    mul-result
-    add-result
-    returns)
+    tie.close (tie.spec (λ c κs. search needs) (λ c κs. search needs) (λ c. search needs) (λ c κs. search needs) (λ c κs. search needs)
+    (λ c κs. search needs) mul-result add-result returns)

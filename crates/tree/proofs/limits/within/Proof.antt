@@ -30,20 +30,8 @@ module _ (t : List (List ℕ)) (r : Record) (due : ℕ) {f c m : ℕ} (ef : f �
 fields : (c : tie.Else1) → let s = c .before .before .before in Fields (s .args .t .now) (nth (s .args .rs .now) (s .args .i))
 fields c = c .before .fit .ensures .yes (not-false _ (c .if1 .left))
 
-fit-requires : tie.Need-fit-requires
-fit-requires c κs = search needs
-
 returns : tie.Need-returns
 returns c = tells-without (c .before .fit .ensures) (not-true _ (c .if1 .taken)) (λ w. w .fields)
-
-form-requires : tie.Need-form-requires
-form-requires c κs = search needs
-
-count-requires : tie.Need-count-requires
-count-requires c κs = search needs
-
-wide-requires : tie.Need-wide-requires
-wide-requires c κs = search needs
 
 limit-requires : tie.Need-limit-requires
 limit-requires c κs = let d = c .before .before in (omega (arith, d .form .ensures, fields (d .before) .known), omega arith)
@@ -65,14 +53,5 @@ returns-3 c =
 
 pub within-spec : {M : Type 1} → statement M
 within-spec =
-    tie.close
-    (tie.spec
-    fit-requires
-    returns
-    form-requires
-    count-requires
-    wide-requires
-    limit-requires
-    returns-2
-    limit-requires-2
-    returns-3)
+    tie.close (tie.spec (λ c κs. search needs) returns (λ c κs. search needs) (λ c κs. search needs) (λ c κs. search needs) limit-requires returns-2
+    limit-requires-2 returns-3)

@@ -41,9 +41,6 @@ further c = top-next (c .before .before .before .before .before .before .loop .i
 deeper : (c : tie.After-known-told2 Inv-loop μ-loop) → let l = c .before .before .before .before .before .before in let i = l .loop .used + c .before .top2 .given .0 .0 in (i < length (records (all l))) × (some i ≡ firstDeep [] (records (all l)))
 deeper c = top-deep (c .before .before .before .before .before .before .loop .inv) _ (told (c .before .before .before) _ (c .before .top2 .given .1))
 
-len-requires : tie.Need-len-requires Inv-loop μ-loop
-len-requires c κs = search needs
-
 loop-holds : tie.Need-loop-holds Inv-loop μ-loop
 loop-holds c = top-begin _
 
@@ -59,15 +56,6 @@ sub-nest c = let b = inside c in omega arith
 part-nest-start : tie.Need-part-nest-start Inv-loop μ-loop
 part-nest-start c = let b = inside c in omega arith
 
-part-nest-end : tie.Need-part-nest-end Inv-loop μ-loop
-part-nest-end c = search needs
-
-nest-requires : tie.Need-nest-requires Inv-loop μ-loop
-nest-requires c κs = search needs
-
-enum-known-top : tie.Need-enum-known-top Inv-loop μ-loop
-enum-known-top c = search needs
-
 add-used : tie.Need-add-used Inv-loop μ-loop
 add-used c = let l = c .before .before .before .before .before .before in omega (arith, further c .within, length-records (all l), start l .good)
 
@@ -77,18 +65,12 @@ loop-less c = omega (arith, told (c .before .before .before) _ (c .before .top .
 loop-again : tie.Need-loop-again Inv-loop μ-loop
 loop-again c = further c
 
-enum-known-top-2 : tie.Need-enum-known-top-2 Inv-loop μ-loop
-enum-known-top-2 c = search needs
-
 add-t14 : tie.Need-add-t14 Inv-loop μ-loop
 add-t14 c = let l = c .before .before .before .before .before .before in omega (arith, deeper c .0, length-records (all l), start l .good)
 
 returns : tie.Need-returns Inv-loop μ-loop
 unfolding check5
 returns c N = deeper c .1
-
-enum-told : tie.Need-enum-told Inv-loop μ-loop
-enum-told c = search needs
 
 returns-2 : tie.Need-returns-2 Inv-loop μ-loop
 unfolding check5
@@ -100,25 +82,6 @@ returns-3 c N = top-end (c .before .loop .inv) (omega arith)
 
 pub too-deep-spec : {M : Type 1} → statement M
 too-deep-spec =
-    tie.close
-    (tie.spec
-    Inv-loop
-    μ-loop
-    len-requires
-    loop-holds
-    mul-start
-    mul-nest
-    sub-nest
-    part-nest-start
-    part-nest-end
-    nest-requires
-    enum-known-top
-    add-used
-    loop-less
-    loop-again
-    enum-known-top-2
-    add-t14
-    returns
-    enum-told
-    returns-2
+    tie.close (tie.spec Inv-loop μ-loop (λ c κs. search needs) loop-holds mul-start mul-nest sub-nest part-nest-start (λ c. search needs)
+    (λ c κs. search needs) (λ c. search needs) add-used loop-less loop-again (λ c. search needs) add-t14 returns (λ c. search needs) returns-2
     returns-3)

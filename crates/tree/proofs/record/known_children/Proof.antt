@@ -4,12 +4,6 @@ use Rattle.tree.proofs.Forms.{children-at}
 use Rattle.tree.proofs.record.known_children.Statement.{statement}
 use Rattle.tree.proofs.record.known_children.Tie as tie
 
-form-requires : tie.Need-form-requires
-form-requires c κs = search needs
-
-count-requires : tie.Need-count-requires
-count-requires c κs = search needs
-
 known-children-requires : tie.Need-known-children-requires
 known-children-requires c κs = rw (c .before .form .ensures) (c .before .before .before .pre .1)
 
@@ -17,4 +11,5 @@ returns : tie.Need-returns
 returns c = children-at (c .known-children .ensures) (c .before .before .form .ensures) (c .before .count .ensures) (c .before .count .ok)
 
 pub known-children-spec : {M : Type 1} → statement M
-known-children-spec = tie.close (tie.spec form-requires count-requires known-children-requires returns)
+known-children-spec =
+    tie.close (tie.spec (λ c κs. search needs) (λ c κs. search needs) known-children-requires returns)

@@ -16,29 +16,14 @@ Inv-loop rs n places₀ i₀ places i = Counting rs i places
 abbrev μ-loop : tie.MeasureT-loop
 μ-loop rs n places₀ i₀ places i = length (records rs) - i
 
-len-requires : tie.Need-len-requires Inv-loop μ-loop
-len-requires c κs = search needs
-
 loop-holds : tie.Need-loop-holds Inv-loop μ-loop
 loop-holds c = count-begin _
-
-taken-requires : tie.Need-taken-requires Inv-loop μ-loop
-taken-requires c κs = search needs
-
-children-requires : tie.Need-children-requires Inv-loop μ-loop
-children-requires c κs = omega arith
 
 turn : (c : tie.After-children Inv-loop μ-loop) → let l = c .before .before .before in Counting (l .before .before .before .args .rs .now) (l .loop .i + 1) (c .before .taken .result + c .children .result)
 turn c = count-next (c .before .before .before .loop .inv) (omega arith) _ _ (c .before .taken .ensures) (c .children .ensures .0) (c .children .ensures .1)
 
 add-places : tie.Need-add-places Inv-loop μ-loop
 add-places c = omega (arith, turn c .few)
-
-add-i : tie.Need-add-i Inv-loop μ-loop
-add-i c = omega arith
-
-loop-less : tie.Need-loop-less Inv-loop μ-loop
-loop-less c = omega arith
 
 loop-again : tie.Need-loop-again Inv-loop μ-loop
 loop-again c = turn c
@@ -51,17 +36,5 @@ returns-2 c N = ap some (c .before .before .before .len .ensures) ∙ some-missi
 
 pub child-missing-spec : {M : Type 1} → statement M
 child-missing-spec =
-    tie.close
-    (tie.spec
-    Inv-loop
-    μ-loop
-    len-requires
-    loop-holds
-    taken-requires
-    children-requires
-    add-places
-    add-i
-    loop-less
-    loop-again
-    returns
-    returns-2)
+    tie.close (tie.spec Inv-loop μ-loop (λ c κs. search needs) loop-holds (λ c κs. search needs) (λ c κs. omega arith) add-places (λ c. omega arith)
+    (λ c. omega arith) loop-again returns returns-2)

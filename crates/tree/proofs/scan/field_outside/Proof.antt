@@ -20,17 +20,8 @@ Inv-loop rs names n t i₀ i = At (outside names) rs i
 abbrev μ-loop : tie.MeasureT-loop
 μ-loop rs names n t i₀ i = length (records rs) - i
 
-len-requires : tie.Need-len-requires Inv-loop μ-loop
-len-requires c κs = search needs
-
-all-requires : tie.Need-all-requires Inv-loop μ-loop
-all-requires c κs = search needs
-
 loop-holds : tie.Need-loop-holds Inv-loop μ-loop
 loop-holds c = begin _ _
-
-fit-requires : tie.Need-fit-requires Inv-loop μ-loop
-fit-requires c κs = omega arith
 
 told : (c : tie.After-fit Inv-loop μ-loop) → let l = c .before .before .before in let s = l .before .before .before .before in c .fit .result ≡ fits (s .args .names) (nth (s .args .rs .now) (l .loop .i))
 told c = let l = c .before .before .before in fit-told _ (l .before .all .ensures) _ (c .fit .ensures)
@@ -38,12 +29,6 @@ told c = let l = c .before .before .before in fit-told _ (l .before .all .ensure
 returns : tie.Need-returns Inv-loop μ-loop
 unfolding check3
 returns c = hit _ _ (c .before .before .before .before .loop .inv) (omega arith) (ap not (sym (told (c .before))) ∙ c .if1 .taken)
-
-add-i : tie.Need-add-i Inv-loop μ-loop
-add-i c = omega arith
-
-loop-less : tie.Need-loop-less Inv-loop μ-loop
-loop-less c = omega arith
 
 loop-again : tie.Need-loop-again Inv-loop μ-loop
 loop-again c = next _ _ (c .before .before .before .before .loop .inv) (omega arith) (ap not (sym (told (c .before))) ∙ c .if1 .left)
@@ -54,16 +39,5 @@ returns-2 c = end _ _ (c .before .loop .inv) (omega arith)
 
 pub field-outside-spec : {M : Type 1} → statement M
 field-outside-spec =
-    tie.close
-    (tie.spec
-    Inv-loop
-    μ-loop
-    len-requires
-    all-requires
-    loop-holds
-    fit-requires
-    returns
-    add-i
-    loop-less
-    loop-again
-    returns-2)
+    tie.close (tie.spec Inv-loop μ-loop (λ c κs. search needs) (λ c κs. search needs) loop-holds (λ c κs. omega arith) returns (λ c. omega arith)
+    (λ c. omega arith) loop-again returns-2)

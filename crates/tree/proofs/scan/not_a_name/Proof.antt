@@ -16,34 +16,13 @@ Inv-loop rs n due₀ i₀ due i = Naming rs i due
 abbrev μ-loop : tie.MeasureT-loop
 μ-loop rs n due₀ i₀ due i = length (records rs) - i
 
-len-requires : tie.Need-len-requires Inv-loop μ-loop
-len-requires c κs = search needs
-
 loop-holds : tie.Need-loop-holds Inv-loop μ-loop
 loop-holds c = naming-begin _
-
-form-requires : tie.Need-form-requires Inv-loop μ-loop
-form-requires c κs = omega arith
-
-count-requires : tie.Need-count-requires Inv-loop μ-loop
-count-requires c κs = omega arith
-
-names-requires : tie.Need-names-requires Inv-loop μ-loop
-names-requires c κs = search needs
 
 returns : tie.Need-returns Inv-loop μ-loop
 returns c N =
     let d = c .before .before in
     misnamed-here (d .before .before .loop .inv) (omega arith) (omega arith) _ (d .form .ensures) (c .if2 .taken) N
-
-sub-due : tie.Need-sub-due Inv-loop μ-loop
-sub-due c = omega arith
-
-add-i : tie.Need-add-i Inv-loop μ-loop
-add-i c = omega arith
-
-loop-less : tie.Need-loop-less Inv-loop μ-loop
-loop-less c = omega arith
 
 loop-again : tie.Need-loop-again Inv-loop μ-loop
 loop-again c =
@@ -59,18 +38,5 @@ returns-2 c N = none-misnamed (c .before .loop .inv) (omega arith) N
 
 pub not-a-name-spec : {M : Type 1} → statement M
 not-a-name-spec =
-    tie.close
-    (tie.spec
-    Inv-loop
-    μ-loop
-    len-requires
-    loop-holds
-    form-requires
-    count-requires
-    names-requires
-    returns
-    sub-due
-    add-i
-    loop-less
-    loop-again
-    returns-2)
+    tie.close (tie.spec Inv-loop μ-loop (λ c κs. search needs) loop-holds (λ c κs. omega arith) (λ c κs. omega arith) (λ c κs. search needs) returns
+    (λ c. omega arith) (λ c. omega arith) (λ c. omega arith) loop-again returns-2)

@@ -37,26 +37,8 @@ shallow c = loop (c .before .before .before .before .before)
 fit : (c : tie.Else1 Inv-loop μ-loop) → let l = loop c in Within (l .before .all .result) (nth (l .before .before .before .before .before .args .rs .now) (l .loop .i)) (l .loop .due)
 fit c = c .before .within .ensures .yes (not-false _ (c .if1 .left))
 
-len-requires : tie.Need-len-requires Inv-loop μ-loop
-len-requires c κs = search needs
-
-all-requires : tie.Need-all-requires Inv-loop μ-loop
-all-requires c κs = search needs
-
-add-result : tie.Need-add-result Inv-loop μ-loop
-add-result c = search needs
-
-mul-result : tie.Need-mul-result Inv-loop μ-loop
-mul-result c = search needs
-
 loop-holds : tie.Need-loop-holds Inv-loop μ-loop
 loop-holds c = let s = c .before .before .before .before in (sweep-begin _ _ _ (s .pre .0) (s .pre .1) (c .before .len .ensures), store-begin _ _ 0)
-
-within-requires : tie.Need-within-requires Inv-loop μ-loop
-within-requires c κs = omega arith
-
-same-length : tie.Need-same-length Inv-loop μ-loop
-same-length c = search needs
 
 returns : tie.Need-returns Inv-loop μ-loop
 returns c =
@@ -65,9 +47,6 @@ returns c =
       tells-without (tells-sound _ (l .before .all .ensures) _ (l .loop .inv .0 .few) (d .within .ensures)) (not-true _ (c .if1 .taken)) (λ k. clear-sound (l .loop .inv .0) k (omega arith)),
       (λ f. absurd (true≢false (sym f)), stores (l .loop .inv .1) (more-tops (l .loop .inv .0 .places .listed))),
     )
-
-taken-requires : tie.Need-taken-requires Inv-loop μ-loop
-taken-requires c κs = search needs
 
 parts-requires : tie.Need-parts-requires Inv-loop μ-loop
 parts-requires c κs =
@@ -81,9 +60,6 @@ add-due c =
     let l = loop e in
     omega (arith, c .parts .ensures, names-few _ (l .before .all .ensures) _ (fit e), c .before .before .taken .ensures, l .loop .inv .0 .few)
 
-same-length-2 : tie.Need-same-length-2 Inv-loop μ-loop
-same-length-2 c = search needs
-
 returns-2 : tie.Need-returns-2 Inv-loop μ-loop
 returns-2 c =
     let l = loop (c .before .before .before .before .before) in (
@@ -91,26 +67,14 @@ returns-2 c =
       (λ f. absurd (true≢false (sym f)), stores (l .loop .inv .1) (more-tops (l .loop .inv .0 .places .listed))),
     )
 
-cast-tops : tie.Need-cast-tops Inv-loop μ-loop
-cast-tops c = search needs
-
-mul-tops : tie.Need-mul-tops Inv-loop μ-loop
-mul-tops c = search needs
-
 slice-write-tops : tie.Need-slice-write-tops Inv-loop μ-loop
 slice-write-tops c = let a = shallow c .loop .inv .0 .places .listed in omega arith
-
-pick-requires : tie.Need-pick-requires Inv-loop μ-loop
-pick-requires c κs = search needs
 
 add-top : tie.Need-add-top Inv-loop μ-loop
 add-top c =
     let a = shallow (c .before .before) .loop .inv .0 .places .listed in
     let one : c .pick .result ≤ 1 = rw (c .pick .ensures) (search one-listed) in
     omega arith
-
-slice-aggregate-step : tie.Need-slice-aggregate-step Inv-loop μ-loop
-slice-aggregate-step c = search needs
 
 parts-requires-2 : tie.Need-parts-requires-2 Inv-loop μ-loop
 parts-requires-2 c κs =
@@ -133,12 +97,6 @@ step-requires c κs =
       ),
     )
 
-add-i : tie.Need-add-i Inv-loop μ-loop
-add-i c = omega arith
-
-loop-less : tie.Need-loop-less Inv-loop μ-loop
-loop-less c = omega arith
-
 loop-again : tie.Need-loop-again Inv-loop μ-loop
 loop-again c =
     let d = c .before .before in
@@ -153,12 +111,6 @@ loop-again c =
           (rw (d .parts2 .ensures) (children-at _ k _ f))),
       let a = l .loop .inv .0 .places .listed in store-later (store-one (l .loop .inv .1) (omega arith) (omega arith)) (omega arith),
     )
-
-cast-tops-2 : tie.Need-cast-tops-2 Inv-loop μ-loop
-cast-tops-2 c = search needs
-
-mul-tops-2 : tie.Need-mul-tops-2 Inv-loop μ-loop
-mul-tops-2 c = search needs
 
 slice-write-tops-2 : tie.Need-slice-write-tops-2 Inv-loop μ-loop
 slice-write-tops-2 c = let a = c .before .loop .inv .0 .places .listed in omega arith
@@ -179,36 +131,7 @@ returns-3 c =
 
 pub clear-spec : {M : Type 1} → statement M
 clear-spec =
-    tie.close
-    (tie.spec
-    Inv-loop
-    μ-loop
-    len-requires
-    all-requires
-    add-result
-    mul-result
-    loop-holds
-    within-requires
-    same-length
-    returns
-    taken-requires
-    parts-requires
-    add-due
-    same-length-2
-    returns-2
-    cast-tops
-    mul-tops
-    slice-write-tops
-    pick-requires
-    add-top
-    slice-aggregate-step
-    parts-requires-2
-    step-requires
-    add-i
-    loop-less
-    loop-again
-    cast-tops-2
-    mul-tops-2
-    slice-write-tops-2
-    same-length-3
-    returns-3)
+    tie.close (tie.spec Inv-loop μ-loop (λ c κs. search needs) (λ c κs. search needs) (λ c. search needs) (λ c. search needs) loop-holds
+    (λ c κs. omega arith) (λ c. search needs) returns (λ c κs. search needs) parts-requires add-due (λ c. search needs) returns-2 (λ c. search needs)
+    (λ c. search needs) slice-write-tops (λ c κs. search needs) add-top (λ c. search needs) parts-requires-2 step-requires (λ c. omega arith)
+    (λ c. omega arith) loop-again (λ c. search needs) (λ c. search needs) slice-write-tops-2 same-length-3 returns-3)

@@ -11,9 +11,6 @@ use Rattle.visits.proofs.run.after_top_define.Tie as tie
 left : (c : tie.Start) {l : Bool} → c .args .lambda ≡ l → leavesTop l (passIn (c .args .r .now)) ≡ leavesTop (c .args .lambda) (passIn (c .args .r .now))
 left c e = ap (λ (l : Bool). leavesTop l (passIn (c .args .r .now))) (sym e)
 
-set-context-requires : tie.Need-set-context-requires
-set-context-requires c κs = search needs
-
 returns : tie.Need-returns
 returns c = c .set-context .ensures ∙ left (c .before .before .before) (c .before .before .if1 .taken)
 
@@ -22,8 +19,4 @@ returns-2 c = left (c .before) (c .if1 .left)
 
 pub after-top-define-spec : {M : Type 1} → statement M
 after-top-define-spec =
-    tie.close
-    (tie.spec
-    set-context-requires
-    returns
-    returns-2)
+    tie.close (tie.spec (λ c κs. search needs) returns returns-2)

@@ -31,9 +31,6 @@ form-requires c κs = reached (some-tree (to-start c .pre)) (c .core-at .ensures
 count-requires : tie.Need-count-requires
 count-requires c κs = let found = c .before .before in reached (some-tree (to-start found .pre)) (found .core-at .ensures) .1
 
-wide-requires : tie.Need-wide-requires
-wide-requires c κs = search needs
-
 add-enter-defines : tie.Need-add-enter-defines
 add-enter-defines c = let found = to-begin c .before .before in omega (arith, reached (some-tree (to-start found .pre)) (found .core-at .ensures) .2)
 
@@ -44,12 +41,6 @@ enter-defines-requires c κs =
     let found = test .before .before in
     children-fit (to-start found .pre) (found .core-at .ensures) (sym (test .before .form .ensures) ∙ test .if1 .taken)
     (counted .wide .ensures ∙ counted .before .count .ensures)
-
-same-length : tie.Need-same-length
-same-length c = search needs
-
-same-length-2 : tie.Need-same-length-2
-same-length-2 c = search needs
 
 returns : tie.Need-returns
 returns c =
@@ -70,12 +61,6 @@ enter-defines-requires-2 c κs =
     let found = other .before .before in
     child-fits (to-start found .pre) (found .core-at .ensures) (no-begin other)
 
-same-length-3 : tie.Need-same-length-3
-same-length-3 c = search needs
-
-same-length-4 : tie.Need-same-length-4
-same-length-4 c = search needs
-
 returns-2 : tie.Need-returns-2
 returns-2 c =
     let entered = c .before .before .before .before in
@@ -89,19 +74,5 @@ returns-3 c =
 
 pub enter-top-spec : {M : Type 1} → statement M
 enter-top-spec =
-    tie.close
-    (tie.spec
-    core-at-requires
-    form-requires
-    count-requires
-    wide-requires
-    add-enter-defines
-    enter-defines-requires
-    same-length
-    same-length-2
-    returns
-    enter-defines-requires-2
-    same-length-3
-    same-length-4
-    returns-2
-    returns-3)
+    tie.close (tie.spec core-at-requires form-requires count-requires (λ c κs. search needs) add-enter-defines enter-defines-requires
+    (λ c. search needs) (λ c. search needs) returns enter-defines-requires-2 (λ c. search needs) (λ c. search needs) returns-2 returns-3)

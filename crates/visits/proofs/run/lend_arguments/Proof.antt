@@ -5,12 +5,6 @@ use borrow.Author.Needs.{needs}
 use Rattle.visits.proofs.run.lend_arguments.Statement.{statement}
 use Rattle.visits.proofs.run.lend_arguments.Tie as tie
 
-lend-work-requires : tie.Need-lend-work-requires
-lend-work-requires c κs = search needs
-
-same-length : tie.Need-same-length
-same-length c = search needs
-
 returns : tie.Need-returns
 returns c =
     let o = c .before .before .before .before .before .before .before .before .before .before .before .args in
@@ -21,8 +15,4 @@ returns c =
 
 pub lend-arguments-spec : {M : Type 1} → statement M
 lend-arguments-spec =
-    tie.close
-    (tie.spec
-    lend-work-requires
-    same-length
-    returns)
+    tie.close (tie.spec (λ c κs. search needs) (λ c. search needs) returns)

@@ -5,15 +5,6 @@ use borrow.Author.Needs.{needs}
 use Rattle.visits.proofs.run.lend_captured.Statement.{statement}
 use Rattle.visits.proofs.run.lend_captured.Tie as tie
 
-lend-arguments-requires : tie.Need-lend-arguments-requires
-lend-arguments-requires c κs = search needs
-
-same-length : tie.Need-same-length
-same-length c = search needs
-
-same-length-2 : tie.Need-same-length-2
-same-length-2 c = search needs
-
 returns : tie.Need-returns
 returns c =
     let o = c .before .before .before .before .before .before .before .before .before .before .before .before .before .before .args in
@@ -24,9 +15,4 @@ returns c =
 
 pub lend-captured-spec : {M : Type 1} → statement M
 lend-captured-spec =
-    tie.close
-    (tie.spec
-    lend-arguments-requires
-    same-length
-    same-length-2
-    returns)
+    tie.close (tie.spec (λ c κs. search needs) (λ c. search needs) (λ c. search needs) returns)

@@ -5,18 +5,6 @@ use borrow.Author.Needs.{needs}
 use Rattle.visits.proofs.run.lend_facts.Statement.{statement}
 use Rattle.visits.proofs.run.lend_facts.Tie as tie
 
-lend-captured-requires : tie.Need-lend-captured-requires
-lend-captured-requires c κs = search needs
-
-same-length : tie.Need-same-length
-same-length c = search needs
-
-same-length-2 : tie.Need-same-length-2
-same-length-2 c = search needs
-
-same-length-3 : tie.Need-same-length-3
-same-length-3 c = search needs
-
 returns : tie.Need-returns
 returns c =
     let o = c .before .before .before .before .before .before .before .before .before .before .before .before .before .before .before .before .before .args in
@@ -27,10 +15,4 @@ returns c =
 
 pub lend-facts-spec : {M : Type 1} → statement M
 lend-facts-spec =
-    tie.close
-    (tie.spec
-    lend-captured-requires
-    same-length
-    same-length-2
-    same-length-3
-    returns)
+    tie.close (tie.spec (λ c κs. search needs) (λ c. search needs) (λ c. search needs) (λ c. search needs) returns)

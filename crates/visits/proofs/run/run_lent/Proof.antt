@@ -4,12 +4,6 @@ use Rattle.visits.proofs.RunCase.{tops-enter, tops-fit, run-done}
 use Rattle.visits.proofs.run.run_lent.Statement.{statement}
 use Rattle.visits.proofs.run.run_lent.Tie as tie
 
-slice-aggregate-enter-tops : tie.Need-slice-aggregate-enter-tops
-slice-aggregate-enter-tops c = search needs
-
-slice-aggregate-enter-tops-2 : tie.Need-slice-aggregate-enter-tops-2
-slice-aggregate-enter-tops-2 c = search needs
-
 enter-tops-requires : tie.Need-enter-tops-requires
 enter-tops-requires c κs = let o = c .before .before .before .before .before .before in (o .pre .0, tops-enter (o .pre .1))
 
@@ -21,10 +15,4 @@ returns c = (run-done (c .before .before .before .before .before .before .enter-
 
 pub run-lent-spec : {M : Type 1} → statement M
 run-lent-spec =
-    tie.close
-    (tie.spec
-    slice-aggregate-enter-tops
-    slice-aggregate-enter-tops-2
-    enter-tops-requires
-    visit-tops-requires
-    returns)
+    tie.close (tie.spec (λ c. search needs) (λ c. search needs) enter-tops-requires visit-tops-requires returns)

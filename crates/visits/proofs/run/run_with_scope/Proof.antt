@@ -5,29 +5,11 @@ use borrow.Author.Needs.{needs}
 use Rattle.visits.proofs.run.run_with_scope.Statement.{statement}
 use Rattle.visits.proofs.run.run_with_scope.Tie as tie
 
-store-requires : tie.Need-store-requires
-store-requires c κs = search needs
-
 lend-facts-requires : tie.Need-lend-facts-requires
 lend-facts-requires c κs =
     let stored = c .before .before .before .before .before .before .before in
     let o = stored .before .before .before .before .before .before .before .before .before in
     (o .pre .0, rw (stored .store .ensures) (o .pre .1))
-
-load-requires : tie.Need-load-requires
-load-requires c κs = search needs
-
-same-length : tie.Need-same-length
-same-length c = search needs
-
-same-length-2 : tie.Need-same-length-2
-same-length-2 c = search needs
-
-same-length-3 : tie.Need-same-length-3
-same-length-3 c = search needs
-
-same-length-4 : tie.Need-same-length-4
-same-length-4 c = search needs
 
 returns : tie.Need-returns
 returns c =
@@ -37,13 +19,5 @@ returns c =
 
 pub run-with-scope-spec : {M : Type 1} → statement M
 run-with-scope-spec =
-    tie.close
-    (tie.spec
-    store-requires
-    lend-facts-requires
-    load-requires
-    same-length
-    same-length-2
-    same-length-3
-    same-length-4
-    returns)
+    tie.close (tie.spec (λ c κs. search needs) lend-facts-requires (λ c κs. search needs) (λ c. search needs) (λ c. search needs) (λ c. search needs)
+    (λ c. search needs) returns)

@@ -17,17 +17,8 @@ visit-top-define-requires c κs =
     let i = c .before .before .before .before .before in
     (i .before .before .before .pre, sym (formed (i .before)) ∙ i .if1 .taken)
 
-returns : tie.Need-returns
-returns c = search needs
-
 no-define : (c : tie.Else1) → let o = c .before .before .before .args in nth (o .all .now .now) (o .at) .form ≡ 5 → ⊥
 no-define c e = c .if1 .left (formed (c .before) ∙ e)
-
-top-requires : tie.Need-top-requires
-top-requires c κs = search needs
-
-visit-requires : tie.Need-visit-requires
-visit-requires c κs = search needs
 
 returns-2 : tie.Need-returns-2
 returns-2 c =
@@ -36,11 +27,4 @@ returns-2 c =
 
 pub visit-top-spec : {M : Type 1} → statement M
 visit-top-spec =
-    tie.close
-    (tie.spec
-    form-requires
-    visit-top-define-requires
-    returns
-    top-requires
-    visit-requires
-    returns-2)
+    tie.close (tie.spec form-requires visit-top-define-requires (λ c. search needs) (λ c κs. search needs) (λ c κs. search needs) returns-2)

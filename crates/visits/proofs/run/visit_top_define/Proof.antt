@@ -20,17 +20,8 @@ to-entered c = c .before .before
 abbrev to-handed : tie.After-visit-body → tie.After-top
 to-handed c = c .before .before .before .before .before .before
 
-add-body-at : tie.Need-add-body-at
-add-body-at c = search needs
-
 body-at-requires : tie.Need-body-at-requires
 body-at-requires c κs = let start = c .before .before .before in body-tree (start .pre .1) (start .pre .0)
-
-slice-aggregate-before-top-define : tie.Need-slice-aggregate-before-top-define
-slice-aggregate-before-top-define c = search needs
-
-slice-aggregate-before-top-define-2 : tie.Need-slice-aggregate-before-top-define-2
-slice-aggregate-before-top-define-2 c = search needs
 
 before-top-define-requires : tie.Need-before-top-define-requires
 before-top-define-requires c κs = let start = to-start (c .before .before .before .before) in define-fits (start .pre .1) (start .pre .0)
@@ -41,15 +32,6 @@ sub-visit-body c = let start = to-start (to-told c) in omega (arith, long (start
 part-visit-body-start : tie.Need-part-visit-body-start
 part-visit-body-start c = let start = to-start (to-told c) in omega (arith, long (start .pre .1) (start .pre .0))
 
-part-visit-body-end : tie.Need-part-visit-body-end
-part-visit-body-end c = search needs
-
-add-visit-body : tie.Need-add-visit-body
-add-visit-body c = search needs
-
-top-requires : tie.Need-top-requires
-top-requires c κs = search needs
-
 visit-body-requires : tie.Need-visit-body-requires
 visit-body-requires c κs =
     let handed = c .before .before .before .before .before in
@@ -58,9 +40,6 @@ visit-body-requires c κs =
     let start = to-start told in
     body-fits (start .pre .1) (told .body-at .ensures) (entered .before-top-define .ensures) (handed .top .ensures)
     (part (start .args .rs .now) 12) (start .pre .0)
-
-after-top-define-requires : tie.Need-after-top-define-requires
-after-top-define-requires c κs = search needs
 
 add-result : tie.Need-add-result
 add-result c =
@@ -88,19 +67,5 @@ returns c =
 
 pub visit-top-define-spec : {M : Type 1} → statement M
 visit-top-define-spec =
-    tie.close
-    (tie.spec
-    add-body-at
-    body-at-requires
-    slice-aggregate-before-top-define
-    slice-aggregate-before-top-define-2
-    before-top-define-requires
-    sub-visit-body
-    part-visit-body-start
-    part-visit-body-end
-    add-visit-body
-    top-requires
-    visit-body-requires
-    after-top-define-requires
-    add-result
-    returns)
+    tie.close (tie.spec (λ c. search needs) body-at-requires (λ c. search needs) (λ c. search needs) before-top-define-requires sub-visit-body
+    part-visit-body-start (λ c. search needs) (λ c. search needs) (λ c κs. search needs) visit-body-requires (λ c κs. search needs) add-result returns)

@@ -13,18 +13,6 @@ form-requires c κs = root (c .before .before .pre .stands) .inside
 id-requires : tie.Need-id-requires
 id-requires c κs = root (c .before .before .before .before .pre .stands) .inside
 
-plain-body-requires : tie.Need-plain-body-requires
-plain-body-requires c κs = search needs
-
-plain-body-requires-2 : tie.Need-plain-body-requires-2
-plain-body-requires-2 c κs = search needs
-
-is-builtin-requires : tie.Need-is-builtin-requires
-is-builtin-requires c κs = search needs
-
-add-core-at : tie.Need-add-core-at
-add-core-at c = search needs
-
 core-at-requires : tie.Need-core-at-requires
 core-at-requires c κs =
     let m = c .before in
@@ -36,9 +24,6 @@ is-ident-of-requires c κs =
     let m = c .before .before in
     let d = m .before in
     (reached (c .core-at .ensures) (head-stands (sym (d .form .ensures) ∙ m .match .keys3) (d .before .before .before .pre)), omega arith)
-
-plain-body-requires-3 : tie.Need-plain-body-requires-3
-plain-body-requires-3 c κs = search needs
 
 returns : tie.Need-returns
 returns c =
@@ -63,18 +48,5 @@ returns-4 c =
 
 pub form-at-spec : {M : Type 1} → statement M
 form-at-spec =
-    tie.close
-    (tie.spec
-    form-requires
-    id-requires
-    plain-body-requires
-    plain-body-requires-2
-    is-builtin-requires
-    add-core-at
-    core-at-requires
-    is-ident-of-requires
-    plain-body-requires-3
-    returns
-    returns-2
-    returns-3
-    returns-4)
+    tie.close (tie.spec form-requires id-requires (λ c κs. search needs) (λ c κs. search needs) (λ c κs. search needs) (λ c. search needs)
+    core-at-requires is-ident-of-requires (λ c κs. search needs) returns returns-2 returns-3 returns-4)

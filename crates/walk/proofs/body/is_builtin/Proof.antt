@@ -15,9 +15,6 @@ returns c =
     let o = c .before .before .before .before in
     alone-tells _ _ _ (o .pre .1) (c .before .count .ensures) (c .if1 .taken)
 
-add-core-at : tie.Need-add-core-at
-add-core-at c = search needs
-
 core-at-requires : tie.Need-core-at-requires
 core-at-requires c κs = let o = c .before .before .before .before in some-tree (head-stands (o .pre .1) (o .pre .0))
 
@@ -59,15 +56,5 @@ returns-3 c =
 
 pub is-builtin-spec : {M : Type 1} → statement M
 is-builtin-spec =
-    tie.close
-    (tie.spec
-    count-requires
-    returns
-    add-core-at
-    core-at-requires
-    is-ident-of-requires
-    returns-2
-    add-core-at-2
-    core-at-requires-2
-    is-ident-of-requires-2
-    returns-3)
+    tie.close (tie.spec count-requires returns (λ c. search needs) core-at-requires is-ident-of-requires returns-2 add-core-at-2 core-at-requires-2
+    is-ident-of-requires-2 returns-3)

@@ -7,19 +7,11 @@ use Rattle.pass.specs.Read.{isClass}
 use Rattle.walk.proofs.body.is_class.Statement.{statement}
 use Rattle.walk.proofs.body.is_class.Tie as tie
 
-wide-requires : tie.Need-wide-requires
-wide-requires c κs = search needs
-
-shared-slice-read-c : tie.Need-shared-slice-read-c
-shared-slice-read-c c = search needs
-
-div-result : tie.Need-div-result
-div-result c = search needs
-
 returns : tie.Need-returns
 returns c =
     let o = c .before .before .before .args in
     ap (λ (n : ℕ). isClass (o .k) (getD (o .classes .now) n 0)) (c .before .wide .ensures)
 
 pub is-class-spec : {M : Type 1} → statement M
-is-class-spec = tie.close (tie.spec wide-requires shared-slice-read-c div-result returns)
+is-class-spec =
+    tie.close (tie.spec (λ c κs. search needs) (λ c. search needs) (λ c. search needs) returns)

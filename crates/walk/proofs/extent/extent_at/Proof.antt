@@ -16,9 +16,6 @@ abbrev μ-loop : tie.MeasureT-loop
 loop-holds : tie.Need-loop-holds Inv-loop μ-loop
 loop-holds c = start _ _
 
-sub-open : tie.Need-sub-open Inv-loop μ-loop
-sub-open c = omega arith
-
 left : (c : tie.In-loop Inv-loop μ-loop) → c .before .loop .i < length (records (c .before .before .before .args .all .now))
 left c = ahead (c .before .loop .inv) (omega arith) (c .before .before .before .pre)
 
@@ -48,16 +45,4 @@ returns c = ended (c .before .loop .inv) (omega arith)
 
 pub extent-at-spec : {M : Type 1} → statement M
 extent-at-spec =
-    tie.close
-    (tie.spec
-    Inv-loop
-    μ-loop
-    loop-holds
-    sub-open
-    known-children-requires
-    add-open
-    add-i
-    loop-less
-    loop-again
-    sub-result
-    returns)
+    tie.close (tie.spec Inv-loop μ-loop loop-holds (λ c. omega arith) known-children-requires add-open add-i loop-less loop-again sub-result returns)

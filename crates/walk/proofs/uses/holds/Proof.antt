@@ -19,19 +19,10 @@ loop-holds c = begin _ _ _ (c .before .pre)
 add-name : tie.Need-add-name Inv-loop μ-loop
 add-name c = omega (arith, length-map (c .before .before .before .before .pre .xs) named)
 
-name-requires : tie.Need-name-requires Inv-loop μ-loop
-name-requires c κs = omega arith
-
 returns : tie.Need-returns Inv-loop μ-loop
 returns c =
     let d = c .before .before in
     found _ _ _ (d .before .before .loop .inv) (c .before .name .ensures) (omega arith) (c .if2 .taken)
-
-add-i : tie.Need-add-i Inv-loop μ-loop
-add-i c = omega arith
-
-loop-less : tie.Need-loop-less Inv-loop μ-loop
-loop-less c = omega arith
 
 loop-again : tie.Need-loop-again Inv-loop μ-loop
 loop-again c =
@@ -43,15 +34,4 @@ returns-2 c = end _ _ _ (c .before .before .loop .inv) (omega arith)
 
 pub holds-spec : {M : Type 1} → statement M
 holds-spec =
-    tie.close
-    (tie.spec
-    Inv-loop
-    μ-loop
-    loop-holds
-    add-name
-    name-requires
-    returns
-    add-i
-    loop-less
-    loop-again
-    returns-2)
+    tie.close (tie.spec Inv-loop μ-loop loop-holds add-name (λ c κs. omega arith) returns (λ c. omega arith) (λ c. omega arith) loop-again returns-2)

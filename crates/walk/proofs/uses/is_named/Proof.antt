@@ -5,12 +5,6 @@ use Rattle.walk.proofs.Binding.{ident-named, other-named}
 use Rattle.walk.proofs.uses.is_named.Statement.{statement}
 use Rattle.walk.proofs.uses.is_named.Tie as tie
 
-form-requires : tie.Need-form-requires
-form-requires c κs = search needs
-
-name-requires : tie.Need-name-requires
-name-requires c κs = search needs
-
 returns : tie.Need-returns
 returns c =
     let d = c .before .before in
@@ -23,4 +17,5 @@ returns-2 c =
     other-named (nth (o .all .now) (o .i)) (c .before .form .ensures) (o .name) (c .if1 .left)
 
 pub is-named-spec : {M : Type 1} → statement M
-is-named-spec = tie.close (tie.spec form-requires name-requires returns returns-2)
+is-named-spec =
+    tie.close (tie.spec (λ c κs. search needs) (λ c κs. search needs) returns returns-2)

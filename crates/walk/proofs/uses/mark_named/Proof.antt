@@ -5,23 +5,8 @@ use Rattle.walk.proofs.Marking.{named-no, named-yes}
 use Rattle.walk.proofs.uses.mark_named.Statement.{statement}
 use Rattle.walk.proofs.uses.mark_named.Tie as tie
 
-form-requires : tie.Need-form-requires
-form-requires c κs = search needs
-
 returns : tie.Need-returns
 returns c = named-no (c .before .form .ensures) (c .if1 .taken)
-
-name-requires : tie.Need-name-requires
-name-requires c κs = search needs
-
-wide-requires : tie.Need-wide-requires
-wide-requires c κs = search needs
-
-mark-requires : tie.Need-mark-requires
-mark-requires c κs = search needs
-
-same-length : tie.Need-same-length
-same-length c = search needs
 
 returns-2 : tie.Need-returns-2
 returns-2 c =
@@ -32,12 +17,5 @@ returns-2 c =
 
 pub mark-named-spec : {M : Type 1} → statement M
 mark-named-spec =
-    tie.close
-    (tie.spec
-    form-requires
-    returns
-    name-requires
-    wide-requires
-    mark-requires
-    same-length
+    tie.close (tie.spec (λ c κs. search needs) returns (λ c κs. search needs) (λ c κs. search needs) (λ c κs. search needs) (λ c. search needs)
     returns-2)

@@ -25,12 +25,6 @@ mark-record-requires c κs =
     let start = c .before .before .before .before .before in
     omega (arith, tree-inside (start .pre .0 .stands), start .pre .0 .ends)
 
-add-i : tie.Need-add-i Inv-loop μ-loop
-add-i c = search needs
-
-loop-less : tie.Need-loop-less Inv-loop μ-loop
-loop-less c = search needs
-
 loop-again : tie.Need-loop-again Inv-loop μ-loop
 loop-again c =
     let at-mark-record = c .before .before in
@@ -49,14 +43,4 @@ returns c = marks-end _ _ _ (c .before .loop .inv .2) (c .loop-test .left)
 
 pub mark-uses-spec : {M : Type 1} → statement M
 mark-uses-spec =
-    tie.close
-    (tie.spec
-    Inv-loop
-    μ-loop
-    loop-holds
-    mark-record-requires
-    add-i
-    loop-less
-    loop-again
-    same-length
-    returns)
+    tie.close (tie.spec Inv-loop μ-loop loop-holds mark-record-requires (λ c. search needs) (λ c. search needs) loop-again same-length returns)

@@ -16,25 +16,10 @@ abbrev μ-loop : tie.MeasureT-loop
 loop-holds : tie.Need-loop-holds Inv-loop μ-loop
 loop-holds c = start _ _ _ _ (c .before .pre)
 
-is-named-requires : tie.Need-is-named-requires Inv-loop μ-loop
-is-named-requires c κs = omega arith
-
 returns : tie.Need-returns Inv-loop μ-loop
 returns c =
     let t = c .before .before in
     found _ _ _ _ (t .before .before .loop .inv) (omega arith) (t .if1 .taken) (c .before .is-named .ensures) (c .if2 .taken)
-
-bound-requires : tie.Need-bound-requires Inv-loop μ-loop
-bound-requires c κs = omega arith
-
-sub-due : tie.Need-sub-due Inv-loop μ-loop
-sub-due c = omega arith
-
-add-i : tie.Need-add-i Inv-loop μ-loop
-add-i c = omega arith
-
-loop-less : tie.Need-loop-less Inv-loop μ-loop
-loop-less c = omega arith
 
 loop-again : tie.Need-loop-again Inv-loop μ-loop
 loop-again c =
@@ -50,16 +35,5 @@ returns-2 c = end _ _ _ _ (c .before .loop .inv) (omega arith)
 
 pub uses-name-spec : {M : Type 1} → statement M
 uses-name-spec =
-    tie.close
-    (tie.spec
-    Inv-loop
-    μ-loop
-    loop-holds
-    is-named-requires
-    returns
-    bound-requires
-    sub-due
-    add-i
-    loop-less
-    loop-again
-    returns-2)
+    tie.close (tie.spec Inv-loop μ-loop loop-holds (λ c κs. omega arith) returns (λ c κs. omega arith) (λ c. omega arith) (λ c. omega arith)
+    (λ c. omega arith) loop-again returns-2)

@@ -4,14 +4,9 @@ use borrow.Author.Needs.{needs}
 use Rattle.work.proofs.Pass.new.Statement.{statement}
 use Rattle.work.proofs.Pass.new.Tie as tie
 
-new-requires : tie.Need-new-requires
-new-requires c κs = search needs
-
-new-requires-2 : tie.Need-new-requires-2
-new-requires-2 c κs = search needs
-
 returns : tie.Need-returns
 returns c = pass-new _ _ _ _ (c .before .new .ensures) (c .new2 .ensures)
 
 pub new-spec : {M : Type 1} → statement M
-new-spec = tie.close (tie.spec new-requires new-requires-2 returns)
+new-spec =
+    tie.close (tie.spec (λ c κs. search needs) (λ c κs. search needs) returns)

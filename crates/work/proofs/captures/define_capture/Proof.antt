@@ -4,18 +4,6 @@ use borrow.Author.Needs.{needs}
 use Rattle.work.proofs.captures.define_capture.Statement.{statement}
 use Rattle.work.proofs.captures.define_capture.Tie as tie
 
-capture-place-requires : tie.Need-capture-place-requires
-capture-place-requires c κs = search needs
-
-define-row-requires : tie.Need-define-row-requires
-define-row-requires c κs = search needs
-
-put-taken-requires : tie.Need-put-taken-requires
-put-taken-requires c κs = search needs
-
-same-length : tie.Need-same-length
-same-length c = search needs
-
 returns : tie.Need-returns
 returns c =
     let o = c .before .before .before .before .before .before .before .before .before .before .before in
@@ -24,5 +12,4 @@ returns c =
 
 pub define-capture-spec : {M : Type 1} → statement M
 define-capture-spec =
-    tie.close
-    (tie.spec capture-place-requires define-row-requires put-taken-requires same-length returns)
+    tie.close (tie.spec (λ c κs. search needs) (λ c κs. search needs) (λ c κs. search needs) (λ c. search needs) returns)

@@ -6,11 +6,9 @@ use borrow.Author.Needs.{needs}
 use Rattle.work.proofs.captures.open_captures.Statement.{statement}
 use Rattle.work.proofs.captures.open_captures.Tie as tie
 
-push-layer-requires : tie.Need-push-layer-requires
-push-layer-requires c κs = search needs
-
 returns : tie.Need-returns
 returns c = λ w. captures-open (c .push-layer .ensures (region w capturesFirst capturesLength))
 
 pub open-captures-spec : {M : Type 1} → statement M
-open-captures-spec = tie.close (tie.spec push-layer-requires returns)
+open-captures-spec =
+    tie.close (tie.spec (λ c κs. search needs) returns)

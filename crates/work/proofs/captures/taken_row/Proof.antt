@@ -7,12 +7,6 @@ use borrow.Author.Needs.{needs}
 use Rattle.work.proofs.captures.taken_row.Statement.{statement}
 use Rattle.work.proofs.captures.taken_row.Tie as tie
 
-mul-rest : tie.Need-mul-rest
-mul-rest c = search needs
-
-cast-rest : tie.Need-cast-rest
-cast-rest c = search needs
-
 add-rest : tie.Need-add-rest
 add-rest c = omega (arith, bit-low (c .before .before .args .t .enclosing))
 
@@ -27,4 +21,5 @@ unfolding putTaken
 returns c = refl
 
 pub taken-row-spec : {M : Type 1} → statement M
-taken-row-spec = tie.close (tie.spec mul-rest cast-rest add-rest mul-t3 add-t4 returns)
+taken-row-spec =
+    tie.close (tie.spec (λ c. search needs) (λ c. search needs) add-rest mul-t3 add-t4 returns)

@@ -7,20 +7,11 @@ use borrow.Author.Needs.{needs}
 use Rattle.work.proofs.entries.entry_row.Statement.{statement}
 use Rattle.work.proofs.entries.entry_row.Tie as tie
 
-cast-t2 : tie.Need-cast-t2
-cast-t2 c = search needs
-
-cast-t3 : tie.Need-cast-t3
-cast-t3 c = search needs
-
 mul-t4 : tie.Need-mul-t4
 mul-t4 c = omega (arith, bit-low (c .before .before .args .e .mutated))
 
 add-t5 : tie.Need-add-t5
 add-t5 c = omega (arith, bit-low (c .before .before .args .e .captured), bit-low (c .before .before .args .e .mutated))
-
-mul-t6 : tie.Need-mul-t6
-mul-t6 c = search needs
 
 add-t7 : tie.Need-add-t7
 add-t7 c = let e = c .before .before .before .args .e in omega (arith, bit-low (e .captured), bit-low (e .mutated))
@@ -30,4 +21,5 @@ unfolding putCoded
 returns c = refl
 
 pub entry-row-spec : {M : Type 1} → statement M
-entry-row-spec = tie.close (tie.spec cast-t2 cast-t3 mul-t4 add-t5 mul-t6 add-t7 returns)
+entry-row-spec =
+    tie.close (tie.spec (λ c. search needs) (λ c. search needs) mul-t4 add-t5 (λ c. search needs) add-t7 returns)

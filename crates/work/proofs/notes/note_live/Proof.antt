@@ -4,9 +4,6 @@ use borrow.Author.Needs.{needs}
 use Rattle.work.proofs.notes.note_live.Statement.{statement}
 use Rattle.work.proofs.notes.note_live.Tie as tie
 
-note-nine-requires : tie.Need-note-nine-requires
-note-nine-requires c κs = search needs
-
 returns : tie.Need-returns
 returns c = the-nine _ (c .before .if1 .taken) (c .note-nine .ensures)
 
@@ -14,4 +11,5 @@ returns-2 : tie.Need-returns-2
 returns-2 c = no-nine _ (c .if1 .left)
 
 pub note-live-spec : {M : Type 1} → statement M
-note-live-spec = tie.close (tie.spec note-nine-requires returns returns-2)
+note-live-spec =
+    tie.close (tie.spec (λ c κs. search needs) returns returns-2)

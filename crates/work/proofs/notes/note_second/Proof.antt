@@ -4,14 +4,9 @@ use borrow.Author.Needs.{needs}
 use Rattle.work.proofs.notes.note_second.Statement.{statement}
 use Rattle.work.proofs.notes.note_second.Tie as tie
 
-first-second-requires : tie.Need-first-second-requires
-first-second-requires c κs = search needs
-
-with-notes-requires : tie.Need-with-notes-requires
-with-notes-requires c κs = search needs
-
 returns : tie.Need-returns
 returns c = second-noted _ _ (c .before .first-second .ensures) (c .with-notes .ensures)
 
 pub note-second-spec : {M : Type 1} → statement M
-note-second-spec = tie.close (tie.spec first-second-requires with-notes-requires returns)
+note-second-spec =
+    tie.close (tie.spec (λ c κs. search needs) (λ c κs. search needs) returns)

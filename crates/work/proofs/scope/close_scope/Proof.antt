@@ -8,17 +8,11 @@ use borrow.Author.Needs.{needs}
 use Rattle.work.proofs.scope.close_scope.Statement.{statement}
 use Rattle.work.proofs.scope.close_scope.Tie as tie
 
-slice-relend-prefix-pop-from : tie.Need-slice-relend-prefix-pop-from
-slice-relend-prefix-pop-from c = search needs
-
 slice-aggregate-pop-from : tie.Need-slice-aggregate-pop-from
 slice-aggregate-pop-from c = names-length (c .before .before .before .pre .0)
 
 pop-from-requires : tie.Need-pop-from-requires
 pop-from-requires c κs = (names-room (c .before .before .before .pre .0), c .before .before .before .pre .1 .rows)
-
-same-length : tie.Need-same-length
-same-length c = search needs
 
 returns : tie.Need-returns
 unfolding closeScope
@@ -28,10 +22,4 @@ returns c =
 
 pub close-scope-spec : {M : Type 1} → statement M
 close-scope-spec =
-    tie.close
-    (tie.spec
-    slice-relend-prefix-pop-from
-    slice-aggregate-pop-from
-    pop-from-requires
-    same-length
-    returns)
+    tie.close (tie.spec (λ c. search needs) slice-aggregate-pop-from pop-from-requires (λ c. search needs) returns)

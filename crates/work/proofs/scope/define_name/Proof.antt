@@ -5,12 +5,6 @@ use borrow.Author.Needs.{needs}
 use Rattle.work.proofs.scope.define_name.Statement.{statement}
 use Rattle.work.proofs.scope.define_name.Tie as tie
 
-narrow-requires : tie.Need-narrow-requires
-narrow-requires c κs = search needs
-
-slice-relend-prefix-define-at : tie.Need-slice-relend-prefix-define-at
-slice-relend-prefix-define-at c = search needs
-
 slice-aggregate-define-at : tie.Need-slice-aggregate-define-at
 slice-aggregate-define-at c = names-length (c .before .before .before .before .pre .0)
 
@@ -18,9 +12,6 @@ define-at-requires : tie.Need-define-at-requires
 define-at-requires c κs =
     let o = c .before .before .before .before in
     (record { rows = omega (arith, o .pre .1); long = names-room (o .pre .0) .long }, omega (arith, o .pre .2, c .before .narrow .ensures))
-
-same-length : tie.Need-same-length
-same-length c = search needs
 
 returns : tie.Need-returns
 returns c =
@@ -30,11 +21,4 @@ returns c =
 
 pub define-name-spec : {M : Type 1} → statement M
 define-name-spec =
-    tie.close
-    (tie.spec
-    narrow-requires
-    slice-relend-prefix-define-at
-    slice-aggregate-define-at
-    define-at-requires
-    same-length
-    returns)
+    tie.close (tie.spec (λ c κs. search needs) (λ c. search needs) slice-aggregate-define-at define-at-requires (λ c. search needs) returns)

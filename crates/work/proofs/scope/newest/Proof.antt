@@ -10,29 +10,12 @@ slice-aggregate-get c = names-length (c .before .before .before .pre)
 get-requires : tie.Need-get-requires
 get-requires c κs = names-room (c .before .before .before .pre)
 
-enum-known-found : tie.Need-enum-known-found
-enum-known-found c = search needs
-
-enum-told : tie.Need-enum-told
-enum-told c = search needs
-
 returns : tie.Need-returns
 returns c = newest-none (c .before .before .get .ensures) (c .enum-told .given .1)
-
-wide-requires : tie.Need-wide-requires
-wide-requires c κs = search needs
 
 returns-2 : tie.Need-returns-2
 returns-2 c = newest-some (c .before .before .before .before .get .ensures) (c .before .before .found .given .1) (c .wide .ensures)
 
 pub newest-spec : {M : Type 1} → statement M
 newest-spec =
-    tie.close
-    (tie.spec
-    slice-aggregate-get
-    get-requires
-    enum-known-found
-    enum-told
-    returns
-    wide-requires
-    returns-2)
+    tie.close (tie.spec slice-aggregate-get get-requires (λ c. search needs) (λ c. search needs) returns (λ c κs. search needs) returns-2)

@@ -8,12 +8,6 @@ use Rattle.work.proofs.scope.newest_id.Tie as tie
 newest-requires : tie.Need-newest-requires
 newest-requires c κs = spacious (c .before .before .pre .works)
 
-enum-known-found : tie.Need-enum-known-found
-enum-known-found c = search needs
-
-enum-told : tie.Need-enum-told
-enum-told c = search needs
-
 returns : tie.Need-returns
 returns c = no-id _ (c .before .before .newest .ensures) (c .enum-told .given .1)
 
@@ -26,4 +20,4 @@ returns-2 c = the-id _ (c .before .before .before .before .newest .ensures) (c .
 
 pub newest-id-spec : {M : Type 1} → statement M
 newest-id-spec =
-    tie.close (tie.spec newest-requires enum-known-found enum-told returns id-requires returns-2)
+    tie.close (tie.spec newest-requires (λ c. search needs) (λ c. search needs) returns id-requires returns-2)

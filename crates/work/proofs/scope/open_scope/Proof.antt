@@ -10,12 +10,10 @@ use borrow.Author.Needs.{needs}
 use Rattle.work.proofs.scope.open_scope.Statement.{statement}
 use Rattle.work.proofs.scope.open_scope.Tie as tie
 
-push-layer-requires : tie.Need-push-layer-requires
-push-layer-requires c κs = search needs
-
 returns : tie.Need-returns
 unfolding openScope
 returns c = λ w. names-become pushLayer (map-pushLayer recordAt) elsewhere-same (c .push-layer .ensures (region w 0 scopeLength))
 
 pub open-scope-spec : {M : Type 1} → statement M
-open-scope-spec = tie.close (tie.spec push-layer-requires returns)
+open-scope-spec =
+    tie.close (tie.spec (λ c κs. search needs) returns)

@@ -7,17 +7,11 @@ use borrow.Author.Needs.{needs}
 use Rattle.work.proofs.scope.remove_name.Statement.{statement}
 use Rattle.work.proofs.scope.remove_name.Tie as tie
 
-slice-relend-prefix-remove : tie.Need-slice-relend-prefix-remove
-slice-relend-prefix-remove c = search needs
-
 slice-aggregate-remove : tie.Need-slice-aggregate-remove
 slice-aggregate-remove c = names-length (c .before .before .before .pre)
 
 remove-requires : tie.Need-remove-requires
 remove-requires c κs = names-room (c .before .before .before .pre)
-
-same-length : tie.Need-same-length
-same-length c = search needs
 
 returns : tie.Need-returns
 returns c =
@@ -26,10 +20,4 @@ returns c =
 
 pub remove-name-spec : {M : Type 1} → statement M
 remove-name-spec =
-    tie.close
-    (tie.spec
-    slice-relend-prefix-remove
-    slice-aggregate-remove
-    remove-requires
-    same-length
-    returns)
+    tie.close (tie.spec (λ c. search needs) slice-aggregate-remove remove-requires (λ c. search needs) returns)

@@ -5,11 +5,9 @@ use borrow.Author.Needs.{needs}
 use Rattle.work.proofs.scope.with_row.Statement.{statement}
 use Rattle.work.proofs.scope.with_row.Tie as tie
 
-with-row-requires : tie.Need-with-row-requires
-with-row-requires c κs = search needs
-
 returns : tie.Need-returns
 returns c = ap (λ m. inScope m (c .before .before .args .p)) (c .with-row .ensures)
 
 pub with-row-spec : {M : Type 1} → statement M
-with-row-spec = tie.close (tie.spec with-row-requires returns)
+with-row-spec =
+    tie.close (tie.spec (λ c κs. search needs) returns)

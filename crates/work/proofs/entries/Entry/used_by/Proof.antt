@@ -6,14 +6,9 @@ use borrow.Author.Needs.{needs}
 use Rattle.work.proofs.entries.Entry.used_by.Statement.{statement}
 use Rattle.work.proofs.entries.Entry.used_by.Tie as tie
 
-add-narrow : tie.Need-add-narrow
-add-narrow c = search needs
-
-narrow-requires : tie.Need-narrow-requires
-narrow-requires c κs = search needs
-
 returns : tie.Need-returns
 returns c = ap (withLast (c .before .args .self)) (c .narrow .ensures ∙ add-one (c .before .args .at))
 
 pub used-by-spec : {M : Type 1} → statement M
-used-by-spec = tie.close (tie.spec add-narrow narrow-requires returns)
+used-by-spec =
+    tie.close (tie.spec (λ c. search needs) (λ c κs. search needs) returns)
