@@ -1,9 +1,12 @@
-// What a visit leaves of a call, and of the defines of a begin.
+// What a visit does at the end of a call, and what a set! does to the context.
 use semantic::CallKind;
 use semantic::CallSiteInformation;
 use semantic::NONE;
 use semantic::Span;
 use table::wide;
+use tree::form::AND;
+use tree::form::CONSTANT;
+use tree::form::IDENTIFIER;
 use walk::body::core_at;
 use walk::extent::step_over;
 use work::Pass;
@@ -45,7 +48,7 @@ fn mark_argument(all: &[u32], at: usize, p: Pass, facts: &mut [u32], work: &[u32
     requires { ⌜ ArgumentFits (now all) at p (now facts) (now work) ⌝ }
     ensures { λ _. ⌜ MarksArgument (now (all .entry)) at p (now (facts .entry)) (now (work .entry)) (now (facts .exit)) ⌝ }
 {
-    if tree::record::form(all, at) == 1 {
+    if tree::record::form(all, at) == IDENTIFIER {
         if is_last_use(all, at, p, work) {
             semantic::amend::mark_last_usage(facts, at);
         }
@@ -100,7 +103,7 @@ fn is_constant(all: &[u32], at: usize) -> bool
     ensures { λ r. ⌜ r ≡ constantRecord (nth (now (all .entry)) at) ⌝ }
 {
     let form = tree::record::form(all, at);
-    form == 2 || form == 10 && tree::record::count(all, at) == 0
+    form == CONSTANT || form == AND && tree::record::count(all, at) == 0
 }
 
 // A constant head leaves no fact.
@@ -112,7 +115,7 @@ fn call_fact(all: &[u32], at: usize, tail: bool, k: u32, p: Pass, facts: &mut [u
     if is_constant(all, head) {
         return;
     }
-    if tree::record::form(all, head) == 1 {
+    if tree::record::form(all, head) == IDENTIFIER {
         let own = is_self(head, p, facts);
         let span = names::facts::span_at(all, head);
         call_site(at, call_kind(tail, own, k), span, facts);

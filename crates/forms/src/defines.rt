@@ -112,7 +112,7 @@ fn enter_child(
     requires { ⌜ ChildFits (length (now classes)) (now all) at p (now facts) (now work) ⌝ }
     ensures { λ r. ⌜ EntersChild (now (classes .entry)) (now (all .entry)) at kind p (now (facts .entry)) (now (work .entry)) r (now (facts .exit)) (now (work .exit)) ⌝ }
 {
-    if tree::record::form(all, at) != 5 {
+    if tree::record::form(all, at) != tree::form::DEFINE {
         return p;
     }
     let b = body_at(classes, all, at + 2);

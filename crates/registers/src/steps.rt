@@ -55,7 +55,7 @@ pub fn visit_atom(
     requires { ⌜ AtomFits (length (now classes)) (now all) form at (passIn (now r)) (now facts) (now captured) (now work) ⌝ }
     ensures { λ _. ⌜ VisitsAtom (now (classes .entry)) (now (all .entry)) at (passIn (now (r .entry))) (now (facts .entry)) (now (captured .entry)) (now (work .entry)) (passIn (now (r .exit))) (now (facts .exit)) (now (work .exit)) ⌝ }
 {
-    if form != 1 {
+    if form != tree::form::IDENTIFIER {
         return;
     }
     let p = load(r);

@@ -9,6 +9,26 @@ use table::wide;
 
 pub const FORMS: u32 = 12;
 
+pub const IDENTIFIER: u32 = 1;
+
+pub const CONSTANT: u32 = 2;
+
+pub const DEFINE: u32 = 5;
+
+pub const LAMBDA: u32 = 6;
+
+pub const BEGIN: u32 = 7;
+
+pub const CALL: u32 = 8;
+
+pub const SET: u32 = 9;
+
+pub const AND: u32 = 10;
+
+pub const WHEN: u32 = 11;
+
+pub const UNLESS: u32 = 12;
+
 // The children that every record has, and those that it has for each one counted.
 const FIXED: [u8; 13] = [0, 0, 0, 3, 1, 2, 1, 0, 0, 2, 0, 0, 0];
 

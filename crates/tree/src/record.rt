@@ -1,8 +1,8 @@
 // Records by number: six numbers each, one record after another.
 ghost use mathlib.Core.Path.{_≡_};
 ghost use mathlib.Core.Bool.{true};
-ghost use Prim.Native.Nat.{_<_, _≤_};
-ghost use lib.ListN.{length, getD};
+ghost use Prim.Native.Nat.{_*_, _<_, _≤_};
+ghost use lib.ListN.{length, drop, getD};
 ghost use Rattle.tree.specs.Record.{width, put, records};
 ghost use Rattle.tree.specs.RecordLaws.{nth};
 ghost use Rattle.tree.specs.Form.{formOf, childrenOf};
@@ -28,6 +28,15 @@ pub fn len(rs: &[u32]) -> usize
     ensures { λ r. ⌜ r ≡ length (records (now (rs .entry))) ⌝ }
 {
     rs.len() / WIDTH
+}
+
+// The part of the records that starts at record n.
+pub fn part_at(rs: &[u32], n: usize) -> &[u32]
+    requires { ⌜ width * n ≤ length (now rs) ⌝ }
+    ensures { λ r. ⌜ now r ≡ drop (width * n) (now (rs .entry)) ⌝ }
+{
+    let start = WIDTH * n;
+    &rs[start..]
 }
 
 // Number j of record i.

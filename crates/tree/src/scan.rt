@@ -88,7 +88,7 @@ pub fn is_empty_call(rs: &[u32], i: usize) -> bool
     requires { ⌜ i < length (records (now rs)) ⌝ }
     ensures { λ r. ⌜ r ≡ eqb (nth (now (rs .entry)) i .form) 8 && eqb (nth (now (rs .entry)) i .count) 0 ⌝ }
 {
-    record::form(rs, i) == 8 && record::count(rs, i) == 0
+    record::form(rs, i) == form::CALL && record::count(rs, i) == 0
 }
 
 // 7: a call of nothing.
@@ -111,10 +111,10 @@ pub fn is_untested(rs: &[u32], i: usize) -> bool
     ensures { λ r. ⌜ r ≡ testless (nth (now (rs .entry)) i) ⌝ }
 {
     let f = record::form(rs, i);
-    if f == 11 {
+    if f == form::WHEN {
         return record::count(rs, i) == 0;
     }
-    f == 12 && record::count(rs, i) == 0
+    f == form::UNLESS && record::count(rs, i) == 0
 }
 
 // 16: a when or an unless without a test.

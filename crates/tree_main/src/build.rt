@@ -74,7 +74,7 @@ pub fn good(t: &mut Numbers) {
 
 // Of record i; a begin has none.
 fn id_of(form: u32, i: usize) -> u32 {
-    if form == 7 {
+    if form == tree::form::BEGIN {
         return 0;
     }
     if i < 4294967294 {

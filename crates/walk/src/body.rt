@@ -1,6 +1,10 @@
 // What the body of a define says of its name.
 use semantic::NONE;
 use table::wide;
+use tree::form::AND;
+use tree::form::CALL;
+use tree::form::IDENTIFIER;
+use tree::form::LAMBDA;
 ghost use mathlib.Core.Path.{_≡_};
 ghost use mathlib.Core.List.{List};
 ghost use mathlib.Core.Bool.{false, _&&_};
@@ -31,7 +35,7 @@ fn is_and_of_one(all: &[u32], i: usize) -> bool
     requires { ⌜ i < length (records (now all)) ⌝ }
     ensures { λ r. ⌜ r ≡ eqb (nth (now (all .entry)) i .form) 10 && eqb (nth (now (all .entry)) i .count) 1 ⌝ }
 {
-    tree::record::form(all, i) == 10 && tree::record::count(all, i) == 1
+    tree::record::form(all, i) == AND && tree::record::count(all, i) == 1
 }
 
 // Where the tree stands that an expression is: an and of one child is that child.
@@ -51,7 +55,7 @@ fn is_ident_of(classes: &[u8], all: &[u32], at: usize, k: u8) -> bool
     requires { ⌜ SomeTreeOf (length (now classes)) (now all) at × (0 < k) ⌝ }
     ensures { λ r. ⌜ TellsIdent (now (classes .entry)) k (now (all .entry)) at r ⌝ }
 {
-    tree::record::form(all, at) == 1 && is_class(classes, tree::record::name(all, at), k)
+    tree::record::form(all, at) == IDENTIFIER && is_class(classes, tree::record::name(all, at), k)
 }
 
 // `is_a_builtin_definition`, of a call.
@@ -87,9 +91,9 @@ fn form_at(classes: &[u8], all: &[u32], at: usize) -> Body
 {
     let form = tree::record::form(all, at);
     match form {
-        1 => plain_body(tree::record::id(all, at), false),
-        6 => plain_body(NONE, true),
-        8 => Body {
+        IDENTIFIER => plain_body(tree::record::id(all, at), false),
+        LAMBDA => plain_body(NONE, true),
+        CALL => Body {
             builtin: is_builtin(classes, all, at),
             required: is_ident_of(classes, all, core_at(all, at + 1), 8),
             alias: NONE,

@@ -1,5 +1,8 @@
 // Which names the records of an expression use, and whether a lambda stands among them.
 use table::wide;
+use tree::form::IDENTIFIER;
+use tree::form::LAMBDA;
+use tree::form::SET;
 ghost use mathlib.Core.Path.{_≡_};
 ghost use mathlib.Core.List.{List};
 ghost use Prim.Native.Nat.{ℕ, _<_};
@@ -37,7 +40,7 @@ fn is_named(all: &[u32], i: usize, name: u32) -> bool
     requires { ⌜ i < length (records (now all)) ⌝ }
     ensures { λ r. ⌜ r ≡ isNamed name (nth (now (all .entry)) i) ⌝ }
 {
-    tree::record::form(all, i) == 1 && name == tree::record::name(all, i)
+    tree::record::form(all, i) == IDENTIFIER && name == tree::record::name(all, i)
 }
 
 // How many names the record binds, which stand right after it.
@@ -46,7 +49,7 @@ fn bound(all: &[u32], i: usize) -> usize
     ensures { λ r. ⌜ r ≡ boundBy (nth (now (all .entry)) i) ⌝ }
 {
     let form = tree::record::form(all, i);
-    if form == 9 {
+    if form == SET {
         return 0;
     }
     tree::form::names(form, tree::record::count(all, i))
@@ -89,7 +92,7 @@ fn mark_named(all: &[u32], i: usize, marks: &mut [u8])
     requires { ⌜ i < length (records (now all)) ⌝ }
     ensures { λ _. ⌜ MarksNamed (nth (now (all .entry)) i) (now (marks .entry)) (now (marks .exit)) ⌝ }
 {
-    if tree::record::form(all, i) != 1 {
+    if tree::record::form(all, i) != IDENTIFIER {
         return;
     }
     mark(marks, wide(tree::record::name(all, i)));
@@ -126,7 +129,7 @@ pub fn holds_lambda(all: &[u32], first: usize, end: usize) -> bool
 {
     let mut i = first;
     while i < end {
-        if tree::record::form(all, i) == 6 {
+        if tree::record::form(all, i) == LAMBDA {
             return true;
         }
         i += 1;
