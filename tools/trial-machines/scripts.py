@@ -141,15 +141,15 @@ INNER = """
 # slips that a trial has to notice: name, then (file, text, text in its place) for each edit
 SLIPS = [
     ("the head's slot before the arguments", [("pass/specs/Visit.antt", "height = f .height + k; counter = f .counter; function = f .function; direct = false }\n\nabbrev pub isNil", "height = f .height; counter = f .counter; function = f .function; direct = false }\n\nabbrev pub isNil")]),
-    ("a layer for a let inside a lambda", [("pass/specs/Lambda.antt", "let t = openLet (atBottom s) s in", "let t = openLet true s in"), ("pass/specs/Visit.antt", "leaveLet (atBottom s) n", "leaveLet true n")]),
+    ("a layer for a let inside a lambda", [("pass/specs/Lambda.antt", "let t = openLayer (atBottom s) s in", "let t = openLayer true s in"), ("pass/specs/Visit.antt", "closeLet (atBottom s) n", "closeLet true n")]),
     ("every child of a begin in tail position", [("pass/specs/Visit.antt", "tail = last && f .tail;", "tail = f .tail;")]),
     ("a define's body in tail position", [("pass/specs/Visit.antt", "defineFlags f = record { tail = false;", "defineFlags f = record { tail = f .tail;")]),
     ("arguments in tail position", [("pass/specs/Visit.antt", "argumentFlags f = record { tail = false;", "argumentFlags f = record { tail = f .tail;")]),
     ("Normal on every call", [("pass/specs/Visit.antt", "callKind true false k = TailCall", "callKind true false k = Normal"), ("pass/specs/Visit.antt", "callKind true true k = SelfTailCall k", "callKind true true k = Normal")]),
     ("a let name's slot its place alone", [("pass/specs/Lambda.antt", "localEntry (base + j)", "localEntry j")]),
     ("a lambda made one depth too deep", [("pass/specs/Lambda.antt", "      depth = depth s;", "      depth = suc (depth s);")]),
-    ("the frame of depth 1 copied too", [("execution/specs/Slot.antt", "take (d - 1)", "take d")]),
-    ("a test in tail position", [("pass/specs/Visit.antt", "(enterChildren (cores ts) (visit t (notTail f) s))", "(enterChildren (cores ts) (visit t (sameTail f) s))")]),
+    ("the frame of depth 1 copied too", [("lockstep/specs/Slot.antt", "take (d - 1)", "take d")]),
+    ("a test in tail position", [("pass/specs/Visit.antt", "(enterChildren LocallyDefinedFunction (cores ts) (visit t (notTail f) s))", "(enterChildren LocallyDefinedFunction (cores ts) (visit t (sameTail f) s))")]),
     ("what follows a test in no tail position", [("pass/specs/Visit.antt", "visitChildren ts (inBegin f) (enterChildren", "visitChildren ts (inBegin (notTail f)) (enterChildren")]),
     ("the last of an and in no tail position", [("pass/specs/Visit.antt", "inAnd alone f = record { tail = f .tail;", "inAnd alone f = record { tail = false;")]),
     ("a false child of an and is its value", [("r7rs/specs/Steps.antt", "give v (kand e nil k) b m = cond (O .isFalse v) (give (O .constant 0 true) k b m)", "give v (kand e nil k) b m = cond (O .isFalse v) (give v k b m)")]),

@@ -10,7 +10,7 @@ use lib.Dec.{eqb}
 use Rattle.tree.specs.Record.{width, records}
 use Rattle.tree.specs.Tree.{Trees}
 use Rattle.tree.specs.Check.{Refusal, refusal}
-use Rattle.tree.specs.Acceptance.{accepted, only}
+use Rattle.tree.specs.Laws.Acceptance.{accepted, only}
 use Rattle.tree.specs.Starts.{TellsStarts}
 use Rattle.pass.specs.Run.{rowsMost, Tables, Outcome, lengthsFit, fitting, Answers}
 use Rattle.analysis.specs.Answer.{refusalIn}

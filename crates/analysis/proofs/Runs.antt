@@ -9,16 +9,15 @@ use Rattle.tree.specs.Record.{records}
 use Rattle.tree.specs.Tree.{Trees}
 use Rattle.tree.specs.Check.{Refusal}
 use Rattle.tree.specs.Accepted.{Accepted}
-use Rattle.tree.specs.Acceptance.{unique}
+use Rattle.tree.specs.Laws.Acceptance.{unique}
 use Rattle.semantic.specs.Rows as rows
-use Rattle.semantic.specs.Rows.{rowWidth, putRow, row-long, noItem, itemWidth, putInfo, putItem, item-long}
+use Rattle.semantic.specs.Rows.{rowWidth, putRow, row-long, noListEntry, listEntryWidth, putInfo, putListEntry, list-entry-long}
 use Rattle.pass.specs.State.{State}
-use Rattle.pass.specs.Run.{rowsMost, itemsMost, workLength, noFacts, start, tablesOf}
-use Rattle.pass.specs.Run.{fresh, settled, refusedFirst, nineIn, tenIn, outcome, freshOutcome, settledOutcome}
+use Rattle.pass.specs.Run.{rowsMost, listEntriesMost, workLength, noFacts, start, tablesOf, fresh, settled, refusedFirst, nineOr, tenAt, outcome, freshOutcome, settledOutcome}
 use Rattle.work.specs.Passes.{passNew}
 use Rattle.work.specs.Coded.{secondOf}
 use Rattle.work.specs.Works.{Works, Beside}
-use Rattle.work.specs.WorksLaws.{second-is}
+use Rattle.work.specs.Laws.Works.{second-is}
 use Rattle.work.specs.Tied.{Raw, raw, Tied}
 use Rattle.work.specs.declared.Pass.{Pass}
 use Rattle.visits.specs.Runs.{anew, again, Ready, Runs}
@@ -33,17 +32,17 @@ no-rows : (n : ℕ) → layout putRow (replicate n rows.Blank) ≡ replicate (ro
 unfolding putRow
 no-rows n = zeros-layout rowWidth putRow row-long rows.Blank refl n
 
-no-items : (n : ℕ) → layout putItem (replicate n noItem) ≡ replicate (itemWidth * n) 0
-unfolding putItem putInfo
-no-items n = zeros-layout itemWidth putItem item-long noItem refl n
+no-list-entries : (n : ℕ) → layout putListEntry (replicate n noListEntry) ≡ replicate (listEntryWidth * n) 0
+unfolding putListEntry putInfo
+no-list-entries n = zeros-layout listEntryWidth putListEntry list-entry-long noListEntry refl n
 
 module _ {F C A w : List ℕ} where
   pub blank-tied : Blank (tables F C A w) → Tied (raw (passNew 0 0) F C A w) (start noFacts)
   unfolding start noFacts
   blank-tied b = record {
     facts = b .facts ∙ sym (no-rows rowsMost);
-    captured = b .captured ∙ sym (no-items itemsMost);
-    arguments = b .arguments ∙ sym (no-items itemsMost);
+    captured = b .captured ∙ sym (no-list-entries listEntriesMost);
+    arguments = b .arguments ∙ sym (no-list-entries listEntriesMost);
     works = fresh-works (b .work);
   }
 
@@ -56,7 +55,7 @@ again-tied w′ t z = record { facts = t .facts; captured = t .captured; argumen
 -- The facts of a state, and whether a run was refused
 
 pub refused-as : {p : Pass} {w : List ℕ} {s : State} → Works p w s → firstIn p ≡ refusedFirst (s .noted)
-refused-as k = ap (λ (b : Beside). nineIn (b .nine) (tenIn (b .ten))) (k .beside)
+refused-as k = ap (λ (b : Beside). nineOr (b .nine) (tenAt (b .ten))) (k .beside)
 
 -- what is left of tables that hold a state is the outcome
 tied-outcome : {p : Pass} {F C A w : List ℕ} {s : State} (o : Option Refusal) → Tied (raw p F C A w) s

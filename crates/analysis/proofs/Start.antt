@@ -7,24 +7,24 @@ use lib.ListN.{length, getD, drop, replicate, length-replicate, length-drop}
 use lib.Seq.{getD-drop, ext-getD}
 use Rattle.table.specs.Layout.{layout, drop-layout, zeros-layout}
 use Rattle.table.specs.Region.{region}
-use Rattle.table.specs.RegionLaws.{Elsewhere, replaced-region, replaced-elsewhere}
+use Rattle.table.specs.Laws.Region.{Elsewhere, replaced-region, replaced-elsewhere}
 use Rattle.tree.specs.Record.{records}
 use Rattle.tree.specs.Tree.{Trees}
 use Rattle.tree.specs.Accepted.{Accepted}
-use Rattle.tree.specs.Acceptance.{many-records}
+use Rattle.tree.specs.Laws.Acceptance.{many-records}
 use Rattle.scope_map.specs.ScopeMap.{new}
-use Rattle.scope_map.specs.MapLaws.{mapValues, map-new}
+use Rattle.scope_map.specs.Laws.Map.{mapValues, map-new}
 use Rattle.scope_map.specs.Hints.{rowsLength, hintsLength, mapLength}
 use Rattle.scope_map.specs.Held.{Held}
-use Rattle.scope_map.specs.HeldLaws.{held-new}
-use Rattle.semantic.specs.Rows.{noItem}
+use Rattle.scope_map.specs.Laws.Held.{held-new}
+use Rattle.semantic.specs.Rows.{noListEntry}
 use Rattle.pass.specs.State.{Entry, Facts, State, noEntry, entryAt}
-use Rattle.pass.specs.Run.{rowsMost, itemsMost, noFacts, start, run}
-use Rattle.pass.specs.Laws.Sound.Lists.{same-each}
-use Rattle.pass.specs.Laws.Sound.Runs.{run-owned}
+use Rattle.pass.specs.Run.{rowsMost, listEntriesMost, noFacts, start, run}
+use Rattle.pass_laws.specs.Laws.Sound.Lists.{same-each}
+use Rattle.pass_laws.specs.Laws.Sound.Runs.{run-owned}
 use Rattle.work.specs.Coded.{entryWidth, putCoded, putEntryRow, entry-long, putBinder}
 use Rattle.work.specs.Works.{workLong, scopeLength, entriesFirst, entriesLength, capturesFirst, capturesLength, bindersFirst, bindersLength, recordAt, rowOf, TakenIn, Works}
-use Rattle.work.specs.WorksLaws.{part-length, entries-many, captured-top, arguments-top}
+use Rattle.work.specs.Laws.Works.{part-length, entries-many, captured-top, arguments-top}
 use Rattle.work.specs.Passes.{passNew}
 use Rattle.work.specs.declared.Pass.{Pass}
 use Rattle.analysis.specs.Steps.{zeroed, namesCleared, Rested, Emptied}
@@ -38,8 +38,8 @@ no-entries : (n : ℕ) → layout putEntryRow (replicate n noEntry) ≡ replicat
 unfolding putCoded
 no-entries n = zeros-layout entryWidth putEntryRow entry-long noEntry refl n
 
-no-binders : (n : ℕ) → layout putBinder (replicate n noItem) ≡ replicate (1 * n) 0
-no-binders n = zeros-layout 1 putBinder (λ i. refl) noItem refl n
+no-binders : (n : ℕ) → layout putBinder (replicate n noListEntry) ≡ replicate (1 * n) 0
+no-binders n = zeros-layout 1 putBinder (λ i. refl) noListEntry refl n
 
 -- the rows of a map without names may be anything
 start-works : (f : Facts) (w : List ℕ) → length w ≡ workLong → region w entriesFirst entriesLength ≡ replicate entriesLength 0
@@ -58,7 +58,7 @@ start-works f w l z b = record {
 -- with no facts
 pub fresh-works : {w : List ℕ} → Emptied w → Works (passNew 0 0) w (start noFacts)
 unfolding noFacts
-fresh-works {w} z = start-works noFacts w (z .long) (z .entries) (z .binders ∙ sym (no-binders itemsMost))
+fresh-works {w} z = start-works noFacts w (z .long) (z .entries) (z .binders ∙ sym (no-binders listEntriesMost))
 
 -- A part made zero
 

@@ -6,7 +6,7 @@ use mathlib.Core.Path.{_≡_, ap, sym, subst, _∙_}
 use borrow.Author.Tests.{eqb-true, eq-eqb}
 use lib.ListN.{length, replicate}
 use lib.Dec.{eqb}
-use Rattle.pass.specs.Run.{Tables, factsLength, itemsLength, workLength, lengthsFit, zeros}
+use Rattle.pass.specs.Run.{Tables, factsLength, listEntriesLength, workLength, lengthsFit, zeros}
 use Rattle.work.specs.Works.{bindersFirst, bindersLength}
 use Rattle.analysis.specs.Answer.{tables, refusalIn}
 use Rattle.analysis.specs.Steps.{left, zeroed, namesCleared, Emptied, Blank}
@@ -16,16 +16,16 @@ use Rattle.analysis.specs.declared.Answer.the-variants as answer
 
 pub record Long (t : Tables) : Type 0 where
   pub facts : length (t .facts) ≡ factsLength
-  pub captured : length (t .captured) ≡ itemsLength
-  pub arguments : length (t .arguments) ≡ itemsLength
+  pub captured : length (t .captured) ≡ listEntriesLength
+  pub arguments : length (t .arguments) ≡ listEntriesLength
   pub work : length (t .work) ≡ workLength
 
 pub long : (t : Tables) → lengthsFit t ≡ true → Long t
 unfolding lengthsFit
 long t e =
     let (f, e′) = and-eq-true-iff (eqb (length (t .facts)) factsLength) _ .0 e in
-    let (c, e″) = and-eq-true-iff (eqb (length (t .captured)) itemsLength) _ .0 e′ in
-    let (a, w) = and-eq-true-iff (eqb (length (t .arguments)) itemsLength) _ .0 e″ in
+    let (c, e″) = and-eq-true-iff (eqb (length (t .captured)) listEntriesLength) _ .0 e′ in
+    let (a, w) = and-eq-true-iff (eqb (length (t .arguments)) listEntriesLength) _ .0 e″ in
     record { facts = eqb-true _ _ f; captured = eqb-true _ _ c; arguments = eqb-true _ _ a; work = eqb-true _ _ w }
 
 pub long-fits : {t : Tables} → Long t → lengthsFit t ≡ true
@@ -33,8 +33,8 @@ unfolding lengthsFit
 long-fits {t} l =
     rw (
       eq-eqb (length (t .facts)) factsLength (l .facts),
-      eq-eqb (length (t .captured)) itemsLength (l .captured),
-      eq-eqb (length (t .arguments)) itemsLength (l .arguments),
+      eq-eqb (length (t .captured)) listEntriesLength (l .captured),
+      eq-eqb (length (t .arguments)) listEntriesLength (l .arguments),
       eq-eqb (length (t .work)) workLength (l .work),
     )
 

@@ -6,7 +6,7 @@ use native.Mathlib.Omega.{arith}
 use lib.ListN.{length, take, drop, replicate, length-replicate, take-append-drop, replicate-append-replicate, drop-of-length-le}
 use lib.Seq.{drop-drop, take-add, take-at, drop-at}
 use Rattle.table.specs.Region.{region}
-use Rattle.table.specs.RegionLaws.{region-length}
+use Rattle.table.specs.Laws.Region.{region-length}
 use Rattle.analysis.specs.Steps.{zeroed}
 
 -- the last m of a part

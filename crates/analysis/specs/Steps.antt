@@ -11,14 +11,14 @@ use Rattle.tree.specs.Tree.{Trees}
 use Rattle.tree.specs.Check.{Refusal, refusal}
 use Rattle.tree.specs.Accepted.{Accepted}
 use Rattle.scope_map.specs.Hints.{rowsLength, hintsLength}
-use Rattle.pass.specs.Run.{rowsMost, Tables, Outcome, factsLength, itemsLength, workLength, zeros, freshOutcome, settledOutcome, nineIn, tenIn}
+use Rattle.pass.specs.Run.{rowsMost, Tables, Outcome, factsLength, listEntriesLength, workLength, zeros, freshOutcome, settledOutcome, nineOr, tenAt}
 use Rattle.work.specs.Coded.{notedOf, entryWidth}
 use Rattle.work.specs.Works.{entriesFirst, entriesLength, capturesFirst, bindersFirst, bindersLength}
 use Rattle.work.specs.declared.Pass.{Pass}
 
 -- the refusal of a fresh run, by what was noted
 abbrev pub firstIn : Pass → Option Refusal
-firstIn p = nineIn (notedOf (p .nine)) (tenIn (notedOf (p .ten)))
+firstIn p = nineOr (notedOf (p .nine)) (tenAt (notedOf (p .ten)))
 
 abbrev pub outcomeBy : Bool → List ℕ → Trees → Outcome
 outcomeBy true = settledOutcome
@@ -58,8 +58,8 @@ pub record StartsFit (rs tops : List ℕ) : Type 0 where
 -- tables without facts, with which a run can start
 pub record Blank (t : Tables) : Type 0 where
   pub facts : t .facts ≡ replicate factsLength 0
-  pub captured : t .captured ≡ replicate itemsLength 0
-  pub arguments : t .arguments ≡ replicate itemsLength 0
+  pub captured : t .captured ≡ replicate listEntriesLength 0
+  pub arguments : t .arguments ≡ replicate listEntriesLength 0
   pub work : Emptied (t .work)
 
 -- the records are trees, and nothing is known of them yet

@@ -1,5 +1,5 @@
 // The pass over lent tables: the fresh run and the settled run.
-use tree::Checked;
+use checks::Checked;
 use visits::run::run_with_scope;
 use work::BINDERS;
 use work::CAPTURES;
@@ -16,7 +16,7 @@ ghost use mathlib.Core.Bool.{true};
 ghost use Prim.Native.Nat.{_-_, _≤_};
 ghost use mathlib.Core.Option.{none};
 ghost use lib.ListN.{length, replicate};
-ghost use Rattle.tree.specs.Answer.{refusalOf};
+ghost use Rattle.checks.specs.Answer.{refusalOf};
 ghost use Rattle.tree.specs.Starts.{TellsStarts};
 ghost use Rattle.pass.specs.Run.{Fresh, Settled, Answers, workLength, zeros, lengthsFit, fitting, freshOutcome, settledOutcome};
 ghost use Rattle.work.specs.Coded.{secondOf};
@@ -25,7 +25,7 @@ ghost use Rattle.analysis.specs.Steps.{firstIn, outcomeBy, left, zeroed,
 
 pub const FACTS: usize = 81920;
 
-pub const ITEMS: usize = 53248;
+pub const LIST_ENTRIES: usize = 53248;
 
 // What an operation answers: that the tables hold the facts, or a refusal's number and record.
 pub enum Answer {
@@ -49,10 +49,10 @@ pub fn fit(
     if facts.len() != FACTS {
         return false;
     }
-    if captured.len() != ITEMS {
+    if captured.len() != LIST_ENTRIES {
         return false;
     }
-    if arguments.len() != ITEMS {
+    if arguments.len() != LIST_ENTRIES {
         return false;
     }
     work.len() == WORK
@@ -119,7 +119,7 @@ fn clear_part(work: &mut [u32], start: usize, end: usize)
     table::clear(&mut work[start..end]);
 }
 
-// All of a work table in which n records have entries. Those of other records are zero already.
+// All of a work table in which n records have entries. Those of other records are zero already (docs/SPEED.md, 50).
 fn clear_work(work: &mut [u32], n: usize)
     requires { ⌜ (length (now work) ≡ workLength) × Rested n (now work) ⌝ }
     ensures { λ _. ⌜ now (work .exit) ≡ replicate workLength 0 ⌝ }
@@ -147,8 +147,8 @@ fn clear_after(
     }
 }
 
-// What a run starts without: the hints of both maps, and the entries, of which n records have some. Those of other records are zero already. Rows and
-// captures of an empty map are not looked at.
+// What a run starts without: the hints of both maps, and the entries, of which n records have some. Those of other records are zero already
+// (docs/SPEED.md, 50). Rows and captures of an empty map are not looked at.
 fn clear_names(work: &mut [u32], n: usize)
     requires { ⌜ (length (now work) ≡ workLength) × Rested n (now work) ⌝ }
     ensures { λ _. ⌜ now (work .exit) ≡ namesCleared (now (work .entry)) ⌝ }
@@ -251,7 +251,7 @@ fn run_listed(
     requires { ⌜ Blank (tables (now facts) (now captured) (now arguments) (now work)) ⌝ }
     ensures { λ r. ⌜ Checks (outcomeBy twice) (now (classes .entry)) (now (records .entry)) (outcomeOf r (now (facts .exit)) (now (captured .exit)) (now (arguments .exit)) (now (work .exit))) ⌝ }
 {
-    let a = answer_of(tree::check(records, classes.len(), tops));
+    let a = answer_of(checks::check(records, classes.len(), tops));
     let Answer::Accepted = a else {
         return a;
     };
@@ -265,7 +265,7 @@ fn run_listed(
 const FEW: usize = 512;
 
 // The table of where the trees start has one of two sizes: clearing the larger one shows in the time of a small script. So the runs are called in
-// two places.
+// two places (docs/SPEED.md, 52).
 fn run_checked(
     records: &[u32],
     classes: &[u8],

@@ -23,7 +23,7 @@ nineIn (mentions m ∷ l) = nineIn l
 nineIn (ends i xs sc ∷ l) = nineIn l
 
 -- 10, "more than 4,096 captured entries over all lambdas": the lambda whose list, in order of lambda ends, passes the limit. A lambda's list has one
--- item for each name in scope around it that is none of its parameters (xs), if an inner lambda has by then mentioned the innermost binder of that name.
+-- entry for each name in scope around it that is none of its parameters (xs), if an inner lambda has by then mentioned the innermost binder of that name.
 
 abbrev pub hasName : ℕ → List Ident → Bool
 hasName x [] = false

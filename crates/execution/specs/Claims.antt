@@ -11,15 +11,15 @@ use Rattle.tree.specs.Accepted.{Accepted}
 use Rattle.semantic.specs.Rows.{Row}
 use Rattle.pass.specs.State.{State}
 use Rattle.pass.specs.Run.{fresh, settled}
-use Rattle.pass.specs.TailPosition.{CallsRecorded}
+use Rattle.execution.specs.Calls.{CallsRecorded}
 use Rattle.pass.specs.Bare.{bares}
 use Rattle.r7rs.specs.Binding.{events}
 use Rattle.r7rs.specs.Tail.{callsIn}
-use Rattle.r7rs.specs.Expansion.{keys}
+use Rattle.r7rs.specs.Laws.Expansion.{keys}
 use Rattle.r7rs.specs.Alike.{RunAlike}
 use Rattle.r7rs.specs.Run.{plain}
-use Rattle.execution.specs.Slot.{slots}
-use Rattle.execution.specs.Lock.{Lockstep}
+use Rattle.lockstep.specs.Slot.{slots}
+use Rattle.lockstep.specs.Lock.{Lockstep}
 use Rattle.execution.specs.Premises.{FreshAccepts, SettledAccepts, Premises}
 use Rattle.execution.specs.References.{Referred, LambdasMade, DefinesNamed, UsesCounted, freshReference, freshBinder, settledReference, settledBinder}
 use Rattle.execution.specs.Acceptance.{nineIn, tenIn, secondIn}

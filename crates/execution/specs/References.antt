@@ -16,7 +16,7 @@ use Rattle.semantic.specs.declared.IdentifierStatus.the-variants.{Global, Local
 use Rattle.pass.specs.Read.{isPrelude}
 use Rattle.r7rs.specs.Binding.{Binder, Mention, events, mentionsIn, bindersIn, lambdasIn, meant, isInner}
 use Rattle.r7rs.specs.Bottom.{definesOf, bottomEntry}
-use Rattle.execution.specs.Facts.{rowOf}
+use Rattle.lockstep.specs.Facts.{rowOf}
 
 -- what a fact says of a name
 pub record Reference : Type 0 where
@@ -91,8 +91,8 @@ globalReference prelude layer (some d) = reference Global (d .id) 1 NONE
 globalReference prelude layer none = reference (cond prelude Global Free) NONE layer NONE
 
 module _ (classes : List ℕ) (ts : Trees) where
-  abbrev pub unbound : Mention → Reference
-  unbound m = globalReference (isPrelude classes (m .ident .name)) (m .place .layer) (bottomEntry ts (m .ident .name) (m .ident .at))
+  abbrev pub bottomReference : Mention → Reference
+  bottomReference m = globalReference (isPrelude classes (m .ident .name)) (m .place .layer) (bottomEntry ts (m .ident .name) (m .ident .at))
 
   abbrev pub allMentions : List Mention
   allMentions = mentionsIn (events ts)
@@ -104,7 +104,7 @@ module _ (classes : List ℕ) (ts : Trees) where
   freshKind before m b = cond (isInner m b) Captured (cond (any (isInnerOf b) before && (isSetOf b m || any (isSetOf b) before)) HeapAllocated Local)
 
   abbrev pub freshBound : List Mention → Mention → Option Binder → Reference
-  freshBound before m none = unbound m
+  freshBound before m none = bottomReference m
   freshBound before m (some b) = reference (freshKind before m b) (b .ident .id) (m .place .layer) (b .slot)
 
   abbrev pub freshReference : List Mention → Mention → Reference
@@ -127,7 +127,7 @@ module _ (classes : List ℕ) (ts : Trees) where
   settledInner before m b = reference (cond (isSetByEnd before m b) HeapAllocated Captured) (b .ident .id) (m .place .layer) NONE
 
   abbrev pub settledBound : List Mention → Mention → Option Binder → Reference
-  settledBound before m none = unbound m
+  settledBound before m none = bottomReference m
   settledBound before m (some b) = cond (isInner m b) (settledInner before m b) (settledOwn (isShared b allMentions) m b)
 
   abbrev pub settledReference : List Mention → Mention → Reference

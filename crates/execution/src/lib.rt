@@ -1,1 +1,1 @@
-// The slot machine, and what is claimed of the facts: they stand in specs/.
+// What is claimed of the facts, and that it holds: both stand in specs/.

@@ -1,14 +1,12 @@
 -- No contract can say which bytes a call of C's reads. So each of these is of some bytes.
 use Prim.Native.Nat.{ℕ, _≤_}
-use mathlib.Core.Bool.{Bool, true}
+use mathlib.Core.Bool.{true}
 use mathlib.Core.List.{List, _++_}
-use mathlib.Core.Path.{_≡_, subst}
 use lib.ListN.{length, take}
 use Rattle.reading.specs.Held.{Holds, Fed}
 use Rattle.reading.specs.declared.reader.Reading.{Reading}
-use Rattle.pass.specs.Run.{Tables}
-use Rattle.listing.specs.Listing.{textLength, allFit, Prints}
-use Rattle.listing.specs.Answered.{Answered}
+use Rattle.listing.specs.Listing.{Prints}
+use Rattle.listing.specs.Answered.{TextIn}
 
 -- some bytes more were read
 pub record More (r : Reading) (L T R : List ℕ) (r′ : Reading) (L′ T′ R′ : List ℕ) : Type 0 where
@@ -29,10 +27,5 @@ pub record Printed (d : List ℕ) (n : ℕ) : Type 0 where
 pub read-on : {r r′ : Reading} {L T R L′ T′ R′ : List ℕ} → Read r L T R → More r L T R r′ L′ T′ R′ → Read r′ L′ T′ R′
 read-on v w = record { bytes = v .bytes ++ w .bytes; holds = w .fed .is (v .bytes) (v .holds) }
 
-pub printed-of : {r : Reading} {L T R d d′ : List ℕ} {t t′ : Tables} {n : ℕ} → Read r L T R → Answered r T R t d t′ d′ n → textLength ≤ length d → allFit T R t ≡ true
-    → Printed d′ n
-printed-of {L = L} {d′ = d′} {n = n} v w h e = record {
-  bytes = v .bytes;
-  is = subst (λ (fit : Bool). Prints fit (v .bytes) (take n d′)) e (w .is h (v .bytes) L (v .holds));
-  inside = w .inside;
-}
+pub printed-of : {r : Reading} {L T R d : List ℕ} {n : ℕ} → Read r L T R → TextIn r T R d n → Printed d n
+printed-of {L = L} v w = record { bytes = v .bytes; is = w .is (v .bytes) L (v .holds); inside = w .inside }

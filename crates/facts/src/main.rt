@@ -1,20 +1,13 @@
 // Reads the records of a script from standard input, and prints the facts of a fresh run.
-use analysis::FACTS;
-use analysis::ITEMS;
 use listing::CLASS_TABLE;
 use listing::RECORD_TABLE;
 use listing::TEXT;
-use listing::answer;
+use listing::text;
 use reading::reader::Reading;
 use reading::reader::feed;
 use reading::reader::start;
-use work::WORK;
-ghost use mathlib.Core.Bool.{true};
-ghost use mathlib.Core.Path.{_≡_};
 ghost use Prim.Native.Nat.{_≤_};
 ghost use lib.ListN.{length};
-ghost use Rattle.analysis.specs.Answer.{tables};
-ghost use Rattle.listing.specs.Listing.{textLength, allFit};
 ghost use Rattle.facts.specs.Input.{More, Read, Printed};
 
 // What was read, and how many bytes came last.
@@ -51,42 +44,18 @@ fn read_all(line: &mut [u8], classes: &mut [u8], records: &mut [u32]) -> Reading
     r
 }
 
-fn text_of_input(
-    line: &mut [u8],
-    classes: &mut [u8],
-    records: &mut [u32],
-    facts: &mut [u32],
-    captured: &mut [u32],
-    arguments: &mut [u32],
-    work: &mut [u32],
-    out: &mut [u8],
-) -> usize
-    requires { ⌜ (92 ≤ length (now line)) × (textLength ≤ length (now out)) ⌝ }
-    requires { ⌜ allFit (now classes) (now records) (tables (now facts) (now captured) (now arguments) (now work)) ≡ true ⌝ }
+fn text_of_input(out: &mut [u8; TEXT]) -> usize
     ensures { λ n. ⌜ Printed (now (out .exit)) n ⌝ }
 {
-    let r = read_all(line, classes, records);
-    answer(r, classes, records, facts, captured, arguments, work, out)
-}
-
-fn main() {
     let mut line = [0u8; 92];
     let mut classes = [0u8; CLASS_TABLE];
     let mut records = [0u32; RECORD_TABLE];
-    let mut facts = [0u32; FACTS];
-    let mut captured = [0u32; ITEMS];
-    let mut arguments = [0u32; ITEMS];
-    let mut work = [0u32; WORK];
+    let r = read_all(&mut line, &mut classes, &mut records);
+    text(r, &classes, &records, out)
+}
+
+fn main() {
     let mut out = [0u8; TEXT];
-    let n = text_of_input(
-        &mut line,
-        &mut classes,
-        &mut records,
-        &mut facts,
-        &mut captured,
-        &mut arguments,
-        &mut work,
-        &mut out,
-    );
+    let n = text_of_input(&mut out);
     io::write_all(1, &out[..n]);
 }

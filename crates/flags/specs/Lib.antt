@@ -1,3 +1,3 @@
 pub mod Flags
 pub mod Part
-pub mod PartLaws
+pub mod Laws

@@ -10,7 +10,7 @@ ghost use Rattle.flags.specs.Part.{Room, atPart};
 ghost use Rattle.flags.specs.declared.Part.the-variants.{NotTail, SameTail, LetBody, Body, Argument, Next, Head, InBegin, InAnd, Child, DefineBody};
 ghost use Rattle.pass.specs.Visit.{topFlags};
 
-// `function_context`: the record of the innermost lambda, counted from 1, and its id. With no lambda around, 0 and NONE.
+// `function_context`: the record of the innermost lambda, counted from 1, and its id. With no lambda around, 0 and NONE (docs/DECISIONS.md, 34).
 pub struct Around {
     pub code: u32,
     pub id: u32,
@@ -70,7 +70,8 @@ impl Flags {
         }
     }
 
-    // This and the next name every field: a copy of the whole is loaded in wider words than it was just stored in, and waits for them.
+    // This and the next name every field: a copy of the whole is loaded in wider words than it was just stored in, and waits for them
+    // (docs/SPEED.md, 49).
     fn not_tail(self) -> Self
         ensures { λ r. ⌜ r ≡ atPart NotTail self ⌝ }
     {

@@ -7,16 +7,15 @@ use native.Mathlib.Omega.{arith}
 use lib.ListN.{length}
 use lib.Dec.{eqb}
 use borrow.Author.Tests.{ne-eqb}
-use Rattle.tree.specs.Record.{records}
-use Rattle.tree.specs.RecordLaws.{nth}
+use Rattle.tree.specs.Record.{records, nth}
 use Rattle.tree.specs.Tree.{Node, Tree, Trees, ident, const, if, letin, define, lambda, sequence, call, set!, nil, cons, begins, ands, whens, many}
 use Rattle.tree.specs.Core.{core, peel}
-use Rattle.tree.specs.CoreLaws.{core-peel}
-use Rattle.tree.specs.Parts.{own}
-use Rattle.tree.specs.StandsLaws.{root, root-form}
-use Rattle.tree.specs.StandsParts.{call-parts}
+use Rattle.tree.specs.Laws.Core.{core-peel}
+use Rattle.tree.specs.Laws.Parts.{own}
+use Rattle.tree.specs.Laws.Stands.{root, root-form}
+use Rattle.tree.specs.Laws.Stands.Parts.{call-parts}
 use Rattle.tree.specs.Stands.{Stands}
-use Rattle.tree.specs.StandsForms.{ident-of}
+use Rattle.tree.specs.Laws.Stands.Forms.{ident-of}
 use Rattle.semantic.specs.Information.{NONE}
 use Rattle.semantic.specs.Rows.{Blank, CallSite, rowWidth, putRow}
 use Rattle.semantic.specs.Kinds.{refersIn}
@@ -28,14 +27,14 @@ use Rattle.pass.specs.Read.{span}
 use Rattle.pass.specs.Visit.{isSelf, callKind, nodeSpan, callSite, callFact, clearContext}
 use Rattle.pass.specs.Run.{rowsMost, factsLength}
 use Rattle.work.specs.Passes.{inContext}
-use Rattle.work.specs.WorksLaws.{context-is}
+use Rattle.work.specs.Laws.Works.{context-is}
 use Rattle.work.specs.Tied.{raw, Tied}
 use Rattle.work.specs.declared.Pass.{Pass}
 use Rattle.names.specs.Facts.{spanOf}
 use Rattle.forms.specs.Contract.{Fits, ClearsContext}
-use Rattle.forms.specs.FitsLaws.{fact-inside, facts-length, tied-insert, tied-context, told}
+use Rattle.forms.specs.Laws.Fits.{fact-inside, facts-length, tied-insert, tied-context, told}
 use Rattle.forms.specs.Calls.{constantRecord, TellsSelf, Called, MakesCall}
-use Rattle.work.specs.KnownLaws.{known-ident}
+use Rattle.work.specs.Laws.Known.{known-ident}
 use Rattle.walk.specs.Contract.{SomeTree, Reaches}
 use Rattle.forms.proofs.Idents.{span-is}
 use Rattle.forms.proofs.Heads.{reached}
@@ -58,12 +57,12 @@ module _ (at : ℕ) (p : Pass) (F : List ℕ) where
         rw (q, z, told (f .tied) (f .good .rows) at h refersIn k, y);
   }
 
-  pub cleared : {b : Bool} → TellsSelf at p F b → b ≡ true → {q : Pass} → q ≡ inContext NONE p → ClearsContext at p F q
+  pub cleared : {b : Bool} → TellsSelf at p F b → b ≡ true → ClearsContext at p F (inContext NONE p)
   unfolding clearContext
-  cleared {b} t e {q} i = record {
+  cleared {b} t e = record {
     is = λ rs C A w s x h f.
         let z : isSelf s x ≡ true = sym (t .is rs C A w s x h f) ∙ e in
-        rw (z, i) (tied-context NONE (f .tied));
+        rw z (tied-context NONE (f .tied));
   }
 
   pub uncleared : {b : Bool} → TellsSelf at p F b → b ≡ false → ClearsContext at p F p

@@ -7,42 +7,41 @@ use mathlib.Core.Path.{_≡_, refl, ap, sym, subst, _∙_}
 use native.Mathlib.Omega.{arith}
 use lib.ListN.{length}
 use lib.Dec.{eqb, ltb}
-use Rattle.tree.specs.Record.{records}
-use Rattle.tree.specs.RecordLaws.{nth}
+use Rattle.tree.specs.Record.{records, nth}
 use Rattle.tree.specs.Tree.{Ident, Node, Tree, Trees, ident, const, if, letin, define, lambda, sequence, call, set!, nil, cons, many, size}
 use Rattle.tree.specs.Core.{core, cores, peel}
-use Rattle.tree.specs.CoreLaws.{by-peel}
-use Rattle.tree.specs.Parts.{own}
+use Rattle.tree.specs.Laws.Core.{by-peel}
+use Rattle.tree.specs.Laws.Parts.{own}
 use Rattle.tree.specs.Stands.{Stands, StandAll}
-use Rattle.tree.specs.StandsLaws.{root, root-form}
-use Rattle.tree.specs.StandsParts.{call-parts}
-use Rattle.tree.specs.StandsForms.{ident-of}
+use Rattle.tree.specs.Laws.Stands.{root, root-form}
+use Rattle.tree.specs.Laws.Stands.Parts.{call-parts}
+use Rattle.tree.specs.Laws.Stands.Forms.{ident-of}
 use Rattle.semantic.specs.Information.{markLastUsage}
 use Rattle.semantic.specs.Rows.{Blank, rowWidth, putRow}
 use Rattle.semantic.specs.Amend.{amended}
 use Rattle.semantic.specs.Leaves.{Amends}
 use Rattle.pass.specs.State.{State, entryAt, newest, depth}
 use Rattle.pass.specs.Lambda.{markLast}
-use Rattle.pass.specs.Visit.{lastUseOf, sameIdent, markArgument, markArguments, markIfTail, endCall}
-use Rattle.pass.specs.Laws.Sound.Calls.{each-marks}
+use Rattle.pass.specs.Visit.{lastUseOf, sameIdent, markArgument, markArguments, markIfTail, closeCall}
+use Rattle.pass_laws.specs.Laws.Sound.Calls.{each-marks}
 use Rattle.pass.specs.Run.{rowsMost}
 use Rattle.work.specs.Known.{Known}
 use Rattle.work.specs.Coded.{lastCode, recordIn, recordOf}
 use Rattle.work.specs.Works.{Works}
 use Rattle.work.specs.Leaves.{Tells, LoadsEntry}
-use Rattle.work.specs.WorksLaws.{depth-is}
-use Rattle.work.specs.ScopeLaws.{KnownAt, newest-known}
+use Rattle.work.specs.Laws.Works.{depth-is}
+use Rattle.work.specs.Laws.Scope.{KnownAt, newest-known}
 use Rattle.work.specs.Tied.{raw, Tied, Good}
-use Rattle.work.specs.GoodLaws.{Sized, sized-same, sized-then, good-each}
+use Rattle.work.specs.Laws.Good.{Sized, sized-same, sized-then, good-each}
 use Rattle.work.specs.declared.Pass.{Pass}
 use Rattle.work.specs.declared.entries.Entry.{Entry as Coded}
 use Rattle.work.specs.declared.scope.Binder.{Binder}
 use Rattle.walk.specs.Contract.{SomeTree, StepsOver, Reaches}
-use Rattle.forms.specs.Contract.{Fits, CallFits, EndsCall}
-use Rattle.forms.specs.FitsLaws.{fact-inside, tied-amend}
-use Rattle.forms.specs.GoodLaws.{sized-last}
+use Rattle.forms.specs.Contract.{Fits, CallFits, ClosesCall}
+use Rattle.forms.specs.Laws.Fits.{fact-inside, tied-amend}
+use Rattle.forms.specs.Laws.Good.{sized-last}
 use Rattle.forms.specs.Calls.{Mentioned, IsLast, ArgumentFits, MarksArgument, ArgumentsFit, MarksArguments, MarksIfTail, Called, MakesCall}
-use Rattle.work.specs.KnownLaws.{known-ident}
+use Rattle.work.specs.Laws.Known.{known-ident}
 use Rattle.forms.proofs.Idents.{name-is, id-is}
 use Rattle.forms.proofs.Trees.{Walks, Left, Head, left-all, left-done, left-head, step-few}
 use Rattle.work.specs.declared.scope.Binder.the-variants as binder
@@ -297,10 +296,10 @@ module _ (rs : List ℕ) (at first k : ℕ) (p : Pass) (F w : List ℕ) where
       fits = after-marks (a .stands) (a .place) (a .count) (a .fits);
     }
 
-    pub call-ends : {tail : Bool} {counter : ℕ} {F″ : List ℕ} → b ≡ (tail && ltb 1 (p .scope .depth)) → MakesCall rs at b counter p F′ F″
-        → EndsCall rs at first k tail counter p F w F″
-    unfolding endCall
-    call-ends {tail} {counter} {F″} e d = record {
+    pub call-closes : {tail : Bool} {counter : ℕ} {F″ : List ℕ} → b ≡ (tail && ltb 1 (p .scope .depth)) → MakesCall rs at b counter p F′ F″
+        → ClosesCall rs at first k tail counter p F w F″
+    unfolding closeCall
+    call-closes {tail} {counter} {F″} e d = record {
       is = λ N C A s n h es f a q c t l i.
           let z : b ≡ (f .tail && ltb 1 (depth s)) = e ∙ rw (t, depth-is (i .tied .works)) in
           rw (← z, ← l) (d .is N C A w _ n h es a (after-marks a q c i));

@@ -1,36 +1,34 @@
 -- The lambda defines among trees, over states.
 use Prim.Native.Nat.{ℕ, _+_, _-_, _≤_, _<_}
 use mathlib.Core.List.{List}
-use mathlib.Core.Bool.{Bool, true, false}
+use mathlib.Core.Bool.{true, false}
 use mathlib.Core.Path.{_≡_, refl, ap, sym, subst, _∙_}
 use native.Mathlib.Omega.{arith}
 use lib.ListN.{length}
-use Rattle.tree.specs.Record.{records}
-use Rattle.tree.specs.RecordLaws.{nth}
-use Rattle.tree.specs.Tree.{Tree, Trees, ident, const, if, letin, define, lambda, sequence, call, set!, many}
+use Rattle.tree.specs.Record.{records, nth}
+use Rattle.tree.specs.Tree.{Tree, Trees, many}
 use Rattle.tree.specs.Core.{core, cores, peel}
-use Rattle.tree.specs.CoreLaws.{by-peel}
-use Rattle.tree.specs.Parts.{own}
+use Rattle.tree.specs.Laws.Core.{by-peel}
+use Rattle.tree.specs.Laws.Parts.{own}
 use Rattle.tree.specs.Stands.{Stands, StandAll}
-use Rattle.tree.specs.StandsLaws.{root, root-form}
-use Rattle.tree.specs.StandsParts.{define-parts}
-use Rattle.tree.specs.StandsForms.{define-of}
+use Rattle.tree.specs.Laws.Stands.{root, root-form}
+use Rattle.tree.specs.Laws.Stands.Parts.{define-parts}
+use Rattle.tree.specs.Laws.Stands.Forms.{define-of}
 use Rattle.semantic.specs.Information.{NONE}
 use Rattle.semantic.specs.declared.IdentifierStatus.{IdentifierStatus}
 use Rattle.pass.specs.State.{State}
-use Rattle.pass.specs.Visit.{isLambda}
-use Rattle.pass.specs.Sound.{Grows}
-use Rattle.pass.specs.Laws.Sound.Rooms.{grows-none, grows-wide, grows-define}
-use Rattle.work.specs.WorksLaws.{names-many}
+use Rattle.pass.specs.Visit.{isLambda, enterChild, enterChildren}
+use Rattle.pass_laws.specs.Laws.Sound.Growth.{grows-child}
+use Rattle.pass_laws.specs.Laws.Cases.{by-child}
+use Rattle.work.specs.Laws.Works.{names-many}
 use Rattle.work.specs.Tied.{raw, Tied, Good}
 use Rattle.work.specs.declared.Pass.{Pass}
 use Rattle.walk.specs.Contract.{SomeTree, SomeTreeOf, StepsOver, TellsBody, Reaches}
 use Rattle.walk.specs.declared.body.Body.{Body as Says}
 use Rattle.names.specs.Contract.{Room, Defined, DefinesBy}
 use Rattle.forms.specs.Contract.{Fits, NamesRoom, ChildFits, EntersChild, ChildrenFit, EntersChildren}
-use Rattle.forms.specs.Defines.{enterIf, enterOne, enterEach}
-use Rattle.forms.specs.GoodLaws.{good-define}
-use Rattle.work.specs.KnownLaws.{known-ident}
+use Rattle.forms.specs.Laws.Good.{good-define}
+use Rattle.work.specs.Laws.Known.{known-ident}
 use Rattle.forms.proofs.Trees.{Walks, Left, Head, left-all, left-done, left-head, step-few}
 use Rattle.forms.proofs.DefinesCase.{define-here}
 
@@ -42,18 +40,10 @@ module _ (classes rs : List ℕ) (at : ℕ) (kind : IdentifierStatus) (p : Pass)
 
   pub no-define : (nth rs at .form ≡ 5 → ⊥) → EntersChild classes rs at kind p F w p F w
   unfolding own
-  no-define out = record { is = λ C A s t a f. go C A s t (λ e. out (root-form a ∙ e)) (f .tied) }
-    where
-      go : (C A : List ℕ) (s : State) (t : Tree) → (own t .form ≡ 5 → ⊥) → Tied (raw p F C A w) s → Tied (raw p F C A w) (enterOne classes kind t s)
-      go C A s (ident x) out k = k
-      go C A s (const n q) out k = k
-      go C A s (if n a b c) out k = k
-      go C A s (letin n xs es b) out k = k
-      go C A s (define n x b) out k = absurd (out refl)
-      go C A s (lambda n xs b) out k = k
-      go C A s (sequence n es) out k = k
-      go C A s (call n h es) out k = k
-      go C A s (set! n x e) out k = k
+  no-define out = record {
+    is = λ C A s t a f.
+        by-child classes (λ u g. (own u .form ≡ 5 → ⊥) → Tied (raw p F C A w) (g s)) kind (λ u o. f .tied) (λ n x b l o. absurd (o refl)) t (λ e. out (root-form a ∙ e));
+  }
 
   module _ (five : nth rs at .form ≡ 5) where
     pub child-body : ChildFits (length classes) rs at p F w → SomeTreeOf (length classes) rs (at + 2)
@@ -85,45 +75,20 @@ module _ (classes rs : List ℕ) (at : ℕ) (kind : IdentifierStatus) (p : Pass)
 
 -- Trees in a row, each as what it is
 
-pub enters-walk : (classes : List ℕ) (kind : IdentifierStatus) → Walks (λ ts. enterEach classes kind (cores ts)) (λ t. enterOne classes kind (core t))
-unfolding enterEach
+pub enters-walk : (classes : List ℕ) (kind : IdentifierStatus) → Walks (λ ts. enterChildren classes kind (cores ts)) (λ t. enterChild classes kind (core t))
+unfolding enterChildren
 enters-walk classes kind = record { none = λ s. refl; more = λ t ts s. refl }
 
 module _ (classes : List ℕ) (kind : IdentifierStatus) where
-  good-one : {N : ℕ} {rs : List ℕ} {at : ℕ} {s : State} (t : Tree) → Stands N rs at t → Good rs s → Good rs (enterOne classes kind t s)
-  good-one (ident x) a g = g
-  good-one (const n q) a g = g
-  good-one (if n u b c) a g = g
-  good-one (letin n xs es b) a g = g
-  good-one {rs = rs} {s = s} (define n x b) a g = go (isLambda b)
-    where
-      go : (l : Bool) → Good rs (enterIf classes kind l x b s)
-      go true = good-define classes kind NONE x b (known-ident (define-parts a .name)) g
-      go false = g
-  good-one (lambda n xs b) a g = g
-  good-one (sequence n es) a g = g
-  good-one (call n h es) a g = g
-  good-one (set! n x e) a g = g
-
-  grows-one : (t : Tree) (s : State) → Grows 0 1 s (enterOne classes kind t s)
-  grows-one (ident x) s = grows-wide (omega arith) grows-none
-  grows-one (const n q) s = grows-wide (omega arith) grows-none
-  grows-one (if n u b c) s = grows-wide (omega arith) grows-none
-  grows-one (letin n xs es b) s = grows-wide (omega arith) grows-none
-  grows-one (define n x b) s = go (isLambda b)
-    where
-      go : (l : Bool) → Grows 0 1 s (enterIf classes kind l x b s)
-      go true = grows-define classes kind NONE x b s
-      go false = grows-wide (omega arith) grows-none
-  grows-one (lambda n xs b) s = grows-wide (omega arith) grows-none
-  grows-one (sequence n es) s = grows-wide (omega arith) grows-none
-  grows-one (call n h es) s = grows-wide (omega arith) grows-none
-  grows-one (set! n x e) s = grows-wide (omega arith) grows-none
+  good-one : {N : ℕ} {rs : List ℕ} {at : ℕ} {s : State} (t : Tree) → Stands N rs at t → Good rs s → Good rs (enterChild classes kind t s)
+  good-one {N} {rs} {at} {s} t a g =
+      by-child classes (λ u h. Stands N rs at u → Good rs (h s)) kind (λ u a. g)
+      (λ n x b l a. good-define classes kind NONE x b (known-ident (define-parts a .name)) g) t a
 
 -- the state of the loop: i trees are done, and the next is at the record `at`
 pub record Going (classes rs : List ℕ) (first k : ℕ) (kind : IdentifierStatus) (p : Pass) (F w : List ℕ) (at i : ℕ) (q : Pass) (F′ w′ : List ℕ) : Type 0 where
   pub is : (C A : List ℕ) (s : State) (es : Trees) → StandAll (length classes) rs first es → k ≡ many es → Fits rs (raw p F C A w) s
-      → Left (enters-walk classes kind) (length classes) rs at (k - i) (raw q F′ C A w′) (enterEach classes kind (cores es) s)
+      → Left (enters-walk classes kind) (length classes) rs at (k - i) (raw q F′ C A w′) (enterChildren classes kind (cores es) s)
 
 module _ {classes rs : List ℕ} {first k : ℕ} {kind : IdentifierStatus} {p : Pass} {F w : List ℕ} where
   pub going-starts : Going classes rs first k kind p F w first 0 p F w
@@ -137,10 +102,10 @@ module _ {classes rs : List ℕ} {first k : ℕ} {kind : IdentifierStatus} {p : 
       -- what the next tree leaves
       left : {q′ : Pass} {F″ w″ C A : List ℕ} {out : State} (l : Left (enters-walk classes kind) (length classes) rs at (k - i) (raw q F′ C A w′) out)
           (t : Head (enters-walk classes kind) (length classes) rs at (k - i) (l .s) out) {r : ℕ} → Reaches rs at r → EntersChild classes rs r kind q F′ w′ q′ F″ w″
-          → Fits rs (raw q′ F″ C A w″) (enterOne classes kind (core (t .t)) (l .s))
+          → Fits rs (raw q′ F″ C A w″) (enterChild classes kind (core (t .t)) (l .s))
       left {C = C} {A} l t c d =
           let u = c .is (length classes) (t .t) (t .stands) in
-          subst (Fits rs _) (sym (by-peel (λ (v : Tree). enterOne classes kind v (l .s)) (λ m. refl) (t .t)))
+          subst (Fits rs _) (sym (by-peel (λ (v : Tree). enterChild classes kind v (l .s)) (λ m. refl) (t .t)))
           (record { good = good-one classes kind (peel (t .t)) u (l .fits .good); tied = d .is C A (l .s) (peel (t .t)) u (l .fits) })
 
       pub going-goes : {n r : ℕ} {q′ : Pass} {F″ w″ : List ℕ} → Reaches rs at r → EntersChild classes rs r kind q F′ w′ q′ F″ w″ → StepsOver rs at (k - (i + 1)) n
@@ -149,15 +114,15 @@ module _ {classes rs : List ℕ} {first k : ℕ} {kind : IdentifierStatus} {p : 
         is = λ C A s es a b f.
             let l = m .is C A s es a b f in
             let t = left-head (enters-walk classes kind) (length classes) rs l (omega arith) in
-            subst (λ (j : ℕ). Left (enters-walk classes kind) (length classes) rs (at + n) j (raw q′ F″ C A w″) (enterEach classes kind (cores es) s)) (omega arith)
+            subst (λ (j : ℕ). Left (enters-walk classes kind) (length classes) rs (at + n) j (raw q′ F″ C A w″) (enterChildren classes kind (cores es) s)) (omega arith)
             (t .next n _ (subst (λ (j : ℕ). StepsOver rs at j n) (omega arith) x) (left l t c d));
       }
 
       module _ (a : ChildrenFit (length classes) rs first k p F w) where
-        here : Left (enters-walk classes kind) (length classes) rs at (k - i) (raw q F′ (a .captured) (a .arguments) w′) (enterEach classes kind (cores (a .es)) (a .s))
+        here : Left (enters-walk classes kind) (length classes) rs at (k - i) (raw q F′ (a .captured) (a .arguments) w′) (enterChildren classes kind (cores (a .es)) (a .s))
         here = m .is (a .captured) (a .arguments) (a .s) (a .es) (a .stand) (a .count) (a .fits)
 
-        tree-here : Head (enters-walk classes kind) (length classes) rs at (k - i) (here .s) (enterEach classes kind (cores (a .es)) (a .s))
+        tree-here : Head (enters-walk classes kind) (length classes) rs at (k - i) (here .s) (enterChildren classes kind (cores (a .es)) (a .s))
         tree-here = left-head (enters-walk classes kind) (length classes) rs here (omega arith)
 
         pub going-fits : {r : ℕ} → Reaches rs at r → NamesRoom q (k - i) → ChildFits (length classes) rs r q F′ w′
@@ -183,5 +148,5 @@ module _ {classes rs : List ℕ} {first k : ℕ} {kind : IdentifierStatus} {p : 
           arith,
           names-many (here .fits .tied .works),
           names-many (left here tree-here c d .tied .works),
-          grows-one classes kind (core (tree-here .t)) (here .s) .live,
+          grows-child classes kind (core (tree-here .t)) (here .s) .live,
         )

@@ -9,18 +9,18 @@ use lib.Seq.{sets}
 use lib.Dec.{ltb}
 use Rattle.tree.specs.Tree.{Ident}
 use Rattle.scope_map.specs.ScopeMap.{Live, newestLayer}
-use Rattle.semantic.specs.Rows.{Item, noItem}
-use Rattle.semantic.specs.declared.Entries.{Entries}
+use Rattle.semantic.specs.Rows.{ListEntry, noListEntry}
+use Rattle.semantic.specs.declared.ListAt.{ListAt}
 use Rattle.pass.specs.State.{State, Facts, Noted, withFacts, entryAt, insert, amend, orKept, noteTen}
 use Rattle.pass.specs.Lists.{capturedMost, storeCaptured, storeArguments, rewriteCaptured}
 use Rattle.pass.specs.Lambda.{markLast, markLasts, closeScope, closeCaptures, endParameters}
-use Rattle.forms.specs.Lambdas.{closed}
+use Rattle.forms.specs.Lambdas.{layersClosed}
 
 -- the lists of a state, and what is noted
 pub record Lists : Type 0 where
-  pub captured : List Item
+  pub captured : List ListEntry
   pub capturedTop : ℕ
-  pub arguments : List Item
+  pub arguments : List ListEntry
   pub argumentsTop : ℕ
   pub noted : Noted
 
@@ -60,7 +60,7 @@ unfolding endParameters amend insert
 put-parameters [] k s = refl
 put-parameters (x ∷ xs) k s = put-parameters xs k _
 
-put-closed : (xs : List Ident) (k : Lists) (s : State) → closed xs (put k s) ≡ put k (closed xs s)
+put-closed : (xs : List Ident) (k : Lists) (s : State) → layersClosed xs (put k s) ≡ put k (layersClosed xs s)
 unfolding closeScope closeCaptures
 put-closed xs k s =
     ap (endParameters xs) (put-lasts (newestLayer (s .scope .names)) k (closeCaptures (closeScope s))) ∙ put-parameters xs k _
@@ -82,15 +82,15 @@ unfolding endParameters amend insert
 parameters-lists [] s = refl
 parameters-lists (x ∷ xs) s = parameters-lists xs _
 
-pub closed-lists : (xs : List Ident) (s : State) → listsOf (closed xs s) ≡ listsOf s
+pub closed-lists : (xs : List Ident) (s : State) → listsOf (layersClosed xs s) ≡ listsOf s
 unfolding closeScope closeCaptures
 closed-lists xs s = parameters-lists xs _ ∙ lasts-lists (newestLayer (s .scope .names)) (closeCaptures (closeScope s))
 
 -- a change of the lists alone, by what they are
 pub commutes : (g : State → State) (h : Lists → Lists) → ((s : State) → g s ≡ put (h (listsOf s)) s) → (xs : List Ident) (s : State)
-    → closed xs (g s) ≡ g (closed xs s)
+    → layersClosed xs (g s) ≡ g (layersClosed xs s)
 commutes g h e xs s =
-    ap (closed xs) (e s) ∙ put-closed xs (h (listsOf s)) s ∙ ap (λ (k : Lists). put (h k) (closed xs s)) (sym (closed-lists xs s)) ∙ sym (e (closed xs s))
+    ap (layersClosed xs) (e s) ∙ put-closed xs (h (listsOf s)) s ∙ ap (λ (k : Lists). put (h k) (layersClosed xs s)) (sym (closed-lists xs s)) ∙ sym (e (layersClosed xs s))
 
 -- the layer closes before or after its last uses are marked
 
@@ -110,7 +110,7 @@ lasts-closed (e ∷ l) s =
 abbrev tenNoted : ℕ → Noted → Noted
 tenNoted i n = record { nine = n .nine; ten = orKept (n .ten) i; second = n .second }
 
-abbrev pub capturedStored : ℕ → List Item → Lists → Lists
+abbrev pub capturedStored : ℕ → List ListEntry → Lists → Lists
 capturedStored i l k =
     let full = ltb capturedMost (k .capturedTop + length l) in
     record {
@@ -121,18 +121,18 @@ capturedStored i l k =
       noted = cond full (tenNoted i (k .noted)) (k .noted);
     }
 
-pub captured-put : (i : ℕ) (l : List Item) (s : State) → storeCaptured i l s ≡ put (capturedStored i l (listsOf s)) s
+pub captured-put : (i : ℕ) (l : List ListEntry) (s : State) → storeCaptured i l s ≡ put (capturedStored i l (listsOf s)) s
 unfolding storeCaptured
 captured-put i l s = go (ltb capturedMost (s .facts .capturedTop + length l)) (cond (ltb capturedMost (s .facts .capturedTop + length l)) (s .facts .captured) (sets (s .facts .captured) (s .facts .capturedTop) l))
   where
-    go : (b : Bool) (c : List Item)
+    go : (b : Bool) (c : List ListEntry)
         → (let t = withFacts (record { rows = s .facts .rows; captured = c; capturedTop = s .facts .capturedTop + length l; arguments = s .facts .arguments; argumentsTop = s .facts .argumentsTop }) s in
         cond b (noteTen i t) t)
         ≡ put (record { captured = c; capturedTop = s .facts .capturedTop + length l; arguments = s .facts .arguments; argumentsTop = s .facts .argumentsTop; noted = cond b (tenNoted i (s .noted)) (s .noted) }) s
     go true c = refl
     go false c = refl
 
-abbrev pub argumentsStored : List Item → Lists → Lists
+abbrev pub argumentsStored : List ListEntry → Lists → Lists
 argumentsStored l k = record {
   captured = k .captured;
   capturedTop = k .capturedTop;
@@ -141,22 +141,22 @@ argumentsStored l k = record {
   noted = k .noted;
 }
 
-pub arguments-put : (l : List Item) (s : State) → storeArguments l s ≡ put (argumentsStored l (listsOf s)) s
+pub arguments-put : (l : List ListEntry) (s : State) → storeArguments l s ≡ put (argumentsStored l (listsOf s)) s
 unfolding storeArguments
 arguments-put l s = refl
 
-pub stored-put : (i : ℕ) (c l : List Item) (s : State) → storeArguments l (storeCaptured i c s) ≡ put (argumentsStored l (capturedStored i c (listsOf s))) s
+pub stored-put : (i : ℕ) (c l : List ListEntry) (s : State) → storeArguments l (storeCaptured i c s) ≡ put (argumentsStored l (capturedStored i c (listsOf s))) s
 stored-put i c l s = ap (storeArguments l) (captured-put i c s) ∙ arguments-put l _
 
-abbrev pub rewritten : Entries → List Item → Lists → Lists
+abbrev pub rewritten : ListAt → List ListEntry → Lists → Lists
 rewritten e l k = record {
-  captured = sets (k .captured) (e .first) (l ++ replicate (e .length - length l) noItem);
+  captured = sets (k .captured) (e .first) (l ++ replicate (e .length - length l) noListEntry);
   capturedTop = k .capturedTop;
   arguments = k .arguments;
   argumentsTop = k .argumentsTop;
   noted = k .noted;
 }
 
-pub rewritten-put : (e : Entries) (l : List Item) (s : State) → rewriteCaptured e l s ≡ put (rewritten e l (listsOf s)) s
+pub rewritten-put : (e : ListAt) (l : List ListEntry) (s : State) → rewriteCaptured e l s ≡ put (rewritten e l (listsOf s)) s
 unfolding rewriteCaptured
 rewritten-put e l s = refl

@@ -1,30 +1,28 @@
 -- Defines, over states.
-use Prim.Native.Nat.{ℕ, _+_, _-_, _<_}
+use Prim.Native.Nat.{ℕ, _+_, _<_}
 use mathlib.Core.List.{List}
 use mathlib.Core.Bool.{Bool, true, false}
 use mathlib.Core.Path.{_≡_, ap, sym, _∙_}
 use native.Mathlib.Omega.{arith}
 use lib.ListN.{length}
-use Rattle.tree.specs.Record.{records}
-use Rattle.tree.specs.RecordLaws.{nth}
+use Rattle.tree.specs.Record.{records, nth}
 use Rattle.tree.specs.Tree.{Ident, Node, Tree, define}
 use Rattle.tree.specs.Stands.{Stands}
-use Rattle.tree.specs.StandsParts.{NamedParts, define-parts}
+use Rattle.tree.specs.Laws.Stands.Parts.{NamedParts, define-parts}
 use Rattle.semantic.specs.Information.{NONE}
 use Rattle.semantic.specs.declared.IdentifierStatus.the-variants.{Local}
 use Rattle.pass.specs.State.{State, withContext}
 use Rattle.pass.specs.Read.{enterDefine}
-use Rattle.pass.specs.Visit.{isLambda, beforeDefine, afterDefine}
+use Rattle.pass.specs.Visit.{isLambda, openDefine, closeDefine}
 use Rattle.work.specs.Passes.{inContext}
 use Rattle.work.specs.Tied.{raw, Tied, Here}
 use Rattle.work.specs.declared.Pass.{Pass}
 use Rattle.walk.specs.Contract.{bodyOf}
 use Rattle.walk.specs.declared.body.Body.{Body as Says}
 use Rattle.names.specs.Contract.{Room, Defined, DefinesBy}
-use Rattle.forms.specs.Contract.{Fits, DefineFits, BeforeDefine, EntersValue, AfterDefine}
-use Rattle.forms.specs.Defines.{enterValue}
-use Rattle.forms.specs.FitsLaws.{tied-context}
-use Rattle.work.specs.KnownLaws.{known-ident}
+use Rattle.forms.specs.Contract.{Fits, DefineFits, OpensDefine, EntersInnerValue, ClosesDefine, enterInnerValue}
+use Rattle.forms.specs.Laws.Fits.{tied-context}
+use Rattle.work.specs.Laws.Known.{known-ident}
 use Rattle.forms.proofs.Idents.{id-is}
 
 -- the name of a define that stands in its place
@@ -46,16 +44,16 @@ module _ (rs : List ℕ) (at : ℕ) (p : Pass) (F w : List ℕ) where
         → Fits rs (raw p F C A w) s → Tied (raw p′ F′ C A w′) (enterDefine classes Local NONE x t s)
     entered classes {C} {A} {s} {n} {x} {t} a e f = d .is classes t C e .is A s x (define-here (define-parts a) f)
 
-    pub before-lambda : {direct : Bool} {i : ℕ} {q : Pass} → direct ≡ false → b .lambda ≡ true → i ≡ nth rs (at + 1) .id → q ≡ inContext i p′
-        → BeforeDefine rs at direct b p F w q F′ w′
-    before-lambda u l i k = record {
+    pub lambda-define-opens : {direct : Bool} {i : ℕ} → direct ≡ false → b .lambda ≡ true → i ≡ nth rs (at + 1) .id
+        → OpensDefine rs at direct b p F w (inContext i p′) F′ w′
+    lambda-define-opens u l i = record {
       is = λ classes C A s n x t a e f.
           let z : isLambda t ≡ true = sym (ap (λ (c : Says). c .lambda) e) ∙ l in
           let d = define-parts a in
-          rw (u, z, k, id-is (known-ident (d .name)) (d .place) i) (tied-context (x .id) (entered classes a e f));
+          rw (u, z, id-is (known-ident (d .name)) (d .place) i) (tied-context (x .id) (entered classes a e f));
     }
 
-    pub value-entered : b .lambda ≡ false → EntersValue rs at b p F w p′ F′ w′
+    pub value-entered : b .lambda ≡ false → EntersInnerValue rs at b p F w p′ F′ w′
     value-entered l = record {
       is = λ classes C A s n x t a e f.
           let z : isLambda t ≡ false = sym (ap (λ (c : Says). c .lambda) e) ∙ l in
@@ -63,27 +61,26 @@ module _ (rs : List ℕ) (at : ℕ) (p : Pass) (F w : List ℕ) where
     }
 
   module _ {b : Says} where
-    pub before-direct : {direct : Bool} {i : ℕ} {q : Pass} → direct ≡ true → i ≡ nth rs (at + 1) .id → q ≡ inContext i p
-        → BeforeDefine rs at direct b p F w q F w
-    before-direct u i k = record {
+    pub direct-opens : {direct : Bool} {i : ℕ} → direct ≡ true → i ≡ nth rs (at + 1) .id → OpensDefine rs at direct b p F w (inContext i p) F w
+    direct-opens u i = record {
       is = λ classes C A s n x t a e f.
           let d = define-parts a in
-          rw (u, k, id-is (known-ident (d .name)) (d .place) i) (go classes C A s x t (isLambda t) (tied-context (x .id) (f .tied)));
+          rw (u, id-is (known-ident (d .name)) (d .place) i) (go classes C A s x t (isLambda t) (tied-context (x .id) (f .tied)));
     }
       where
         go : (classes C A : List ℕ) (s : State) (x : Ident) (t : Tree) (l : Bool) → Tied (raw (inContext (x .id) p) F C A w) (withContext (x .id) s)
-            → Tied (raw (inContext (x .id) p) F C A w) (beforeDefine classes true l x t s)
+            → Tied (raw (inContext (x .id) p) F C A w) (openDefine classes true l x t s)
         go classes C A s x t true k = k
         go classes C A s x t false k = k
 
-    pub before-value : {direct : Bool} → direct ≡ false → b .lambda ≡ false → BeforeDefine rs at direct b p F w p F w
-    before-value u l = record {
+    pub value-opens : {direct : Bool} → direct ≡ false → b .lambda ≡ false → OpensDefine rs at direct b p F w p F w
+    value-opens u l = record {
       is = λ classes C A s n x t a e f.
           let z : isLambda t ≡ false = sym (ap (λ (c : Says). c .lambda) e) ∙ l in
           rw (u, z) (f .tied);
     }
 
-    pub no-value : b .lambda ≡ true → EntersValue rs at b p F w p F w
+    pub no-value : b .lambda ≡ true → EntersInnerValue rs at b p F w p F w
     no-value l = record {
       is = λ classes C A s n x t a e f.
           let z : isLambda t ≡ true = sym (ap (λ (c : Says). c .lambda) e) ∙ l in
@@ -91,27 +88,27 @@ module _ (rs : List ℕ) (at : ℕ) (p : Pass) (F w : List ℕ) where
     }
 
     -- after the body
-    module _ {p′ : Pass} {F′ w′ : List ℕ} (v : EntersValue rs at b p F w p′ F′ w′) {direct : Bool} {context : ℕ} where
-      pub after-direct : direct ≡ true → {q : Pass} → q ≡ inContext context p′ → AfterDefine rs at direct context b p F w q F′ w′
-      after-direct u k = record {
-        is = λ classes C A s n x t a e f. rw (u, k) (go classes C A s x t (isLambda t) (tied-context context (v .is classes C A s n x t a e f)));
+    module _ {p′ : Pass} {F′ w′ : List ℕ} (v : EntersInnerValue rs at b p F w p′ F′ w′) {direct : Bool} {context : ℕ} where
+      pub direct-closes : direct ≡ true → ClosesDefine rs at direct context b p F w (inContext context p′) F′ w′
+      direct-closes u = record {
+        is = λ classes C A s n x t a e f. rw u (go classes C A s x t (isLambda t) (tied-context context (v .is classes C A s n x t a e f)));
       }
         where
           go : (classes C A : List ℕ) (s : State) (x : Ident) (t : Tree) (l : Bool)
-              → Tied (raw (inContext context p′) F′ C A w′) (withContext context (enterValue classes l x t s))
-              → Tied (raw (inContext context p′) F′ C A w′) (afterDefine classes true l context x t s)
+              → Tied (raw (inContext context p′) F′ C A w′) (withContext context (enterInnerValue classes l x t s))
+              → Tied (raw (inContext context p′) F′ C A w′) (closeDefine classes true l context x t s)
           go classes C A s x t true k = k
           go classes C A s x t false k = k
 
-      pub after-lambda : direct ≡ false → b .lambda ≡ true → {q : Pass} → q ≡ inContext context p′ → AfterDefine rs at direct context b p F w q F′ w′
-      after-lambda u l k = record {
+      pub lambda-define-closes : direct ≡ false → b .lambda ≡ true → ClosesDefine rs at direct context b p F w (inContext context p′) F′ w′
+      lambda-define-closes u l = record {
         is = λ classes C A s n x t a e f.
             let z : isLambda t ≡ true = sym (ap (λ (c : Says). c .lambda) e) ∙ l in
-            rw (u, z, k) (tied-context context (rw z at (v .is classes C A s n x t a e f)));
+            rw (u, z) (tied-context context (rw z at (v .is classes C A s n x t a e f)));
       }
 
-      pub after-value : direct ≡ false → b .lambda ≡ false → AfterDefine rs at direct context b p F w p′ F′ w′
-      after-value u l = record {
+      pub value-closes : direct ≡ false → b .lambda ≡ false → ClosesDefine rs at direct context b p F w p′ F′ w′
+      value-closes u l = record {
         is = λ classes C A s n x t a e f.
             let z : isLambda t ≡ false = sym (ap (λ (c : Says). c .lambda) e) ∙ l in
             rw (u, z) (rw z at (v .is classes C A s n x t a e f));

@@ -5,10 +5,9 @@ use mathlib.Core.Option.{Option, none, some}
 use mathlib.Core.Path.{_≡_, refl, ap, sym, subst, _∙_}
 use native.Mathlib.Omega.{arith}
 use lib.ListN.{length, drop, length-map}
-use Rattle.tree.specs.Record.{records}
-use Rattle.tree.specs.RecordLaws.{nth}
+use Rattle.tree.specs.Record.{records, nth}
 use Rattle.tree.specs.Tree.{Ident, named}
-use Rattle.tree.specs.StandsLaws.{names-inside}
+use Rattle.tree.specs.Laws.Stands.{names-inside}
 use Rattle.tree.specs.Accepted.{All}
 use Rattle.scope_map.specs.ScopeMap.{Live, newestLayer}
 use Rattle.scope_map.specs.declared.Row.{Row}
@@ -18,12 +17,12 @@ use Rattle.semantic.specs.Amend.{amended}
 use Rattle.semantic.specs.Leaves.{Amends}
 use Rattle.pass.specs.State.{State, Scope, entryAt, newest, idOf, insert, amend}
 use Rattle.pass.specs.Lambda.{markLast, markLasts, endedFact, endParameters, leaveNames}
-use Rattle.pass.specs.Laws.Sound.Lists.{all-drop}
+use Rattle.pass_laws.specs.Laws.Sound.Lists.{all-drop}
 use Rattle.pass.specs.Run.{rowsMost, factsLength}
 use Rattle.work.specs.Known.{Known}
 use Rattle.work.specs.Coded.{lastCode}
 use Rattle.work.specs.Works.{Works, Spacious}
-use Rattle.work.specs.WorksLaws.{spacious, names-many}
+use Rattle.work.specs.Laws.Works.{spacious, names-many}
 use Rattle.work.specs.Leaves.{Becomes, LoadsEntry}
 use Rattle.work.specs.Scope.{KnownHere, TellsId, removed, before, since, LiveRow, TellsLive, StartsLayer}
 use Rattle.work.specs.Tied.{Raw, raw, Tied, Good, Here}
@@ -32,8 +31,8 @@ use Rattle.work.specs.declared.entries.Entry.{Entry as Coded}
 use Rattle.walk.specs.declared.uses.Names.{Names}
 use Rattle.lists.specs.Contract.{Told}
 use Rattle.forms.specs.Contract.{Fits}
-use Rattle.forms.specs.FitsLaws.{fact-inside, facts-length, tied-amend}
-use Rattle.forms.specs.GoodLaws.{good-last, good-ended, good-removed}
+use Rattle.forms.specs.Laws.Fits.{fact-inside, facts-length, tied-amend}
+use Rattle.forms.specs.Laws.Good.{good-last, good-ended, good-removed}
 use Rattle.forms.specs.Bound.{Marked, MarksLast, MarksLasts, NamesEnd, EndsParameters, LeavesNames}
 use Rattle.forms.proofs.Idents.{name-is}
 use Rattle.forms.proofs.Names.{Left, left-all, left-done, left-head}

@@ -3,8 +3,8 @@ use mathlib.Core.Bool.{true, false, true≢false}
 use mathlib.Core.Path.{_≡_, refl}
 use Rattle.tree.specs.Tree.{Tree}
 use Rattle.tree.specs.Core.{core, peel}
-use Rattle.tree.specs.CoreLaws.{Peeled, same, none, peeled}
-use Rattle.tree.specs.Parts.{own}
+use Rattle.tree.specs.Laws.Core.{Peeled, same, none, peeled}
+use Rattle.tree.specs.Laws.Parts.{own}
 use Rattle.forms.specs.Calls.{constantRecord}
 
 no-constant : {c t : Tree} → Peeled c t → constantRecord (own t) ≡ false → c ≡ t

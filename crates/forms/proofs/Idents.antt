@@ -4,8 +4,7 @@ use mathlib.Core.List.{List}
 use mathlib.Core.Path.{_≡_, ap, subst, _∙_}
 use native.Mathlib.Omega.{arith}
 use lib.ListN.{length}
-use Rattle.tree.specs.Record.{Record, records}
-use Rattle.tree.specs.RecordLaws.{nth}
+use Rattle.tree.specs.Record.{Record, records, nth}
 use Rattle.tree.specs.Tree.{Ident, named}
 use Rattle.semantic.specs.declared.Span.{Span}
 use Rattle.pass.specs.Read.{span}

@@ -8,43 +8,43 @@ use native.Mathlib.Omega.{arith}
 use native.Mathlib.Numerals.{add-one}
 use lib.ListN.{length, length-map}
 use Rattle.tree.specs.Tree.{named}
-use Rattle.scope_map.specs.MapLaws.{mapValues}
+use Rattle.scope_map.specs.Laws.Map.{mapValues}
 use Rattle.scope_map.specs.declared.ScopeMap.{ScopeMap}
-use Rattle.semantic.specs.Rows.{Blank, Item, putRow}
+use Rattle.semantic.specs.Rows.{Blank, ListEntry, putRow}
 use Rattle.semantic.specs.Kinds.{functionIn, functionFound}
 use Rattle.semantic.specs.Leaves.{Tells}
-use Rattle.semantic.specs.declared.Entries.{Entries}
+use Rattle.semantic.specs.declared.ListAt.{ListAt}
 use Rattle.semantic.specs.declared.FunctionInformation.{FunctionInformation}
 use Rattle.semantic.specs.declared.FoundFunction.{FoundFunction}
 use Rattle.semantic.specs.declared.IdentifierStatus.the-variants.{Local}
 use Rattle.semantic.specs.declared.ScopeInfo.{ScopeInfo}
-use Rattle.pass.specs.State.{State, Scope, withContext, rowAt, itemAt}
+use Rattle.pass.specs.State.{State, Scope, withContext, rowAt, listEntryAt}
 use Rattle.pass.specs.Lists.{isOf, numberRow, numberRows, numberList, numberedHeap, numberedCapture}
-use Rattle.pass.specs.Lambda.{openCaptures, openScope, enterParameters, enterLambda}
-use Rattle.pass.specs.Laws.Sound.Scopes.{each-push, each-push-captures, each-open}
-use Rattle.pass.specs.Laws.Sound.Known.{inside-listed}
-use Rattle.pass.specs.Laws.Sound.Counted.{any-listed}
-use Rattle.pass.specs.Run.{rowsMost, itemsMost, itemsLength}
+use Rattle.pass.specs.Lambda.{openCaptures, openScope, enterParameters, openLambda}
+use Rattle.pass_laws.specs.Laws.Sound.Scopes.{each-push, each-push-captures, each-open}
+use Rattle.pass_laws.specs.Laws.Sound.Known.{inside-listed}
+use Rattle.pass_laws.specs.Laws.Sound.Counted.{any-listed}
+use Rattle.pass.specs.Run.{rowsMost, listEntriesMost, listEntriesLength}
 use Rattle.work.specs.Works.{recordAt, besideState, Works}
-use Rattle.work.specs.WorksLaws.{depth-is, names-many, captures-many, captured-many, context-is}
-use Rattle.work.specs.WorksKept.{works-as}
+use Rattle.work.specs.Laws.Works.{depth-is, names-many, captures-many, captured-many, context-is}
+use Rattle.work.specs.Laws.Kept.{works-as}
 use Rattle.work.specs.Passes.{inContext, inCaptures}
 use Rattle.work.specs.Leaves.{Becomes}
 use Rattle.work.specs.Captures.{opened}
 use Rattle.work.specs.Tied.{raw, Tied}
-use Rattle.work.specs.TiedLaws.{tied-works}
-use Rattle.work.specs.GoodLaws.{good-where, good-each}
+use Rattle.work.specs.Laws.Tied.{tied-works}
+use Rattle.work.specs.Laws.Good.{good-where, good-each}
 use Rattle.work.specs.declared.Pass.{Pass}
 use Rattle.walk.specs.declared.uses.Names.{Names}
-use Rattle.names.specs.EnteredLaws.{held-same}
-use Rattle.lists.specs.Contract.{Inside, CapturesRoom, SomeHeld, Numbers, CountsHeap}
-use Rattle.forms.specs.Contract.{Fits, NamesFit, EntersNames, ListsFit, LambdaFits, EntersLambda}
+use Rattle.names.specs.Laws.Entered.{held-same}
+use Rattle.amending.specs.Contract.{Inside, CapturesRoom, SomeHeld, Numbers, CountsHeap}
+use Rattle.forms.specs.Contract.{Fits, NamesFit, EntersNames, ListsFit, LambdaFits, OpensLambda}
 use Rattle.forms.specs.declared.bound.Entering.{Entering}
-use Rattle.forms.specs.FitsLaws.{told, tied-context}
+use Rattle.forms.specs.Laws.Fits.{told, tied-context}
 use Rattle.forms.specs.Lambdas.{ListRoom, numberFound, NumbersCaptures, contextWithin, ListOpens, OpensList, ListInside, EntersBy}
 use Rattle.forms.proofs.LetsCase.{captured-length}
 use Rattle.semantic.specs.declared.FoundFunction.the-variants as function
-use Rattle.pass.specs.Sound as pass
+use Rattle.pass_laws.specs.Sound as pass
 
 -- What numbering a list leaves as it was
 
@@ -61,7 +61,7 @@ numbered-then : {s t u : State} → Numbered s t → Numbered t u → Numbered s
 numbered-then a b = record { rows = b .rows ∙ a .rows; arguments = b .arguments ∙ a .arguments; scope = b .scope ∙ a .scope; beside = b .beside ∙ a .beside }
 
 module _ (which : Bool) (f : ℕ → Option ScopeInfo → ScopeInfo → ScopeInfo) where
-  numbered-row : (b : Bool) (r i : ℕ) (x : Item) (s : State) → Numbered s (cond b (numberRow which f r i x s) s)
+  numbered-row : (b : Bool) (r i : ℕ) (x : ListEntry) (s : State) → Numbered s (cond b (numberRow which f r i x s) s)
   unfolding numberRow
   numbered-row true r i x s = record { rows = refl; arguments = refl; scope = refl; beside = refl }
   numbered-row false r i x s = numbered-same s
@@ -70,9 +70,9 @@ module _ (which : Bool) (f : ℕ → Option ScopeInfo → ScopeInfo → ScopeInf
   unfolding numberRows
   numbered-rows zero r i s = numbered-same s
   numbered-rows (suc k) r i s =
-      numbered-then (numbered-row (isOf which f (itemAt s r)) r i (itemAt s r) s) (numbered-rows k (suc r) _ _)
+      numbered-then (numbered-row (isOf which f (listEntryAt s r)) r i (listEntryAt s r) s) (numbered-rows k (suc r) _ _)
 
-numbered-list : (e : Entries) (s : State) → Numbered s (numberList e s)
+numbered-list : (e : ListAt) (s : State) → Numbered s (numberList e s)
 unfolding numberList
 numbered-list e s = numbered-then (numbered-rows false numberedCapture (e .length) (e .first) 0 s) (numbered-rows true numberedHeap (e .length) (e .first) 0 _)
 
@@ -145,12 +145,12 @@ module _ {v : FoundFunction} {p : Pass} {C w : List ℕ} {q : Pass} (opens : (w 
 -- What the parameters have in common
 
 module _ {v : FoundFunction} {C : List ℕ} where
-  pub enters-first : v ≡ function.Nothing → {e : Entries} → e ≡ record { first = 0; length = 0 }
+  pub enters-first : v ≡ function.Nothing → {e : ListAt} → e ≡ record { first = 0; length = 0 }
       → EntersBy v C (record { kind = Local; base = 0; heaps = record { code = 0 }; before = e })
   unfolding enterParameters
   enters-first q k = record { is = λ rs p F A w s xs f. rw (q, k); base = refl; inside = rw k (omega arith); few = omega arith }
 
-  pub enters-again : {i : FunctionInformation} → v ≡ function.Found i → ListInside v → {n : ℕ} → CountsHeap C (i .«captured_vars») n → n ≤ itemsMost
+  pub enters-again : {i : FunctionInformation} → v ≡ function.Found i → ListInside v → {n : ℕ} → CountsHeap C (i .«captured_vars») n → n ≤ listEntriesMost
       → EntersBy v C (record { kind = Local; base = 0; heaps = record { code = n + 1 }; before = i .arguments })
   unfolding enterParameters
   enters-again {i} q l {n} c small = record {
@@ -172,8 +172,8 @@ module _ {rs : List ℕ} {at : ℕ} {p : Pass} {F C A w : List ℕ} (few : at < 
   pub fact-is : {s : State} → Fits rs (raw p F C A w) s → functionFound v ≡ functionIn (rowAt s at)
   fact-is f = told (f .tied) (f .good .rows) at few functionIn found
 
-  pub lambda-opens : {n : Names} → LambdaFits rs at n p F C A w → ListOpens v p C w
-  lambda-opens b = record {
+  pub lambda-list-opens : {n : Names} → LambdaFits rs at n p F C A w → ListOpens v p C w
+  lambda-list-opens b = record {
     rs = rs;
     facts = F;
     arguments = A;
@@ -213,7 +213,7 @@ module _ {rs : List ℕ} {at : ℕ} {p : Pass} {F C A w : List ℕ} (few : at < 
             tied = record { facts = g .tied .facts; captured = g .tied .captured; arguments = g .tied .arguments; works = layer w′ .is _ (g .tied .works) };
           }
 
-      pub scope-captured : {n : Names} → LambdaFits rs at n p F C A w → length C′ ≡ itemsLength
+      pub scope-captured : {n : Names} → LambdaFits rs at n p F C A w → length C′ ≡ listEntriesLength
       scope-captured b = captured-length (scope-fit (b .fits) (b .lists))
 
       module _ {g : Entering} (by : EntersBy v C′ g) where
@@ -234,9 +234,9 @@ module _ {rs : List ℕ} {at : ℕ} {p : Pass} {F C A w : List ℕ} (few : at < 
               few = by .few;
             }
 
-        pub lambda-entered : {n : Names} {p′ : Pass} {F′ w″ : List ℕ} → EntersNames rs n g q F A w′ p′ F′ w″ → EntersLambda rs at n p F C A w p′ F′ C′ w″
-        unfolding enterLambda
-        lambda-entered {n} {p′} {F′} {w″} m = record {
+        pub lambda-opens : {n : Names} {p′ : Pass} {F′ w″ : List ℕ} → EntersNames rs n g q F A w′ p′ F′ w″ → OpensLambda rs at n p F C A w p′ F′ C′ w″
+        unfolding openLambda
+        lambda-opens {n} {p′} {F′} {w″} m = record {
           is = λ s xs node em t f l.
               let u = openScope (openCaptures (functionFound v) s) in
               let z = scope-fit f l in

@@ -8,28 +8,28 @@ use native.Mathlib.Omega.{arith}
 use lib.ListN.{length, getD}
 use borrow.Author.Tests.{not-true, not-false}
 use Rattle.tree.specs.Tree.{Ident, Node}
-use Rattle.semantic.specs.Rows.{Row, Blank, Variable, Function, CallSite, Let, Item, rowWidth, putRow}
+use Rattle.semantic.specs.Rows.{Row, Blank, Variable, Function, CallSite, Let, ListEntry, rowWidth, putRow}
 use Rattle.semantic.specs.Kinds.{isBlank}
 use Rattle.semantic.specs.Leaves.{Stores, Tells}
 use Rattle.semantic.specs.declared.LetInformation.{LetInformation}
-use Rattle.pass.specs.State.{State, Entry, rowAt, noEntry, entryAt, itemOf, insert, amend}
+use Rattle.pass.specs.State.{State, Entry, rowAt, noEntry, entryAt, listEntryOf, insert, amend}
 use Rattle.pass.specs.Lists.{storeArguments}
-use Rattle.pass.specs.Lambda.{markLast, closeScope, closeLet, leaveNames, entered, functionId, makeLet, leaveLet}
-use Rattle.pass.specs.Laws.Sound.Scopes.{each-leave-names}
-use Rattle.pass.specs.Run.{rowsMost, itemsMost}
+use Rattle.pass.specs.Lambda.{markLast, closeScope, closeLayer, leaveNames, entered, functionId, makeLet, closeLet}
+use Rattle.pass_laws.specs.Laws.Sound.Scopes.{each-leave-names}
+use Rattle.pass.specs.Run.{rowsMost, listEntriesMost}
 use Rattle.work.specs.Works.{Spacious}
-use Rattle.work.specs.WorksLaws.{spacious, arguments-top}
+use Rattle.work.specs.Laws.Works.{spacious, arguments-top}
 use Rattle.work.specs.Leaves.{Becomes}
 use Rattle.work.specs.Tied.{raw, Tied, Good}
-use Rattle.work.specs.TiedLaws.{tied-works}
-use Rattle.work.specs.GoodLaws.{Sized, sized-same, sized-then, good-each}
+use Rattle.work.specs.Laws.Tied.{tied-works}
+use Rattle.work.specs.Laws.Good.{Sized, sized-same, sized-then, good-each}
 use Rattle.work.specs.declared.Pass.{Pass}
 use Rattle.walk.specs.declared.uses.Names.{Names}
 use Rattle.lists.specs.Contract.{Told}
-use Rattle.forms.specs.Contract.{Fits, LetEnds, LeavesLet}
+use Rattle.forms.specs.Contract.{Fits, LetEnds, ClosesLet}
 use Rattle.flags.specs.declared.Around.{Around}
-use Rattle.forms.specs.FitsLaws.{fact-inside, tied-insert, told}
-use Rattle.forms.specs.GoodLaws.{sized-last}
+use Rattle.forms.specs.Laws.Fits.{fact-inside, tied-insert, told}
+use Rattle.forms.specs.Laws.Good.{sized-last}
 use Rattle.forms.specs.Bound.{NamesStore, StoresNames, LeavesNames}
 use Rattle.forms.specs.Lets.{makeIf, MakeFits, MakesLet, TellsFunction}
 use Rattle.forms.proofs.ArgumentsCase.{entered-length}
@@ -63,7 +63,7 @@ entered-as : (xs : List Ident) (s t : State) → t .scope .entries ≡ s .scope 
 unfolding entered
 entered-as [] s t e = refl
 entered-as (x ∷ xs) s t e =
-    ap (λ (l : List Entry). itemOf x (getD l (x .at) noEntry) ∷ entered xs t) e ∙ ap (λ (l : List Item). itemOf x (entryAt s (x .at)) ∷ l) (entered-as xs s t e)
+    ap (λ (l : List Entry). listEntryOf x (getD l (x .at) noEntry) ∷ entered xs t) e ∙ ap (λ (l : List ListEntry). listEntryOf x (entryAt s (x .at)) ∷ l) (entered-as xs s t e)
 
 -- The fact
 
@@ -75,7 +75,7 @@ module _ {rs : List ℕ} {blank : Bool} {at : ℕ} {n : Names} {a : Around} {p :
   make-names e b =
       record { facts = F; captured = b .captured; s = b .s; xs = b .xs; told = b .told; fits = b .fits; room = b .room (not-false blank e) }
 
-  pub make-top : not blank ≡ false → MakeFits rs blank at n a p F A w → p .«arguments_top» + n .count ≤ itemsMost
+  pub make-top : not blank ≡ false → MakeFits rs blank at n a p F A w → p .«arguments_top» + n .count ≤ listEntriesMost
   make-top e b = omega (arith, arguments-top (b .fits .tied .works), b .room (not-false blank e))
 
   pub make-fact : MakeFits rs blank at n a p F A w → rowWidth * at + rowWidth ≤ length F
@@ -97,21 +97,21 @@ module _ {rs : List ℕ} {blank : Bool} {at : ℕ} {n : Names} {a : Around} {p :
 
 -- The end
 
-close-facts : (b : Bool) (s : State) → closeLet b s .facts ≡ s .facts
-unfolding closeLet closeScope
+close-facts : (b : Bool) (s : State) → closeLayer b s .facts ≡ s .facts
+unfolding closeLayer closeScope
 close-facts true s = refl
 close-facts false s = refl
 
-pub closes-layer : {opened : Bool} {p q : Pass} {w w′ : List ℕ} → opened ≡ true → Becomes p w closeScope q w′ → Becomes p w (closeLet opened) q w′
-unfolding closeLet
+pub closes-layer : {opened : Bool} {p q : Pass} {w w′ : List ℕ} → opened ≡ true → Becomes p w closeScope q w′ → Becomes p w (closeLayer opened) q w′
+unfolding closeLayer
 closes-layer e k = record { is = λ s h. rw e (k .is s h) }
 
-pub closes-none : {opened : Bool} {p : Pass} {w : List ℕ} → opened ≡ false → Becomes p w (closeLet opened) p w
-unfolding closeLet
+pub closes-none : {opened : Bool} {p : Pass} {w : List ℕ} → opened ≡ false → Becomes p w (closeLayer opened) p w
+unfolding closeLayer
 closes-none e = record { is = λ s h. rw e h }
 
 -- a row is blank, or has a fact
-made-by : (r : Row) (b : Bool) → b ≡ isBlank r → (m : Node) (l : List Item) (height : ℕ) (function : Option Node) (s : State)
+made-by : (r : Row) (b : Bool) → b ≡ isBlank r → (m : Node) (l : List ListEntry) (height : ℕ) (function : Option Node) (s : State)
     → makeIf b m l height function s ≡ makeLet r m l height function s
 made-by Blank b e m l height function s = rw e
 made-by (Variable v) b e m l height function s = rw e
@@ -154,17 +154,17 @@ module _ {rs : List ℕ} {at : ℕ} {n : Names} {p : Pass} {F A w : List ℕ} wh
           let m : Node = record { at = at; id = 0; from = 0; to = 0 } in
           spacious (makes .is (b .captured) _ (b .xs) m (b .function) refl (b .around) (b .told) (left-fits leaves (b .told) (b .fits)) .works)
 
-      pub let-left : at < rowsMost → {opened : Bool} {r′ : Pass} {w₂ : List ℕ} → Becomes r w₁ (closeLet opened) r′ w₂
-          → LeavesLet rs opened at n height a p F A w r′ F′ A′ w₂
-      unfolding leaveLet
-      let-left few {opened} k = record {
+      pub let-closes : at < rowsMost → {opened : Bool} {r′ : Pass} {w₂ : List ℕ} → Becomes r w₁ (closeLayer opened) r′ w₂
+          → ClosesLet rs opened at n height a p F A w r′ F′ A′ w₂
+      unfolding closeLet
+      let-closes few {opened} k = record {
         is = λ C s xs m function em ar u f.
             let l = leaveNames xs s in
             let bl : blank ≡ isBlank (rowAt s (m .at)) = told (f .tied) (f .good .rows) at few isBlank t ∙ ap (λ (i : ℕ). isBlank (rowAt s i)) (sym em) in
             let en = entered-as xs s l (leave-kept xs s .entries) in
             let d = makeLet (rowAt s (m .at)) m (entered xs s) height function l in
             let same : makeIf blank m (entered xs l) height function l ≡ d =
-            ap (λ (i : List Item). makeIf blank m i height function l) en ∙ made-by (rowAt s (m .at)) blank bl m (entered xs s) height function l in
+            ap (λ (i : List ListEntry). makeIf blank m i height function l) en ∙ made-by (rowAt s (m .at)) blank bl m (entered xs s) height function l in
             let v : Tied (raw r F′ C A′ w₁) d = subst (λ (z : State). Tied (raw r F′ C A′ w₁) z) same (makes .is C l xs m function em ar u (left-fits leaves u f)) in
             tied-works _ v (close-facts opened d) (k .is d (v .works));
       }

@@ -11,10 +11,10 @@ use lib.Dec.{eqb}
 use borrow.Author.Tests.{eq-eqb, ne-eqb}
 use Rattle.table.specs.Layout.{length-layout}
 use Rattle.tree.specs.Tree.{Node}
-use Rattle.semantic.specs.Rows.{Blank, rowWidth, putRow, itemWidth, putItem, item-long}
+use Rattle.semantic.specs.Rows.{Blank, rowWidth, putRow, listEntryWidth, putListEntry, list-entry-long}
 use Rattle.semantic.specs.Kinds.{functionIn, letIn, functionFound, letFound}
 use Rattle.semantic.specs.Leaves.{Tells}
-use Rattle.semantic.specs.declared.Entries.{Entries}
+use Rattle.semantic.specs.declared.ListAt.{ListAt}
 use Rattle.semantic.specs.declared.FunctionInformation.{FunctionInformation}
 use Rattle.semantic.specs.declared.LetInformation.{LetInformation}
 use Rattle.semantic.specs.declared.FoundFunction.{FoundFunction}
@@ -22,30 +22,30 @@ use Rattle.semantic.specs.declared.FoundLet.{FoundLet}
 use Rattle.semantic.specs.declared.IdentifierStatus.the-variants.{LetVar}
 use Rattle.pass.specs.State.{State, rowAt, depth}
 use Rattle.pass.specs.Lists.{listIn}
-use Rattle.pass.specs.Lambda.{openScope, heapsAround, letArguments, atBottom, openLet, enterLet, functionId}
-use Rattle.pass.specs.Laws.Sound.Scopes.{each-open-let}
-use Rattle.pass.specs.Run.{rowsMost, itemsMost, itemsLength}
-use Rattle.work.specs.WorksLaws.{depth-is, names-many, captured-many}
+use Rattle.pass.specs.Lambda.{openScope, heapsAround, letArguments, atBottom, openLayer, openLet, functionId}
+use Rattle.pass_laws.specs.Laws.Sound.Scopes.{each-open-let}
+use Rattle.pass.specs.Run.{rowsMost, listEntriesMost, listEntriesLength}
+use Rattle.work.specs.Laws.Works.{depth-is, names-many, captured-many}
 use Rattle.work.specs.Leaves.{Becomes}
 use Rattle.work.specs.Tied.{raw}
-use Rattle.work.specs.TiedLaws.{tied-works}
-use Rattle.work.specs.GoodLaws.{sized-facts, good-each}
+use Rattle.work.specs.Laws.Tied.{tied-works}
+use Rattle.work.specs.Laws.Good.{sized-facts, good-each}
 use Rattle.work.specs.declared.Pass.{Pass}
 use Rattle.walk.specs.declared.uses.Names.{Names}
-use Rattle.lists.specs.Contract.{Inside, CountsHeap}
+use Rattle.amending.specs.Contract.{Inside, CountsHeap}
 use Rattle.flags.specs.Flags.{AroundIs}
-use Rattle.forms.specs.Contract.{Fits, NamesFit, EntersNames, LetFits, EntersLet, heapsIn}
+use Rattle.forms.specs.Contract.{Fits, NamesFit, EntersNames, LetFits, OpensLet, heapsIn}
 use Rattle.flags.specs.declared.Around.{Around}
 use Rattle.forms.specs.declared.bound.Heaps.{Heaps}
-use Rattle.forms.specs.FitsLaws.{fact-inside, told}
+use Rattle.forms.specs.Laws.Fits.{fact-inside, told}
 use Rattle.forms.specs.Lets.{AroundFits, TellsHeaps, TellsFunction, LetAt, TellsLet}
 use Rattle.semantic.specs.declared.FoundFunction.the-variants as function
 use Rattle.semantic.specs.declared.FoundLet.the-variants as letin
 
 -- the captured entries' table
-pub captured-length : {rs : List ℕ} {p : Pass} {F C A w : List ℕ} {s : State} → Fits rs (raw p F C A w) s → length C ≡ itemsLength
+pub captured-length : {rs : List ℕ} {p : Pass} {F C A w : List ℕ} {s : State} → Fits rs (raw p F C A w) s → length C ≡ listEntriesLength
 captured-length {s = s} f =
-    omega (arith, ap length (f .tied .captured), length-layout itemWidth putItem item-long (s .facts .captured), captured-many (f .tied .works))
+    omega (arith, ap length (f .tied .captured), length-layout listEntryWidth putListEntry list-entry-long (s .facts .captured), captured-many (f .tied .works))
 
 -- The lambda around
 
@@ -101,13 +101,13 @@ module _ (a : Around) where
       }
 
       module _ {v : FunctionInformation} (q : r ≡ function.Found v) where
-        pub list-inside : AroundFits a F C → Inside (v .«captured_vars») × (length C ≡ itemsLength)
+        pub list-inside : AroundFits a F C → Inside (v .«captured_vars») × (length C ≡ listEntriesLength)
         list-inside b =
             let k = lambda-is a e (b .function) (b .around) in
             let z : functionIn (rowAt (b .s) (k .n .at)) ≡ some v = sym (row-says k (b .fits)) ∙ ap functionFound q in
             (b .outer (k .n) (k .is) .1 v z, captured-length (b .fits))
 
-        pub heaps-counted : {n : ℕ} → CountsHeap C (v .«captured_vars») n → n ≤ itemsMost → TellsHeaps a F C (record { code = n + 1 })
+        pub heaps-counted : {n : ℕ} → CountsHeap C (v .«captured_vars») n → n ≤ listEntriesMost → TellsHeaps a F C (record { code = n + 1 })
         heaps-counted {n} c small = record {
           is = λ rs p A w s o h f.
               let k = lambda-is a e o h in
@@ -126,7 +126,7 @@ module _ {at : ℕ} {F : List ℕ} where
     let-says : {rs : List ℕ} {p : Pass} {C A w : List ℕ} {s : State} → Fits rs (raw p F C A w) s → letFound r ≡ letIn (rowAt s at)
     let-says f = told (f .tied) (f .good .rows) at (a .few) letIn t
 
-    pub no-let : r ≡ letin.Nothing → {e : Entries} → e ≡ record { first = 0; length = 0 } → TellsLet at F e
+    pub no-let : r ≡ letin.Nothing → {e : ListAt} → e ≡ record { first = 0; length = 0 } → TellsLet at F e
     no-let q k = record {
       is = λ rs p C A w s f.
           let z : letIn (rowAt s at) ≡ none = sym (let-says f) ∙ ap letFound q in
@@ -146,35 +146,35 @@ module _ {at : ℕ} {F : List ℕ} where
 
 module _ {p : Pass} where
   pub layer-opens : {d : ℕ} → d ≡ p .scope .depth → d ≡ 1 → {q : Pass} → ((w : List ℕ) → Becomes p w openScope q w)
-      → (w : List ℕ) → Becomes p w (λ s. openLet (atBottom s) s) q w
-  unfolding openLet
+      → (w : List ℕ) → Becomes p w (λ s. openLayer (atBottom s) s) q w
+  unfolding openLayer
   layer-opens ed e k w = record {
     is = λ s h.
         let z : eqb (depth s) 1 ≡ true = eq-eqb (depth s) 1 (sym (depth-is h) ∙ sym ed ∙ e) in
         rw z (k w .is s h);
   }
 
-  pub layer-stays : {d : ℕ} → d ≡ p .scope .depth → (d ≡ 1 → ⊥) → (w : List ℕ) → Becomes p w (λ s. openLet (atBottom s) s) p w
-  unfolding openLet
+  pub layer-stays : {d : ℕ} → d ≡ p .scope .depth → (d ≡ 1 → ⊥) → (w : List ℕ) → Becomes p w (λ s. openLayer (atBottom s) s) p w
+  unfolding openLayer
   layer-stays ed e w = record {
     is = λ s h.
         let z : eqb (depth s) 1 ≡ false = ne-eqb (depth s) 1 (λ q. e (ed ∙ depth-is h ∙ q)) in
         rw z h;
   }
 
-opened-facts : (b : Bool) (s : State) → openLet b s .facts ≡ s .facts
-unfolding openLet openScope
+opened-facts : (b : Bool) (s : State) → openLayer b s .facts ≡ s .facts
+unfolding openLayer openScope
 opened-facts true s = refl
 opened-facts false s = refl
 
-opened-live : (b : Bool) (s : State) → length (openLet b s .scope .names .live) ≡ length (s .scope .names .live)
-unfolding openLet openScope
+opened-live : (b : Bool) (s : State) → length (openLayer b s .scope .names .live) ≡ length (s .scope .names .live)
+unfolding openLayer openScope
 opened-live true s = refl
 opened-live false s = refl
 
 module _ {rs : List ℕ} {p : Pass} {F C A w : List ℕ} {q : Pass}
-    (opens : (w : List ℕ) → Becomes p w (λ s. openLet (atBottom s) s) q w) where
-  opened-fits : {s : State} → Fits rs (raw p F C A w) s → Fits rs (raw q F C A w) (openLet (atBottom s) s)
+    (opens : (w : List ℕ) → Becomes p w (λ s. openLayer (atBottom s) s) q w) where
+  opened-fits : {s : State} → Fits rs (raw p F C A w) s → Fits rs (raw q F C A w) (openLayer (atBottom s) s)
   opened-fits {s} f =
       let e = opened-facts (atBottom s) s in
       record {
@@ -182,13 +182,13 @@ module _ {rs : List ℕ} {p : Pass} {F C A w : List ℕ} {q : Pass}
         tied = tied-works _ (f .tied) e (opens w .is s (f .tied .works));
       }
 
-  module _ {at : ℕ} {n : Names} {height : ℕ} {a : Around} {o : Heaps} {l : Entries} (heapsTold : TellsHeaps a F C o) (letTold : TellsLet at F l) where
+  module _ {at : ℕ} {n : Names} {height : ℕ} {a : Around} {o : Heaps} {l : ListAt} (heapsTold : TellsHeaps a F C o) (letTold : TellsLet at F l) where
     pub let-names : LetFits rs at n height a p F C A w → NamesFit rs n (record { kind = LetVar; base = height; heaps = o; before = l }) q F A w
     let-names b =
         let f = opened-fits (b .fits) in
         record {
           captured = C;
-          s = openLet (atBottom (b .s)) (b .s);
+          s = openLayer (atBottom (b .s)) (b .s);
           xs = b .xs;
           told = b .told;
           fits = f;
@@ -198,12 +198,12 @@ module _ {rs : List ℕ} {p : Pass} {F C A w : List ℕ} {q : Pass}
           few = heapsTold .few;
         }
 
-    pub let-entered : {p′ : Pass} {F′ w′ : List ℕ} → EntersNames rs n (record { kind = LetVar; base = height; heaps = o; before = l }) q F A w p′ F′ w′
-        → EntersLet rs at n height a p F C A w p′ F′ w′
-    unfolding enterLet
-    let-entered {p′} {F′} {w′} m = record {
+    pub let-opens : {p′ : Pass} {F′ w′ : List ℕ} → EntersNames rs n (record { kind = LetVar; base = height; heaps = o; before = l }) q F A w p′ F′ w′
+        → OpensLet rs at n height a p F C A w p′ F′ w′
+    unfolding openLet
+    let-opens {p′} {F′} {w′} m = record {
       is = λ s xs node function en ar t f.
-          let u = openLet (atBottom s) s in
+          let u = openLayer (atBottom s) s in
           let g = opened-fits f in
           let x : heapsIn o ≡ heapsAround u function = heapsTold .is rs q A w u function ar g in
           let y : listIn (u .facts .arguments) l ≡ letArguments u (rowAt u (node .at)) =

@@ -6,13 +6,13 @@ use native.Mathlib.Omega.{arith}
 use lib.ListN.{length}
 use Rattle.tree.specs.Tree.{Ident, NumNames}
 use Rattle.tree.specs.Stands.{NamesStand}
-use Rattle.tree.specs.StandsLaws.{first-name, later-names}
+use Rattle.tree.specs.Laws.Stands.{first-name, later-names}
 use Rattle.pass.specs.State.{State}
 use Rattle.work.specs.Tied.{Raw, Tied, Here}
 use Rattle.walk.specs.declared.uses.Names.{Names}
 use Rattle.lists.specs.Contract.{Told}
 use Rattle.forms.specs.Contract.{Fits}
-use Rattle.work.specs.KnownLaws.{known-ident}
+use Rattle.work.specs.Laws.Known.{known-ident}
 
 name-place : {N : ℕ} {rs : List ℕ} {i : ℕ} {x : Ident} {xs : List Ident} → NamesStand N rs i (x ∷ xs) → x .at ≡ i
 unfolding NumNames

@@ -5,8 +5,8 @@ use mathlib.Core.Path.{_≡_, refl, sym, subst, _∙_}
 use native.Mathlib.Omega.{arith}
 use Rattle.tree.specs.Tree.{Tree, Trees, nil, cons, many, flat, flats, Num}
 use Rattle.tree.specs.Stands.{Within, Stands, StandAll}
-use Rattle.tree.specs.WithinLaws.{front}
-use Rattle.tree.specs.StandsLaws.{first-tree, later-trees, tree-few}
+use Rattle.tree.specs.Laws.Within.{front}
+use Rattle.tree.specs.Laws.Stands.{first-tree, later-trees, tree-few}
 use Rattle.pass.specs.State.{State}
 use Rattle.work.specs.Tied.{Raw, Tied}
 use Rattle.walk.specs.Contract.{StepsOver}

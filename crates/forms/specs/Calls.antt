@@ -1,4 +1,4 @@
--- What the functions at the end of a call promise.
+-- What the functions of a call promise, as it closes.
 use Prim.Native.Nat.{ℕ, _+_, _<_}
 use mathlib.Core.List.{List}
 use mathlib.Core.Bool.{Bool, _&&_, _||_}

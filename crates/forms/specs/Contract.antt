@@ -1,7 +1,7 @@
 -- What each form's own functions promise, of every state that the tables hold.
 use Prim.Native.Nat.{ℕ, _+_, _*_, _≤_, _<_}
 use mathlib.Core.List.{List}
-use mathlib.Core.Bool.{Bool}
+use mathlib.Core.Bool.{Bool, true, false}
 use mathlib.Core.Option.{Option, none, some}
 use mathlib.Core.Path.{_≡_}
 use lib.ListN.{length}
@@ -12,29 +12,34 @@ use Rattle.scope_map.specs.ScopeMap.{newestLayer}
 use Rattle.scope_map.specs.Hints.{rowsLength}
 use Rattle.semantic.specs.Rows.{Blank}
 use Rattle.semantic.specs.Kinds.{functionIn, letIn}
+use Rattle.semantic.specs.Information.{NONE}
 use Rattle.semantic.specs.declared.IdentifierStatus.{IdentifierStatus}
+use Rattle.semantic.specs.declared.IdentifierStatus.the-variants.{Local}
 use Rattle.semantic.specs.declared.FunctionInformation.{FunctionInformation}
 use Rattle.semantic.specs.declared.LetInformation.{LetInformation}
 use Rattle.pass.specs.State.{State, rowAt}
+use Rattle.pass.specs.Read.{enterDefine}
 use Rattle.pass.specs.Lists.{listIn}
-use Rattle.pass.specs.Lambda.{enterNames, enterLambda, leaveLambda, enterLet, leaveLet}
-use Rattle.pass.specs.Visit.{Flags, isLambda, endCall, clearContext, beforeDefine, afterDefine}
-use Rattle.pass.specs.Run.{rowsMost, itemsMost}
+use Rattle.pass.specs.Lambda.{enterNames, openLambda, closeLambda, openLet, closeLet}
+use Rattle.pass.specs.Visit.{Flags, isLambda, closeCall, clearContext, openDefine, closeDefine, enterChild, enterChildren}
+use Rattle.pass.specs.Run.{rowsMost, listEntriesMost}
 use Rattle.work.specs.Coded.{placeIn}
-use Rattle.work.specs.Passes.{inScope, withNotes}
+use Rattle.work.specs.Passes.{inContext, withSecond}
 use Rattle.work.specs.Tied.{Raw, raw, Tied, Good}
 use Rattle.work.specs.declared.Pass.{Pass}
 use Rattle.walk.specs.Contract.{bodyOf}
 use Rattle.walk.specs.declared.uses.Names.{Names}
 use Rattle.walk.specs.declared.body.Body.{Body as Says}
-use Rattle.lists.specs.Contract.{Told, Inside, CapturesRoom, HasBody}
-use Rattle.lists.specs.declared.amend.Lambda.{Lambda}
+use Rattle.names.specs.Contract.{withName}
+use Rattle.lists.specs.Contract.{Told}
+use Rattle.amending.specs.Contract.{Inside, CapturesRoom, HasBody}
+use Rattle.amending.specs.declared.amend.Lambda.{Lambda}
 use Rattle.flags.specs.Flags.{AroundIs}
-use Rattle.forms.specs.Defines.{enterValue, enterOne, enterEach}
 use Rattle.flags.specs.declared.Around.{Around}
 use Rattle.forms.specs.declared.bound.Entering.{Entering}
 use Rattle.forms.specs.declared.bound.EnteredNames.{EnteredNames}
 use Rattle.forms.specs.declared.bound.Heaps.{Heaps}
+use Rattle.forms.specs.declared.defines.EnteredDefine.{EnteredDefine}
 
 -- a good state is held
 pub record Fits (rs : List ℕ) (z : Raw) (s : State) : Type 0 where
@@ -55,7 +60,7 @@ abbrev pub heapsIn : Heaps → Option ℕ
 heapsIn o = placeIn (o .code)
 
 abbrev pub FewHeaps : Heaps → Type 0
-FewHeaps o = o .code ≤ itemsMost + 1
+FewHeaps o = o .code ≤ listEntriesMost + 1
 
 -- Names enter
 
@@ -75,12 +80,8 @@ pub record EntersNames (rs : List ℕ) (n : Names) (g : Entering) (p : Pass) (F 
       → Tied (raw p′ F′ C A w′) (enterNames (g .kind) (g .base) (heapsIn (g .heaps)) (listIn (s .facts .arguments) (g .before)) xs 0 0 s)
 
 -- the pass with what they changed
-abbrev pub withEntered : EnteredNames → Pass → Pass
-withEntered e p = inScope (record { depth = p .scope .depth; length = e .length }) (withNotes (e .nine) (p .ten) (e .second) p)
-
--- what they changed, in the pass after them
-abbrev pub enteredIn : Pass → EnteredNames
-enteredIn q = record { length = q .scope .length; nine = q .nine; second = q .second }
+abbrev pub withNames : EnteredNames → Pass → Pass
+withNames e p = withSecond (e .second) (withName (e .name) p)
 
 -- Lambda
 
@@ -98,15 +99,15 @@ pub record LambdaFits (rs : List ℕ) (at : ℕ) (n : Names) (p : Pass) (F C A w
   pub shallow : Shallow p
   pub lists : ListsFit p s at
 
-pub record EntersLambda (rs : List ℕ) (at : ℕ) (n : Names) (p : Pass) (F C A w : List ℕ) (p′ : Pass) (F′ C′ w′ : List ℕ) : Type 0 where
+pub record OpensLambda (rs : List ℕ) (at : ℕ) (n : Names) (p : Pass) (F C A w : List ℕ) (p′ : Pass) (F′ C′ w′ : List ℕ) : Type 0 where
   pub is : (s : State) (xs : List Ident) (m : Node) → m .at ≡ at → Told rs n xs → Fits rs (raw p F C A w) s → ListsFit p s at
-      → Tied (raw p′ F′ C′ A w′) (enterLambda m xs s)
+      → Tied (raw p′ F′ C′ A w′) (openLambda m xs s)
 
 -- at its end: the argument list has room where the fact is made, and the captured list lies inside where it is amended
 pub record EndFits (p : Pass) (s : State) (at : ℕ) : Type 0 where
-  pub made : functionIn (rowAt s at) ≡ none → s .facts .argumentsTop + length (newestLayer (s .scope .names)) ≤ itemsMost
+  pub made : functionIn (rowAt s at) ≡ none → s .facts .argumentsTop + length (newestLayer (s .scope .names)) ≤ listEntriesMost
   pub amended : (v : FunctionInformation) → functionIn (rowAt s at) ≡ some v → Inside (v .«captured_vars»)
-  pub captured : p .«captured_top» + itemsMost < 4294967296
+  pub captured : p .«captured_top» + listEntriesMost < 4294967296
 
 pub record LambdaEnds (rs : List ℕ) (at : ℕ) (d : Lambda) (p : Pass) (F C A w : List ℕ) : Type 0 where
   pub s : State
@@ -118,9 +119,9 @@ pub record LambdaEnds (rs : List ℕ) (at : ℕ) (d : Lambda) (p : Pass) (F C A 
   pub few : at < rowsMost
   pub ends : EndFits p s at
 
-pub record LeavesLambda (rs : List ℕ) (at : ℕ) (d : Lambda) (escapes : Bool) (p : Pass) (F C A w : List ℕ) (p′ : Pass) (F′ C′ A′ w′ : List ℕ) : Type 0 where
+pub record ClosesLambda (rs : List ℕ) (at : ℕ) (d : Lambda) (escapes : Bool) (p : Pass) (F C A w : List ℕ) (p′ : Pass) (F′ C′ A′ w′ : List ℕ) : Type 0 where
   pub is : (s : State) (xs : List Ident) (b : Tree) (m : Node) → m .at ≡ at → Told rs (d .names) xs → HasBody rs d b → Fits rs (raw p F C A w) s → EndFits p s at
-      → Tied (raw p′ F′ C′ A′ w′) (leaveLambda m xs b escapes s)
+      → Tied (raw p′ F′ C′ A′ w′) (closeLambda m xs b escapes s)
 
 -- Let
 
@@ -138,9 +139,9 @@ pub record LetFits (rs : List ℕ) (at : ℕ) (n : Names) (height : ℕ) (a : Ar
   pub list : (v : LetInformation) → letIn (rowAt s at) ≡ some v → Inside (v .arguments)
   pub outer : (m : Node) → function ≡ some m → (m .at < rowsMost) × ((v : FunctionInformation) → functionIn (rowAt s (m .at)) ≡ some v → Inside (v .«captured_vars»))
 
-pub record EntersLet (rs : List ℕ) (at : ℕ) (n : Names) (height : ℕ) (a : Around) (p : Pass) (F C A w : List ℕ) (p′ : Pass) (F′ w′ : List ℕ) : Type 0 where
+pub record OpensLet (rs : List ℕ) (at : ℕ) (n : Names) (height : ℕ) (a : Around) (p : Pass) (F C A w : List ℕ) (p′ : Pass) (F′ w′ : List ℕ) : Type 0 where
   pub is : (s : State) (xs : List Ident) (m : Node) (function : Option Node) → m .at ≡ at → AroundIs a function → Told rs n xs
-      → Fits rs (raw p F C A w) s → Tied (raw p′ F′ C A w′) (enterLet m xs height function s)
+      → Fits rs (raw p F C A w) s → Tied (raw p′ F′ C A w′) (openLet m xs height function s)
 
 pub record LetEnds (rs : List ℕ) (at : ℕ) (n : Names) (a : Around) (p : Pass) (F A w : List ℕ) : Type 0 where
   pub captured : List ℕ
@@ -151,11 +152,11 @@ pub record LetEnds (rs : List ℕ) (at : ℕ) (n : Names) (a : Around) (p : Pass
   pub fits : Fits rs (raw p F captured A w) s
   pub around : AroundIs a function
   pub few : at < rowsMost
-  pub room : rowAt s at ≡ Blank → s .facts .argumentsTop + n .count ≤ itemsMost
+  pub room : rowAt s at ≡ Blank → s .facts .argumentsTop + n .count ≤ listEntriesMost
 
-pub record LeavesLet (rs : List ℕ) (opened : Bool) (at : ℕ) (n : Names) (height : ℕ) (a : Around) (p : Pass) (F A w : List ℕ) (p′ : Pass) (F′ A′ w′ : List ℕ) : Type 0 where
+pub record ClosesLet (rs : List ℕ) (opened : Bool) (at : ℕ) (n : Names) (height : ℕ) (a : Around) (p : Pass) (F A w : List ℕ) (p′ : Pass) (F′ A′ w′ : List ℕ) : Type 0 where
   pub is : (C : List ℕ) (s : State) (xs : List Ident) (m : Node) (function : Option Node) → m .at ≡ at → AroundIs a function → Told rs n xs
-      → Fits rs (raw p F C A w) s → Tied (raw p′ F′ C A′ w′) (leaveLet opened m xs height function s)
+      → Fits rs (raw p F C A w) s → Tied (raw p′ F′ C A′ w′) (closeLet opened m xs height function s)
 
 -- Call
 
@@ -172,9 +173,9 @@ pub record CallFits (rs : List ℕ) (at first k : ℕ) (p : Pass) (F w : List �
   pub count : k ≡ many es
   pub fits : Fits rs (raw p F captured arguments w) s
 
-pub record EndsCall (rs : List ℕ) (at first k : ℕ) (tail : Bool) (counter : ℕ) (p : Pass) (F w : List ℕ) (F′ : List ℕ) : Type 0 where
+pub record ClosesCall (rs : List ℕ) (at first k : ℕ) (tail : Bool) (counter : ℕ) (p : Pass) (F w : List ℕ) (F′ : List ℕ) : Type 0 where
   pub is : (N : ℕ) (C A : List ℕ) (s : State) (n : Node) (h : Tree) (es : Trees) (f : Flags) → Stands N rs at (call n h es) → first ≡ at + 1 + size h
-      → k ≡ many es → tail ≡ f .tail → counter ≡ f .counter → Fits rs (raw p F C A w) s → Tied (raw p F′ C A w) (endCall n h es f s)
+      → k ≡ many es → tail ≡ f .tail → counter ≡ f .counter → Fits rs (raw p F C A w) s → Tied (raw p F′ C A w) (closeCall n h es f s)
 
 -- set!
 pub record ClearsContext (at : ℕ) (p : Pass) (F : List ℕ) (p′ : Pass) : Type 0 where
@@ -194,18 +195,27 @@ pub record DefineFits (rs : List ℕ) (at : ℕ) (p : Pass) (F w : List ℕ) : T
   pub fits : Fits rs (raw p F captured arguments w) s
   pub room : NamesRoom p 1
 
-pub record BeforeDefine (rs : List ℕ) (at : ℕ) (direct : Bool) (b : Says) (p : Pass) (F w : List ℕ) (p′ : Pass) (F′ w′ : List ℕ) : Type 0 where
-  pub is : (classes C A : List ℕ) (s : State) (n : Node) (x : Ident) (t : Tree) → Stands (length classes) rs at (define n x t) → b ≡ bodyOf classes t
-      → Fits rs (raw p F C A w) s → Tied (raw p′ F′ C A w′) (beforeDefine classes direct (isLambda t) x t s)
+-- the pass with what it changed
+abbrev pub withDefine : EnteredDefine → Pass → Pass
+withDefine d p = inContext (d .context) (withName (d .name) p)
 
-pub record AfterDefine (rs : List ℕ) (at : ℕ) (direct : Bool) (context : ℕ) (b : Says) (p : Pass) (F w : List ℕ) (p′ : Pass) (F′ w′ : List ℕ) : Type 0 where
+pub record OpensDefine (rs : List ℕ) (at : ℕ) (direct : Bool) (b : Says) (p : Pass) (F w : List ℕ) (p′ : Pass) (F′ w′ : List ℕ) : Type 0 where
   pub is : (classes C A : List ℕ) (s : State) (n : Node) (x : Ident) (t : Tree) → Stands (length classes) rs at (define n x t) → b ≡ bodyOf classes t
-      → Fits rs (raw p F C A w) s → Tied (raw p′ F′ C A w′) (afterDefine classes direct (isLambda t) context x t s)
+      → Fits rs (raw p F C A w) s → Tied (raw p′ F′ C A w′) (openDefine classes direct (isLambda t) x t s)
+
+pub record ClosesDefine (rs : List ℕ) (at : ℕ) (direct : Bool) (context : ℕ) (b : Says) (p : Pass) (F w : List ℕ) (p′ : Pass) (F′ w′ : List ℕ) : Type 0 where
+  pub is : (classes C A : List ℕ) (s : State) (n : Node) (x : Ident) (t : Tree) → Stands (length classes) rs at (define n x t) → b ≡ bodyOf classes t
+      → Fits rs (raw p F C A w) s → Tied (raw p′ F′ C A w′) (closeDefine classes direct (isLambda t) context x t s)
 
 -- a value define enters, after its body
-pub record EntersValue (rs : List ℕ) (at : ℕ) (b : Says) (p : Pass) (F w : List ℕ) (p′ : Pass) (F′ w′ : List ℕ) : Type 0 where
+
+abbrev pub enterInnerValue : List ℕ → Bool → Ident → Tree → State → State
+enterInnerValue classes true x b s = s
+enterInnerValue classes false x b s = enterDefine classes Local NONE x b s
+
+pub record EntersInnerValue (rs : List ℕ) (at : ℕ) (b : Says) (p : Pass) (F w : List ℕ) (p′ : Pass) (F′ w′ : List ℕ) : Type 0 where
   pub is : (classes C A : List ℕ) (s : State) (n : Node) (x : Ident) (t : Tree) → Stands (length classes) rs at (define n x t) → b ≡ bodyOf classes t
-      → Fits rs (raw p F C A w) s → Tied (raw p′ F′ C A w′) (enterValue classes (isLambda t) x t s)
+      → Fits rs (raw p F C A w) s → Tied (raw p′ F′ C A w′) (enterInnerValue classes (isLambda t) x t s)
 
 -- the lambda defines among k trees
 pub record ChildrenFit (N : ℕ) (rs : List ℕ) (first k : ℕ) (p : Pass) (F w : List ℕ) : Type 0 where
@@ -220,7 +230,7 @@ pub record ChildrenFit (N : ℕ) (rs : List ℕ) (first k : ℕ) (p : Pass) (F w
 
 pub record EntersChildren (classes rs : List ℕ) (first k : ℕ) (kind : IdentifierStatus) (p : Pass) (F w : List ℕ) (p′ : Pass) (F′ w′ : List ℕ) : Type 0 where
   pub is : (C A : List ℕ) (s : State) (es : Trees) → StandAll (length classes) rs first es → k ≡ many es → Fits rs (raw p F C A w) s
-      → Tied (raw p′ F′ C A w′) (enterEach classes kind (cores es) s)
+      → Tied (raw p′ F′ C A w′) (enterChildren classes kind (cores es) s)
 
 pub record ChildFits (N : ℕ) (rs : List ℕ) (at : ℕ) (p : Pass) (F w : List ℕ) : Type 0 where
   pub captured : List ℕ
@@ -233,4 +243,4 @@ pub record ChildFits (N : ℕ) (rs : List ℕ) (at : ℕ) (p : Pass) (F w : List
 
 pub record EntersChild (classes rs : List ℕ) (at : ℕ) (kind : IdentifierStatus) (p : Pass) (F w : List ℕ) (p′ : Pass) (F′ w′ : List ℕ) : Type 0 where
   pub is : (C A : List ℕ) (s : State) (t : Tree) → Stands (length classes) rs at t → Fits rs (raw p F C A w) s
-      → Tied (raw p′ F′ C A w′) (enterOne classes kind t s)
+      → Tied (raw p′ F′ C A w′) (enterChild classes kind t s)

@@ -10,25 +10,26 @@ use Rattle.scope_map.specs.ScopeMap.{newestLayer}
 use Rattle.scope_map.specs.declared.ScopeMap.{ScopeMap}
 use Rattle.semantic.specs.Kinds.{functionFound}
 use Rattle.semantic.specs.Information.{NONE}
-use Rattle.semantic.specs.Rows.{Item}
-use Rattle.semantic.specs.declared.Entries.{Entries}
+use Rattle.semantic.specs.Rows.{ListEntry}
+use Rattle.semantic.specs.declared.ListAt.{ListAt}
 use Rattle.semantic.specs.declared.FoundFunction.{FoundFunction}
 use Rattle.semantic.specs.declared.FunctionInformation.{FunctionInformation}
 use Rattle.pass.specs.State.{State}
 use Rattle.pass.specs.Lists.{listIn, capturedVars, sortById, storeCaptured, storeArguments, rewriteCaptured, numberList}
-use Rattle.pass.specs.Lambda.{enterNames, openCaptures, enterParameters, markLasts, closeScope, closeCaptures, endParameters, itemsOf, nameIn}
-use Rattle.pass.specs.Run.{rowsMost, itemsMost}
+use Rattle.pass.specs.Lambda.{enterNames, openCaptures, enterParameters, markLasts, closeScope, closeCaptures, endParameters, listEntriesOf, nameIn}
+use Rattle.pass.specs.Run.{rowsMost, listEntriesMost}
 use Rattle.work.specs.Passes.{inCaptures}
 use Rattle.work.specs.Tied.{raw, Tied}
 use Rattle.work.specs.declared.Pass.{Pass}
 use Rattle.walk.specs.declared.uses.Names.{Names}
-use Rattle.lists.specs.Contract.{Told, Inside, Becomes, CapturesRoom, HasBody, amendedList}
-use Rattle.lists.specs.declared.amend.Lambda.{Lambda}
+use Rattle.lists.specs.Contract.{Told, Becomes}
+use Rattle.amending.specs.Contract.{Inside, CapturesRoom, HasBody, amendedList}
+use Rattle.amending.specs.declared.amend.Lambda.{Lambda}
 use Rattle.forms.specs.Contract.{Fits, FewHeaps, heapsIn}
 use Rattle.forms.specs.declared.bound.Entering.{Entering}
 use Rattle.forms.specs.declared.lambda.EndedLists.{EndedLists}
 
--- On entering
+-- As it opens
 
 -- its list, where it has a fact, lies inside, and the captures have room for it
 abbrev pub ListRoom : FoundFunction → Pass → Type 0
@@ -73,22 +74,22 @@ pub record EntersBy (v : FoundFunction) (C : List ℕ) (g : Entering) : Type 0 w
   pub inside : Inside (g .before)
   pub few : FewHeaps (g .heaps)
 
--- At its end
+-- As it closes
 
--- the layer goes, and what its names were is marked
-abbrev pub closed : List Ident → State → State
-closed xs s = endParameters xs (markLasts (newestLayer (s .scope .names)) (closeCaptures (closeScope s)))
+-- the layers go, and what the names were is marked
+abbrev pub layersClosed : List Ident → State → State
+layersClosed xs s = endParameters xs (markLasts (newestLayer (s .scope .names)) (closeCaptures (closeScope s)))
 
-pub record Closes (rs : List ℕ) (n : Names) (p : Pass) (F w : List ℕ) (p′ : Pass) (F′ w′ : List ℕ) : Type 0 where
-  pub is : (C A : List ℕ) (s : State) (xs : List Ident) → Told rs n xs → Fits rs (raw p F C A w) s → Tied (raw p′ F′ C A w′) (closed xs s)
+pub record ClosesLayers (rs : List ℕ) (n : Names) (p : Pass) (F w : List ℕ) (p′ : Pass) (F′ w′ : List ℕ) : Type 0 where
+  pub is : (C A : List ℕ) (s : State) (xs : List Ident) → Told rs n xs → Fits rs (raw p F C A w) s → Tied (raw p′ F′ C A w′) (layersClosed xs s)
 
 -- the lists: made where the lambda has no fact, else its captured one amended
 
-abbrev pub madeList : List Ident → State → List Item
+abbrev pub madeList : List Ident → State → List ListEntry
 madeList xs s = sortById (capturedVars (map nameIn xs) s)
 
-abbrev pub layerList : State → List Item
-layerList s = itemsOf s (newestLayer (s .scope .names))
+abbrev pub layerList : State → List ListEntry
+layerList s = listEntriesOf s (newestLayer (s .scope .names))
 
 abbrev pub withLists : Option FunctionInformation → ℕ → List Ident → Tree → State → State
 withLists none at xs b s = storeArguments (layerList s) (storeCaptured at (madeList xs s) s)
@@ -96,19 +97,19 @@ withLists (some i) at xs b s = rewriteCaptured (i .«captured_vars») (amendedLi
 
 -- where they lie
 
-abbrev pub entriesBetween : ℕ → ℕ → Entries
+abbrev pub entriesBetween : ℕ → ℕ → ListAt
 entriesBetween from to = record { first = from; length = to - from }
 
-abbrev pub capturedEntries : Option FunctionInformation → List Ident → Tree → State → Entries
-capturedEntries none xs b s = record { first = s .facts .capturedTop; length = length (madeList xs s) }
-capturedEntries (some i) xs b s = record { first = i .«captured_vars» .first; length = length (amendedList xs b (i .«captured_vars») s) }
+abbrev pub capturedListAt : Option FunctionInformation → List Ident → Tree → State → ListAt
+capturedListAt none xs b s = record { first = s .facts .capturedTop; length = length (madeList xs s) }
+capturedListAt (some i) xs b s = record { first = i .«captured_vars» .first; length = length (amendedList xs b (i .«captured_vars») s) }
 
-abbrev pub argumentEntries : Option FunctionInformation → State → Entries
-argumentEntries none s = record { first = s .facts .argumentsTop; length = length (layerList s) }
-argumentEntries (some i) s = i .arguments
+abbrev pub argumentListAt : Option FunctionInformation → State → ListAt
+argumentListAt none s = record { first = s .facts .argumentsTop; length = length (layerList s) }
+argumentListAt (some i) s = i .arguments
 
 -- the fact with them: a new one, or the one that the lambda has
-abbrev pub functionFact : Option FunctionInformation → Entries → Entries → Bool → ℕ → FunctionInformation
+abbrev pub functionFact : Option FunctionInformation → ListAt → ListAt → Bool → ℕ → FunctionInformation
 functionFact none captured arguments escapes depth = record {
   «captured_vars» = captured;
   arguments = arguments;
@@ -134,15 +135,15 @@ pub record ListsEnd (rs : List ℕ) (at : ℕ) (d : Lambda) (v : FoundFunction) 
   pub body : HasBody rs d b
   pub fits : Fits rs (raw p facts C A w) s
   pub few : at < rowsMost
-  pub made : functionFound v ≡ none → s .facts .argumentsTop + length (newestLayer (s .scope .names)) ≤ itemsMost
+  pub made : functionFound v ≡ none → s .facts .argumentsTop + length (newestLayer (s .scope .names)) ≤ listEntriesMost
   pub amended : (i : FunctionInformation) → functionFound v ≡ some i → Inside (i .«captured_vars»)
-  pub captured : p .«captured_top» + itemsMost < 4294967296
+  pub captured : p .«captured_top» + listEntriesMost < 4294967296
 
 -- the lists are in the tables, and the code says where they lie
 pub record Listed (o : Option FunctionInformation) (at : ℕ) (xs : List Ident) (b : Tree) (s : State) (e : EndedLists) (F C A w : List ℕ) : Type 0 where
   pub tied : Tied (raw (e .pass) F C A w) (withLists o at xs b s)
-  pub captured : e .captured ≡ capturedEntries o xs b s
-  pub arguments : e .arguments ≡ argumentEntries o s
+  pub captured : e .captured ≡ capturedListAt o xs b s
+  pub arguments : e .arguments ≡ argumentListAt o s
 
 pub record EndsLists (rs : List ℕ) (at : ℕ) (d : Lambda) (v : FoundFunction) (p : Pass) (C A w : List ℕ) (e : EndedLists) (C′ A′ w′ : List ℕ) : Type 0 where
   pub is : (F : List ℕ) (s : State) (xs : List Ident) (b : Tree) → Told rs (d .names) xs → HasBody rs d b → Fits rs (raw p F C A w) s

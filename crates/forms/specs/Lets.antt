@@ -5,19 +5,20 @@ use mathlib.Core.Bool.{Bool, true, false}
 use mathlib.Core.Option.{Option, some}
 use mathlib.Core.Path.{_≡_}
 use Rattle.tree.specs.Tree.{Ident, Node}
-use Rattle.semantic.specs.Rows.{Blank, Item}
+use Rattle.semantic.specs.Rows.{Blank, ListEntry}
 use Rattle.semantic.specs.Kinds.{functionIn, letIn}
-use Rattle.semantic.specs.declared.Entries.{Entries}
+use Rattle.semantic.specs.declared.ListAt.{ListAt}
 use Rattle.semantic.specs.declared.FunctionInformation.{FunctionInformation}
 use Rattle.semantic.specs.declared.LetInformation.{LetInformation}
 use Rattle.pass.specs.State.{State, rowAt}
 use Rattle.pass.specs.Lists.{listIn}
-use Rattle.pass.specs.Lambda.{heapsAround, letArguments, functionId, entered, makeLet, closeLet}
-use Rattle.pass.specs.Run.{rowsMost, itemsMost}
+use Rattle.pass.specs.Lambda.{heapsAround, letArguments, functionId, entered, makeLet, closeLayer}
+use Rattle.pass.specs.Run.{rowsMost, listEntriesMost}
 use Rattle.work.specs.Tied.{raw, Tied}
 use Rattle.work.specs.declared.Pass.{Pass}
 use Rattle.walk.specs.declared.uses.Names.{Names}
-use Rattle.lists.specs.Contract.{Told, Inside}
+use Rattle.lists.specs.Contract.{Told}
+use Rattle.amending.specs.Contract.{Inside}
 use Rattle.flags.specs.Flags.{AroundIs}
 use Rattle.forms.specs.Contract.{Fits, FewHeaps, heapsIn}
 use Rattle.flags.specs.declared.Around.{Around}
@@ -55,12 +56,12 @@ pub record LetAt (at : ℕ) (F : List ℕ) : Type 0 where
   pub few : at < rowsMost
   pub list : (v : LetInformation) → letIn (rowAt s at) ≡ some v → Inside (v .arguments)
 
-pub record TellsLet (at : ℕ) (F : List ℕ) (r : Entries) : Type 0 where
+pub record TellsLet (at : ℕ) (F : List ℕ) (r : ListAt) : Type 0 where
   pub is : (rs : List ℕ) (p : Pass) (C A w : List ℕ) (s : State) → Fits rs (raw p F C A w) s → listIn (s .facts .arguments) r ≡ letArguments s (rowAt s at)
   pub inside : Inside r
 
 -- the fact is made, if there is none
-abbrev pub makeIf : Bool → Node → List Item → ℕ → Option Node → State → State
+abbrev pub makeIf : Bool → Node → List ListEntry → ℕ → Option Node → State → State
 makeIf true n l height function s = makeLet Blank n l height function s
 makeIf false n l height function s = s
 
@@ -71,7 +72,7 @@ pub record MakeFits (rs : List ℕ) (blank : Bool) (at : ℕ) (n : Names) (a : A
   pub told : Told rs n xs
   pub fits : Fits rs (raw p F captured A w) s
   pub few : at < rowsMost
-  pub room : blank ≡ true → s .facts .argumentsTop + n .count ≤ itemsMost
+  pub room : blank ≡ true → s .facts .argumentsTop + n .count ≤ listEntriesMost
 
 pub record MakesLet (rs : List ℕ) (blank : Bool) (at : ℕ) (n : Names) (height : ℕ) (a : Around) (p : Pass) (F A w : List ℕ) (p′ : Pass) (F′ A′ : List ℕ) : Type 0 where
   pub is : (C : List ℕ) (s : State) (xs : List Ident) (m : Node) (function : Option Node) → m .at ≡ at → AroundIs a function → Told rs n xs

@@ -1,8 +1,6 @@
-pub mod Defines
 pub mod Contract
-pub mod FitsLaws
 pub mod Calls
-pub mod GoodLaws
 pub mod Bound
 pub mod Lets
 pub mod Lambdas
+pub mod Laws

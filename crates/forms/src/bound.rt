@@ -1,20 +1,19 @@
 // Names of a lambda or a let, as they enter and leave.
 use lists::captured::info_of;
-use names::define::entered;
-use names::define::put_name;
-use scope_map::ScopeMap;
-use semantic::Entries;
+use names::define::EnteredName;
+use names::define::name_in;
+use names::define::with_name;
 use semantic::IdentifierStatus;
+use semantic::ListAt;
 use semantic::SemanticInformation;
 use table::wide;
 use walk::uses::Names;
-use work::Noted;
 use work::Pass;
 use work::Second;
 use work::entries::Entry;
 use work::entries::load_entry;
 use work::narrow;
-use work::notes::note_second;
+use work::notes::first_second;
 use work::scope::live_at;
 use work::scope::newest_id;
 use work::scope::newest_layer;
@@ -25,24 +24,25 @@ ghost use Prim.Native.Nat.{suc, _+_, _≤_, _<_};
 ghost use lib.ListN.{length};
 ghost use Rattle.semantic.specs.declared.IdentifierStatus.the-variants.{HeapAllocated};
 ghost use Rattle.pass.specs.Lambda.{orZero};
-ghost use Rattle.pass.specs.Run.{rowsMost, itemsMost, factsLength, itemsLength};
+ghost use Rattle.pass.specs.Run.{rowsMost, listEntriesMost, factsLength, listEntriesLength};
 ghost use Rattle.work.specs.Coded.{coded};
 ghost use Rattle.work.specs.Scope.{StartsLayer};
-ghost use Rattle.lists.specs.Contract.{Inside};
-ghost use Rattle.forms.specs.Contract.{heapsIn, withEntered, enteredIn, NamesFit, EntersNames};
-ghost use Rattle.forms.specs.Bound.{TellsHeap, NameFits, EntersWith, nameEntry, NotesHeap, EntersName, SlotsFit, Marked, MarksLast, MarksLasts, BinderFits, LayerFits, NamesStore, StoresArgument, StoresLayer, StoresNames, NamesEnd, EndsParameters, LeavesNames};
+ghost use Rattle.names.specs.Contract.{Room, withName, Defined};
+ghost use Rattle.amending.specs.Contract.{Inside};
+ghost use Rattle.forms.specs.Contract.{heapsIn, withNames, NamesFit, EntersNames};
+ghost use Rattle.forms.specs.Bound.{TellsHeap, nameEntry, NotesHeap, EntersName, SlotsFit, Marked, MarksLast, MarksLasts, BinderFits, LayerFits, NamesStore, StoresArgument, StoresLayer, StoresNames, NamesEnd, EndsParameters, LeavesNames};
 
-pub fn no_entries() -> Entries
+pub fn no_list() -> ListAt
     ensures { λ r. ⌜ r ≡ record { first = 0; length = 0 } ⌝ }
 {
-    Entries {
+    ListAt {
         first: 0,
         length: 0,
     }
 }
 
-// How many heap entries the lambda around has, plus one; 0 where there is none. An enum would be stored in narrow words and copied in a wide one, and such a copy
-// waits for the stores.
+// How many heap entries the lambda around has, plus one; 0 where there is none. An enum would be stored in narrow words and copied in a wide one,
+// and such a copy waits for the stores (docs/SPEED.md, 49).
 pub struct Heaps {
     pub code: u32,
 }
@@ -52,18 +52,18 @@ pub struct Entering {
     pub kind: IdentifierStatus,
     pub base: u32,
     pub heaps: Heaps,
-    pub before: Entries,
+    pub before: ListAt,
 }
 
 // Whether the entry at place j of a list is captured and mutated.
-fn is_heap(arguments: &[u32], before: Entries, j: usize) -> bool
-    requires { ⌜ Inside before × (length (now arguments) ≡ itemsLength) ⌝ }
+fn is_heap(arguments: &[u32], before: ListAt, j: usize) -> bool
+    requires { ⌜ Inside before × (length (now arguments) ≡ listEntriesLength) ⌝ }
     ensures { λ r. ⌜ TellsHeap (now (arguments .entry)) before j r ⌝ }
 {
     if wide(before.length) <= j {
         return false;
     }
-    semantic::items::is_heap(arguments, wide(before.first) + j)
+    semantic::list_entries::is_heap(arguments, wide(before.first) + j)
 }
 
 fn next_heap(heap: bool, h: u32) -> u32
@@ -74,25 +74,6 @@ fn next_heap(heap: bool, h: u32) -> u32
         return h + 1;
     }
     h
-}
-
-// The name at the record enters with this entry and a fact of this kind.
-fn enter_with(
-    all: &[u32],
-    at: usize,
-    kind: IdentifierStatus,
-    e: Entry,
-    p: Pass,
-    facts: &mut [u32],
-    work: &mut [u32],
-) -> Pass
-    requires { ⌜ NameFits (now all) at p (now facts) (now work) × (e .uses ≡ 0) ⌝ }
-    ensures { λ r. ⌜ EntersWith (now (all .entry)) at kind e p (now (facts .entry)) (now (work .entry)) r (now (facts .exit)) (now (work .exit)) ⌝ }
-{
-    let fact = SemanticInformation::new(kind, p.depth(), names::facts::span_at(all, at));
-    let place = put_name(all, at, e, p, work);
-    semantic::rows::store_information(facts, at, fact);
-    entered(p, place, at)
 }
 
 fn or_zero(heaps: Heaps) -> u32
@@ -126,16 +107,16 @@ fn name_kind(heap: bool, kind: IdentifierStatus) -> IdentifierStatus
 }
 
 // Refusal 11: on the heap, with no lambda around.
-fn note_heap(heap: bool, heaps: Heaps, at: usize, p: Pass) -> Pass
-    ensures { λ r. ⌜ NotesHeap heap heaps at p r ⌝ }
+fn note_heap(heap: bool, heaps: Heaps, at: usize, before: Second) -> Second
+    ensures { λ r. ⌜ NotesHeap heap heaps at before r ⌝ }
 {
     if !heap {
-        return p;
+        return before;
     }
     if heaps.code == 0 {
-        return note_second(p, 11, at);
+        return first_second(before, 11, at);
     }
-    p
+    before
 }
 
 // The name at place j, with h heap entries before it.
@@ -149,38 +130,39 @@ fn enter_name(
     p: Pass,
     facts: &mut [u32],
     work: &mut [u32],
-) -> Pass
-    requires { ⌜ NameFits (now all) at p (now facts) (now work) × SlotsFit g j h ⌝ }
-    ensures { λ r. ⌜ EntersName heap (g .kind) (g .base) (g .heaps) (now (all .entry)) at j h p (now (facts .entry)) (now (work .entry)) r (now (facts .exit)) (now (work .exit)) ⌝ }
+) -> EnteredName
+    requires { ⌜ Room p × Defined (now all) at p (now facts) (now work) × SlotsFit g j h ⌝ }
+    ensures { λ r. ⌜ EntersName heap g (now (all .entry)) at j h p (now (facts .entry)) (now (work .entry)) (withName r p) (now (facts .exit)) (now (work .exit)) ⌝ }
 {
     let kind = g.kind;
-    let heaps = g.heaps;
-    let q = note_heap(heap, heaps, at, p);
-    let e = name_entry(heap, g, j, h, p.depth());
-    enter_with(all, at, name_kind(heap, kind), e, q, facts, work)
+    let depth = p.depth();
+    let e = name_entry(heap, g, j, h, depth);
+    let fact = SemanticInformation::new(
+        name_kind(heap, kind),
+        depth,
+        names::facts::span_at(all, at),
+    );
+    names::define::enter_name(all, at, e, fact, p, facts, work)
 }
 
-// What names that entered change of the pass.
+// What names that entered change of the pass: what the last one does, and the first refusal of a second run.
 pub struct EnteredNames {
-    pub length: usize,
-    pub nine: Noted,
+    pub name: EnteredName,
     pub second: Second,
 }
 
-fn entered_in(q: Pass) -> EnteredNames
-    ensures { λ r. ⌜ r ≡ enteredIn q ⌝ }
+pub fn with_names(p: Pass, e: EnteredNames) -> Pass
+    ensures { λ r. ⌜ r ≡ withNames e p ⌝ }
 {
-    let scope = q.scope;
-    let nine = q.nine;
-    let second = q.second;
-    EnteredNames {
-        length: scope.length,
-        nine,
-        second,
-    }
+    let name = e.name;
+    let second = e.second;
+    let mut q = with_name(p, name);
+    q.second = second;
+    q
 }
 
-// The loop holds only what changes: a whole pass would be stored in narrow words and copied in wide ones at each name, and such a copy waits for the stores.
+// The loop holds only what changes: a whole pass would be stored in narrow words and copied in wide ones at each name, and such a copy waits for the
+// stores (docs/SPEED.md, 48 and 49).
 pub fn enter_names(
     all: &[u32],
     names: Names,
@@ -191,48 +173,26 @@ pub fn enter_names(
     work: &mut [u32],
 ) -> EnteredNames
     requires { ⌜ NamesFit (now all) names g p (now facts) (now arguments) (now work) ⌝ }
-    ensures { λ r. ⌜ EntersNames (now (all .entry)) names g p (now (facts .entry)) (now (arguments .entry)) (now (work .entry)) (withEntered r p) (now (facts .exit)) (now (work .exit)) ⌝ }
+    ensures { λ r. ⌜ EntersNames (now (all .entry)) names g p (now (facts .entry)) (now (arguments .entry)) (now (work .entry)) (withNames r p) (now (facts .exit)) (now (work .exit)) ⌝ }
 {
     let first = names.first;
     let before = g.before;
-    let mut e = entered_in(p);
+    let heaps = g.heaps;
+    let mut name = name_in(p);
+    let mut second = p.second;
     let mut h = 0;
     let mut j = 0;
     while j < names.count {
+        let at = first + j;
         let heap = is_heap(arguments, before, j);
-        let q = enter_name(
-            all,
-            first + j,
-            heap,
-            g,
-            narrow(j),
-            h,
-            with_entered(p, e),
-            facts,
-            work,
-        );
-        e = entered_in(q);
+        second = note_heap(heap, heaps, at, second);
+        let e = EnteredNames { name, second };
+        let q = with_names(p, e);
+        name = enter_name(all, at, heap, g, narrow(j), h, q, facts, work);
         h = next_heap(heap, h);
         j += 1;
     }
-    e
-}
-
-pub fn with_entered(p: Pass, e: EnteredNames) -> Pass
-    ensures { λ r. ⌜ r ≡ withEntered e p ⌝ }
-{
-    let names = p.scope;
-    let scope = ScopeMap {
-        depth: names.depth,
-        length: e.length,
-    };
-    let nine = e.nine;
-    let second = e.second;
-    let mut q = p;
-    q.scope = scope;
-    q.nine = nine;
-    q.second = second;
-    q
+    EnteredNames { name, second }
 }
 
 // The last use that an entry tells, by its record counted from 1.
@@ -263,11 +223,11 @@ pub fn mark_lasts(p: Pass, low: usize, facts: &mut [u32], work: &[u32])
 
 // The binder at b, as an argument list keeps it, in row `to`.
 fn store_argument(all: &[u32], b: usize, to: usize, arguments: &mut [u32], work: &[u32])
-    requires { ⌜ BinderFits (now all) b (now work) × (to < itemsMost) × (length (now arguments) ≡ itemsLength) ⌝ }
+    requires { ⌜ BinderFits (now all) b (now work) × (to < listEntriesMost) × (length (now arguments) ≡ listEntriesLength) ⌝ }
     ensures { λ _. ⌜ StoresArgument (now (all .entry)) b to (now (arguments .entry)) (now (work .entry)) (now (arguments .exit)) ⌝ }
 {
     let e = load_entry(work, b);
-    semantic::items::store_item(
+    semantic::list_entries::store_list_entry(
         arguments,
         to,
         tree::record::name(all, b),

@@ -1,4 +1,4 @@
-// What a visit does at the end of a call, and what a set! does to the context.
+// Calls, as they close: last uses among the arguments, and their fact. What a set! does to the context.
 use semantic::CallKind;
 use semantic::CallSiteInformation;
 use semantic::NONE;
@@ -22,9 +22,9 @@ ghost use Rattle.pass.specs.Run.{rowsMost, factsLength};
 ghost use Rattle.semantic.specs.Rows.{rowWidth, putRow, CallSite};
 ghost use Rattle.semantic.specs.Leaves.{Stores};
 ghost use Rattle.pass.specs.Visit.{callKind};
-ghost use Rattle.forms.specs.Contract.{CallFits, EndsCall, ClearsContext};
-ghost use Rattle.tree.specs.Record.{records};
-ghost use Rattle.tree.specs.RecordLaws.{nth};
+ghost use Rattle.work.specs.Passes.{inContext};
+ghost use Rattle.forms.specs.Contract.{CallFits, ClosesCall, ClearsContext};
+ghost use Rattle.tree.specs.Record.{records, nth};
 ghost use Rattle.forms.specs.Calls.{constantRecord, Mentioned, IsLast, ArgumentFits, MarksArgument, ArgumentsFit, MarksArguments, MarksIfTail, TellsSelf, Called, MakesCall};
 
 // Whether the identifier's last use so far is the one at the record.
@@ -150,7 +150,7 @@ fn mark_if_tail(
 }
 
 // The call at the record, with k arguments, the first at the record `first`.
-pub fn end_call(
+pub fn close_call(
     all: &[u32],
     at: usize,
     first: usize,
@@ -162,20 +162,20 @@ pub fn end_call(
     work: &[u32],
 )
     requires { ⌜ CallFits (now all) at first k p (now facts) (now work) ⌝ }
-    ensures { λ _. ⌜ EndsCall (now (all .entry)) at first k tail counter p (now (facts .entry)) (now (work .entry)) (now (facts .exit)) ⌝ }
+    ensures { λ _. ⌜ ClosesCall (now (all .entry)) at first k tail counter p (now (facts .entry)) (now (work .entry)) (now (facts .exit)) ⌝ }
 {
     let eligible = is_tail(tail, p);
     mark_if_tail(all, first, k, eligible, p, facts, work);
     call_fact(all, at, eligible, counter, p, facts);
 }
 
-// set!: on a second run the context ends where the target referred to it.
-pub fn clear_context(at: usize, p: Pass, facts: &[u32]) -> Pass
+// set!: on a second run the context ends where the target referred to it. Answers the context.
+pub fn clear_context(at: usize, p: Pass, facts: &[u32]) -> u32
     requires { ⌜ (at < rowsMost) × (length (now facts) ≡ factsLength) ⌝ }
-    ensures { λ r. ⌜ ClearsContext at p (now (facts .entry)) r ⌝ }
+    ensures { λ r. ⌜ ClearsContext at p (now (facts .entry)) (inContext r p) ⌝ }
 {
     if is_self(at, p, facts) {
-        return p.with_context(NONE);
+        return NONE;
     }
-    p
+    p.context
 }

@@ -1,6 +1,8 @@
-// Defines: before and after their bodies, and the lambda defines that enter first. `enter_define` is handed a copy of the pass: what is handed
-// by address is kept in memory from the start, also where nothing enters.
+// Defines: as they open and close, and the lambda defines that enter first. `enter_define` is handed a copy of the pass: what is handed by
+// address is kept in memory from the start, also where nothing enters (docs/SPEED.md, 46).
+use names::define::EnteredName;
 use names::define::enter_define;
+use names::define::name_in;
 use names::define::with_name;
 use semantic::IdentifierStatus;
 use semantic::NONE;
@@ -10,10 +12,17 @@ use walk::body::core_at;
 use walk::extent::step_over;
 use work::Pass;
 ghost use lib.ListN.{length};
-ghost use Rattle.forms.specs.Contract.{DefineFits, BeforeDefine, EntersValue, AfterDefine, ChildFits, EntersChild, ChildrenFit, EntersChildren};
+ghost use Rattle.names.specs.Contract.{withName};
+ghost use Rattle.forms.specs.Contract.{withDefine, DefineFits, OpensDefine, EntersInnerValue, ClosesDefine, ChildFits, EntersChild, ChildrenFit, EntersChildren};
+
+// What a define changes of the pass as it opens, and as it closes.
+pub struct EnteredDefine {
+    pub context: u32,
+    pub name: EnteredName,
+}
 
 // The define at the record; `direct`: it stands directly in an inner begin, which has entered its lambda defines.
-pub fn before_define(
+pub fn open_define(
     all: &[u32],
     at: usize,
     direct: bool,
@@ -21,17 +30,20 @@ pub fn before_define(
     p: Pass,
     facts: &mut [u32],
     work: &mut [u32],
-) -> Pass
+) -> EnteredDefine
     requires { ⌜ DefineFits (now all) at p (now facts) (now work) ⌝ }
-    ensures { λ r. ⌜ BeforeDefine (now (all .entry)) at direct b p (now (facts .entry)) (now (work .entry)) r (now (facts .exit)) (now (work .exit)) ⌝ }
+    ensures { λ r. ⌜ OpensDefine (now (all .entry)) at direct b p (now (facts .entry)) (now (work .entry)) (withDefine r p) (now (facts .exit)) (now (work .exit)) ⌝ }
 {
     let id = tree::record::id(all, at + 1);
     if direct {
-        return p.with_context(id);
+        return EnteredDefine {
+            context: id,
+            name: name_in(p),
+        };
     }
     if b.lambda {
         let o = p;
-        let e = enter_define(
+        let name = enter_define(
             &*all,
             at + 1,
             IdentifierStatus::Local,
@@ -41,29 +53,31 @@ pub fn before_define(
             facts,
             work,
         );
-        let q = with_name(p, e);
-        return q.with_context(id);
+        return EnteredDefine { context: id, name };
     }
-    p
+    EnteredDefine {
+        context: p.context,
+        name: name_in(p),
+    }
 }
 
 // A value define enters after its body.
-fn enter_value(
+fn enter_inner_value(
     all: &[u32],
     at: usize,
     b: Body,
     p: Pass,
     facts: &mut [u32],
     work: &mut [u32],
-) -> Pass
+) -> EnteredName
     requires { ⌜ DefineFits (now all) at p (now facts) (now work) ⌝ }
-    ensures { λ r. ⌜ EntersValue (now (all .entry)) at b p (now (facts .entry)) (now (work .entry)) r (now (facts .exit)) (now (work .exit)) ⌝ }
+    ensures { λ r. ⌜ EntersInnerValue (now (all .entry)) at b p (now (facts .entry)) (now (work .entry)) (withName r p) (now (facts .exit)) (now (work .exit)) ⌝ }
 {
     if b.lambda {
-        return p;
+        return name_in(p);
     }
     let o = p;
-    let e = enter_define(
+    enter_define(
         &*all,
         at + 1,
         IdentifierStatus::Local,
@@ -72,11 +86,10 @@ fn enter_value(
         o,
         facts,
         work,
-    );
-    with_name(p, e)
+    )
 }
 
-pub fn after_define(
+pub fn close_define(
     all: &[u32],
     at: usize,
     direct: bool,
@@ -85,21 +98,24 @@ pub fn after_define(
     p: Pass,
     facts: &mut [u32],
     work: &mut [u32],
-) -> Pass
+) -> EnteredDefine
     requires { ⌜ DefineFits (now all) at p (now facts) (now work) ⌝ }
-    ensures { λ r. ⌜ AfterDefine (now (all .entry)) at direct context b p (now (facts .entry)) (now (work .entry)) r (now (facts .exit)) (now (work .exit)) ⌝ }
+    ensures { λ r. ⌜ ClosesDefine (now (all .entry)) at direct context b p (now (facts .entry)) (now (work .entry)) (withDefine r p) (now (facts .exit)) (now (work .exit)) ⌝ }
 {
-    let q = enter_value(all, at, b, p, facts, work);
+    let name = enter_inner_value(all, at, b, p, facts, work);
     if direct {
-        return q.with_context(context);
+        return EnteredDefine { context, name };
     }
     if b.lambda {
-        return q.with_context(context);
+        return EnteredDefine { context, name };
     }
-    q
+    EnteredDefine {
+        context: p.context,
+        name,
+    }
 }
 
-// The define of a lambda at the record, if it is one, enters with this kind.
+// The define of a lambda at the record, if it is one, enters with this kind. Called in one place, so that it is inlined (docs/SPEED.md, 48).
 fn enter_child(
     classes: &[u8],
     all: &[u32],
@@ -108,20 +124,19 @@ fn enter_child(
     p: Pass,
     facts: &mut [u32],
     work: &mut [u32],
-) -> Pass
+) -> EnteredName
     requires { ⌜ ChildFits (length (now classes)) (now all) at p (now facts) (now work) ⌝ }
-    ensures { λ r. ⌜ EntersChild (now (classes .entry)) (now (all .entry)) at kind p (now (facts .entry)) (now (work .entry)) r (now (facts .exit)) (now (work .exit)) ⌝ }
+    ensures { λ r. ⌜ EntersChild (now (classes .entry)) (now (all .entry)) at kind p (now (facts .entry)) (now (work .entry)) (withName r p) (now (facts .exit)) (now (work .exit)) ⌝ }
 {
     if tree::record::form(all, at) != tree::form::DEFINE {
-        return p;
+        return name_in(p);
     }
     let b = body_at(classes, all, at + 2);
     if b.lambda {
         let o = p;
-        let e = enter_define(&*all, at + 1, kind, NONE, b, o, facts, work);
-        return with_name(p, e);
+        return enter_define(&*all, at + 1, kind, NONE, b, o, facts, work);
     }
-    p
+    name_in(p)
 }
 
 // The lambda defines among k trees, the first at the record `first`.
@@ -134,17 +149,18 @@ pub fn enter_children(
     p: Pass,
     facts: &mut [u32],
     work: &mut [u32],
-) -> Pass
+) -> EnteredName
     requires { ⌜ ChildrenFit (length (now classes)) (now all) first k p (now facts) (now work) ⌝ }
-    ensures { λ r. ⌜ EntersChildren (now (classes .entry)) (now (all .entry)) first k kind p (now (facts .entry)) (now (work .entry)) r (now (facts .exit)) (now (work .exit)) ⌝ }
+    ensures { λ r. ⌜ EntersChildren (now (classes .entry)) (now (all .entry)) first k kind p (now (facts .entry)) (now (work .entry)) (withName r p) (now (facts .exit)) (now (work .exit)) ⌝ }
 {
-    let mut q = p;
+    let mut e = name_in(p);
     let mut at = first;
     let mut i = 0;
     while i < k {
-        q = enter_child(classes, all, core_at(all, at), kind, q, facts, work);
+        let q = with_name(p, e);
+        e = enter_child(classes, all, core_at(all, at), kind, q, facts, work);
         i += 1;
         at += step_over(all, at, k - i);
     }
-    q
+    e
 }

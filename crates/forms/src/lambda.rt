@@ -1,22 +1,22 @@
-// Lambdas: names that enter with them and leave.
+// Lambdas, as they open and close: layers, parameters, lists and their fact.
 use crate::bound::Entering;
 use crate::bound::Heaps;
 use crate::bound::end_parameters;
 use crate::bound::enter_names;
 use crate::bound::mark_lasts;
-use crate::bound::no_entries;
+use crate::bound::no_list;
 use crate::bound::store_layer;
-use crate::bound::with_entered;
-use lists::amend::Lambda;
-use lists::amend::amend_list;
+use crate::bound::with_names;
+use amending::amend::Lambda;
+use amending::amend::amend_list;
+use amending::number::heap_count;
+use amending::number::number_list;
 use lists::captured::store_captured;
-use lists::number::heap_count;
-use lists::number::number_list;
 use scope_map::ScopeMap;
-use semantic::Entries;
 use semantic::FoundFunction;
 use semantic::FunctionInformation;
 use semantic::IdentifierStatus;
+use semantic::ListAt;
 use semantic::NONE;
 use walk::uses::Names;
 use work::Pass;
@@ -30,11 +30,11 @@ ghost use mathlib.Core.Path.{_≡_};
 ghost use Prim.Native.Nat.{_≤_, _<_};
 ghost use lib.ListN.{length};
 ghost use Rattle.semantic.specs.Kinds.{functionFound};
-ghost use Rattle.pass.specs.Run.{itemsLength};
-ghost use Rattle.lists.specs.Contract.{SomeHeld};
-ghost use Rattle.forms.specs.Contract.{LambdaFits, EntersLambda, LambdaEnds, LeavesLambda};
+ghost use Rattle.pass.specs.Run.{listEntriesLength};
+ghost use Rattle.amending.specs.Contract.{SomeHeld};
+ghost use Rattle.forms.specs.Contract.{LambdaFits, OpensLambda, LambdaEnds, ClosesLambda};
 ghost use Rattle.forms.specs.Bound.{NamesEnd};
-ghost use Rattle.forms.specs.Lambdas.{ListRoom, NumbersCaptures, contextWithin, ListOpens, OpensList, ListInside, EntersBy, Closes, entriesBetween, functionFact, ListsEnd, EndsLists};
+ghost use Rattle.forms.specs.Lambdas.{ListRoom, NumbersCaptures, contextWithin, ListOpens, OpensList, ListInside, EntersBy, ClosesLayers, entriesBetween, functionFact, ListsEnd, EndsLists};
 
 // The captures after the lambda's list is numbered, where it has a fact.
 fn number_captures(v: FoundFunction, p: Pass, captured: &mut [u32], work: &mut [u32]) -> ScopeMap
@@ -63,7 +63,8 @@ fn context_within(v: FoundFunction, context: u32) -> u32
 }
 
 // The captures' layer opens, with the lambda's list where it has a fact; one that escapes ends the context. The pass is built in one
-// place: if each case returned one, it would be stored in narrow words and copied in wide ones, and such a copy waits for the stores.
+// place: if each case returned one, it would be stored in narrow words and copied in wide ones, and such a copy waits for the stores
+// (docs/SPEED.md, 49).
 fn open_list(v: FoundFunction, p: Pass, captured: &mut [u32], work: &mut [u32]) -> Pass
     requires { ⌜ ListOpens v p (now captured) (now work) ⌝ }
     ensures { λ r. ⌜ OpensList v p (now (captured .entry)) (now (work .entry)) r (now (captured .exit)) (now (work .exit)) ⌝ }
@@ -77,11 +78,11 @@ fn open_list(v: FoundFunction, p: Pass, captured: &mut [u32], work: &mut [u32]) 
 
 // What the parameters have in common.
 fn entering(v: FoundFunction, captured: &[u32]) -> Entering
-    requires { ⌜ ListInside v × (length (now captured) ≡ itemsLength) ⌝ }
+    requires { ⌜ ListInside v × (length (now captured) ≡ listEntriesLength) ⌝ }
     ensures { λ r. ⌜ EntersBy v (now (captured .entry)) r ⌝ }
 {
     let FoundFunction::Found(i) = v else {
-        let none = no_entries();
+        let none = no_list();
         let heaps = Heaps { code: 0 };
         return Entering {
             kind: IdentifierStatus::Local,
@@ -103,7 +104,7 @@ fn entering(v: FoundFunction, captured: &[u32]) -> Entering
     }
 }
 
-pub fn enter_lambda(
+pub fn open_lambda(
     all: &[u32],
     at: usize,
     names: Names,
@@ -114,20 +115,21 @@ pub fn enter_lambda(
     work: &mut [u32],
 ) -> Pass
     requires { ⌜ LambdaFits (now all) at names p (now facts) (now captured) (now arguments) (now work) ⌝ }
-    ensures { λ r. ⌜ EntersLambda (now (all .entry)) at names p (now (facts .entry)) (now (captured .entry)) (now (arguments .entry)) (now (work .entry)) r (now (facts .exit)) (now (captured .exit)) (now (work .exit)) ⌝ }
+    ensures { λ r. ⌜ OpensLambda (now (all .entry)) at names p (now (facts .entry)) (now (captured .entry)) (now (arguments .entry)) (now (work .entry)) r (now (facts .exit)) (now (captured .exit)) (now (work .exit)) ⌝ }
 {
     let v = semantic::kinds::function_at(facts, at);
     let o = open_list(v, p, captured, work);
     let q = open_scope(o);
     let g = entering(v, captured);
     let e = enter_names(all, names, g, q, facts, arguments, work);
-    with_entered(q, e)
+    with_names(q, e)
 }
 
-// The layer goes, and what its names were is marked.
-fn close_lambda(all: &[u32], names: Names, p: Pass, facts: &mut [u32], work: &mut [u32]) -> Pass
+// The layers of names and captures go, and what the names were is marked. Called in one place for both runs, so that it is inlined
+// (docs/SPEED.md, 48).
+fn close_layers(all: &[u32], names: Names, p: Pass, facts: &mut [u32], work: &mut [u32]) -> Pass
     requires { ⌜ NamesEnd (now all) names p (now facts) (now work) ⌝ }
-    ensures { λ r. ⌜ Closes (now (all .entry)) names p (now (facts .entry)) (now (work .entry)) r (now (facts .exit)) (now (work .exit)) ⌝ }
+    ensures { λ r. ⌜ ClosesLayers (now (all .entry)) names p (now (facts .entry)) (now (work .entry)) r (now (facts .exit)) (now (work .exit)) ⌝ }
 {
     let low = newest_layer(p, work);
     mark_lasts(p, low, facts, work);
@@ -138,11 +140,11 @@ fn close_lambda(all: &[u32], names: Names, p: Pass, facts: &mut [u32], work: &mu
 }
 
 // The list of the entries between two tops.
-fn between(from: usize, to: usize) -> Entries
+fn between(from: usize, to: usize) -> ListAt
     requires { ⌜ (from ≤ to) × (to < 4294967296) ⌝ }
     ensures { λ r. ⌜ r ≡ entriesBetween from to ⌝ }
 {
-    Entries {
+    ListAt {
         first: narrow(from),
         length: narrow(to - from),
     }
@@ -151,8 +153,8 @@ fn between(from: usize, to: usize) -> Entries
 // The pass after a lambda's lists are made or amended, and where they lie.
 struct EndedLists {
     pass: Pass,
-    captured: Entries,
-    arguments: Entries,
+    captured: ListAt,
+    arguments: ListAt,
 }
 
 // The first run makes the lists, the second amends the captured one.
@@ -186,7 +188,7 @@ fn end_lists(
     let n = amend_list(all, d, list, p, captured, work);
     EndedLists {
         pass: p,
-        captured: Entries {
+        captured: ListAt {
             first: list.first,
             length: narrow(n),
         },
@@ -197,8 +199,8 @@ fn end_lists(
 // The fact with its lists: a new one, or the one that the lambda has.
 fn function_fact(
     v: FoundFunction,
-    captured: Entries,
-    arguments: Entries,
+    captured: ListAt,
+    arguments: ListAt,
     escapes: bool,
     depth: u32,
 ) -> FunctionInformation
@@ -222,7 +224,7 @@ fn function_fact(
     }
 }
 
-pub fn leave_lambda(
+pub fn close_lambda(
     all: &[u32],
     at: usize,
     d: Lambda,
@@ -234,13 +236,13 @@ pub fn leave_lambda(
     work: &mut [u32],
 ) -> Pass
     requires { ⌜ LambdaEnds (now all) at d p (now facts) (now captured) (now arguments) (now work) ⌝ }
-    ensures { λ r. ⌜ LeavesLambda (now (all .entry)) at d escapes p (now (facts .entry)) (now (captured .entry)) (now (arguments .entry)) (now (work .entry)) r (now (facts .exit)) (now (captured .exit)) (now (arguments .exit)) (now (work .exit)) ⌝ }
+    ensures { λ r. ⌜ ClosesLambda (now (all .entry)) at d escapes p (now (facts .entry)) (now (captured .entry)) (now (arguments .entry)) (now (work .entry)) r (now (facts .exit)) (now (captured .exit)) (now (arguments .exit)) (now (work .exit)) ⌝ }
 {
     let names = d.names;
     let found = semantic::kinds::function_at(facts, at);
     let e = end_lists(all, at, d, found, p, captured, arguments, work);
     let b = e.pass;
-    let q = close_lambda(all, names, b, facts, work);
+    let q = close_layers(all, names, b, facts, work);
     let list = e.captured;
     let layer = e.arguments;
     let v = function_fact(found, list, layer, escapes, q.depth());

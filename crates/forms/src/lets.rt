@@ -1,18 +1,18 @@
-// Lets: names that enter with them and leave.
+// Lets, as they open and close: names that enter and leave, and their fact.
 use crate::bound::Entering;
 use crate::bound::Heaps;
 use crate::bound::enter_names;
 use crate::bound::leave_names;
-use crate::bound::no_entries;
+use crate::bound::no_list;
 use crate::bound::store_names;
-use crate::bound::with_entered;
+use crate::bound::with_names;
+use amending::number::heap_count;
 use flags::Around;
-use lists::number::heap_count;
-use semantic::Entries;
 use semantic::FoundFunction;
 use semantic::FoundLet;
 use semantic::IdentifierStatus;
 use semantic::LetInformation;
+use semantic::ListAt;
 use walk::uses::Names;
 use work::Pass;
 use work::narrow;
@@ -22,10 +22,10 @@ use work::scope::open_scope;
 ghost use mathlib.Core.Path.{_≡_};
 ghost use mathlib.Core.List.{List};
 ghost use Prim.Native.Nat.{ℕ, _<_};
-ghost use Rattle.pass.specs.Lambda.{atBottom, openLet, closeLet};
+ghost use Rattle.pass.specs.Lambda.{atBottom, openLayer, closeLayer};
 ghost use Rattle.work.specs.Works.{Spacious};
 ghost use Rattle.work.specs.Leaves.{Becomes};
-ghost use Rattle.forms.specs.Contract.{LetFits, EntersLet, LetEnds, LeavesLet};
+ghost use Rattle.forms.specs.Contract.{LetFits, OpensLet, LetEnds, ClosesLet};
 ghost use Rattle.forms.specs.Lets.{AroundFits, TellsHeaps, TellsFunction, LetAt, TellsLet, MakeFits, MakesLet};
 
 // How many heap entries the lambda around has.
@@ -53,21 +53,21 @@ fn function_id(f: Around) -> u32
     f.id
 }
 
-fn let_arguments(facts: &[u32], at: usize) -> Entries
+fn let_arguments(facts: &[u32], at: usize) -> ListAt
     requires { ⌜ LetAt at (now facts) ⌝ }
     ensures { λ r. ⌜ TellsLet at (now (facts .entry)) r ⌝ }
 {
     let found = semantic::kinds::let_at(facts, at);
     let FoundLet::Found(v) = found else {
-        return no_entries();
+        return no_list();
     };
     v.arguments
 }
 
 // A let opens a layer only at depth 1.
-fn open_let(p: Pass) -> Pass
+fn open_layer(p: Pass) -> Pass
     requires { ⌜ p .scope .depth < 4294967295 ⌝ }
-    ensures { λ r. ⌜ ((w : List ℕ) → Becomes p w (λ s. openLet (atBottom s) s) r w) ⌝ }
+    ensures { λ r. ⌜ ((w : List ℕ) → Becomes p w (λ s. openLayer (atBottom s) s) r w) ⌝ }
 {
     if p.depth() == 1 {
         return open_scope(p);
@@ -75,7 +75,7 @@ fn open_let(p: Pass) -> Pass
     p
 }
 
-pub fn enter_let(
+pub fn open_let(
     all: &[u32],
     at: usize,
     names: Names,
@@ -88,7 +88,7 @@ pub fn enter_let(
     work: &mut [u32],
 ) -> Pass
     requires { ⌜ LetFits (now all) at names height f p (now facts) (now captured) (now arguments) (now work) ⌝ }
-    ensures { λ r. ⌜ EntersLet (now (all .entry)) at names height f p (now (facts .entry)) (now (captured .entry)) (now (arguments .entry)) (now (work .entry)) r (now (facts .exit)) (now (work .exit)) ⌝ }
+    ensures { λ r. ⌜ OpensLet (now (all .entry)) at names height f p (now (facts .entry)) (now (captured .entry)) (now (arguments .entry)) (now (work .entry)) r (now (facts .exit)) (now (work .exit)) ⌝ }
 {
     let heaps = heaps_around(f, facts, captured);
     let before = let_arguments(facts, at);
@@ -98,9 +98,9 @@ pub fn enter_let(
         heaps,
         before,
     };
-    let q = open_let(p);
+    let q = open_layer(p);
     let e = enter_names(all, names, g, q, facts, arguments, work);
-    with_entered(q, e)
+    with_names(q, e)
 }
 
 // The let's fact, if it has none yet.
@@ -123,7 +123,7 @@ fn make_let(
         return p;
     }
     let q = store_names(all, names, p, arguments, work);
-    let list = Entries {
+    let list = ListAt {
         first: narrow(p.arguments_top),
         length: narrow(names.count),
     };
@@ -132,9 +132,10 @@ fn make_let(
     q
 }
 
-fn close_let(opened: bool, p: Pass, work: &mut [u32]) -> Pass
+// That layer, where the let opened one.
+fn close_layer(opened: bool, p: Pass, work: &mut [u32]) -> Pass
     requires { ⌜ Spacious p (now work) ⌝ }
-    ensures { λ r. ⌜ Becomes p (now (work .entry)) (closeLet opened) r (now (work .exit)) ⌝ }
+    ensures { λ r. ⌜ Becomes p (now (work .entry)) (closeLayer opened) r (now (work .exit)) ⌝ }
 {
     if opened {
         let low = newest_layer(p, work);
@@ -143,7 +144,7 @@ fn close_let(opened: bool, p: Pass, work: &mut [u32]) -> Pass
     p
 }
 
-pub fn leave_let(
+pub fn close_let(
     all: &[u32],
     opened: bool,
     at: usize,
@@ -156,10 +157,10 @@ pub fn leave_let(
     work: &mut [u32],
 ) -> Pass
     requires { ⌜ LetEnds (now all) at names f p (now facts) (now arguments) (now work) ⌝ }
-    ensures { λ r. ⌜ LeavesLet (now (all .entry)) opened at names height f p (now (facts .entry)) (now (arguments .entry)) (now (work .entry)) r (now (facts .exit)) (now (arguments .exit)) (now (work .exit)) ⌝ }
+    ensures { λ r. ⌜ ClosesLet (now (all .entry)) opened at names height f p (now (facts .entry)) (now (arguments .entry)) (now (work .entry)) r (now (facts .exit)) (now (arguments .exit)) (now (work .exit)) ⌝ }
 {
     let blank = semantic::kinds::is_blank(facts, at);
     let q = leave_names(all, names, p, facts, work);
     let r = make_let(all, blank, at, names, height, f, q, facts, arguments, work);
-    close_let(opened, r, work)
+    close_layer(opened, r, work)
 }

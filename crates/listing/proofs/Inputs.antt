@@ -10,9 +10,9 @@ use borrow.Author.Tests.{lt-ltb, eq-eqb}
 use lib.Dec.{ltb}
 use lib.ListN.{length, take}
 use Rattle.tree.specs.Record.{Record, width, numbers, records}
-use Rattle.tree.specs.TreeLaws.{whole-numbers}
+use Rattle.tree.specs.Laws.Tree.{whole-numbers}
 use Rattle.tree.specs.Check.{Refusal, when, check1, check2, refusal}
-use Rattle.tree.specs.Acceptance.{accepted as acceptance, only}
+use Rattle.tree.specs.Laws.Acceptance.{accepted as acceptance, only}
 use Rattle.pass.specs.Run.{Tables, zeros, lengthsFit}
 use Rattle.printing.specs.Numeral.{below-or}
 use Rattle.printing.specs.Puts.{Line}

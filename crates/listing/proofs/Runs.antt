@@ -9,15 +9,14 @@ use lib.ListN.{length}
 use Rattle.table.specs.Layout.{layout}
 use Rattle.tree.specs.Record.{width}
 use Rattle.tree.specs.Tree.{Trees, sizes, flats}
-use Rattle.tree.specs.TreeLaws.{length-numbers, length-flats}
+use Rattle.tree.specs.Laws.Tree.{length-numbers, length-flats}
 use Rattle.tree.specs.Check.{Refusal}
 use Rattle.tree.specs.Accepted.{Accepted}
 use Rattle.semantic.specs.Rows.{putRow}
 use Rattle.pass.specs.State.{Facts}
 use Rattle.pass.specs.Run.{Tables, rowsMost, noFacts, start, fresh, refusedFirst, tablesOf, Outcome, outcome, freshOutcome, fitting, Fresh}
-use Rattle.pass.specs.Laws.Rows.{key, key-blank}
-use Rattle.pass.specs.Laws.Keeps.{keeps-run}
-use Rattle.pass.specs.Laws.Tail.{blank-rows}
+use Rattle.pass_laws.specs.Laws.Rows.{key, key-blank, blank-rows}
+use Rattle.pass_laws.specs.Laws.Keeps.{keeps-run}
 use Rattle.printing.specs.Text.{refusedText}
 use Rattle.printing.specs.Puts.{Line}
 use Rattle.analysis.specs.Answer.{refusalIn}

@@ -92,3 +92,8 @@ pub record Answered (r : Reading) (T R : List ℕ) (t : Tables) (d : List ℕ) (
   pub cramped : length d < textLength → (n ≡ 0) × (t′ ≡ t) × (d′ ≡ d)
   pub inside : n ≤ length d′
   pub long : length d′ ≡ length d
+
+-- the text of the bytes which the state holds
+pub record TextIn (r : Reading) (T R d : List ℕ) (n : ℕ) : Type 0 where
+  pub is : (b L : List ℕ) → Holds r b L T R → Prints true b (take n d)
+  pub inside : n ≤ length d

@@ -2,11 +2,11 @@
 use Prim.Native.Nat.{ℕ}
 use mathlib.Core.Bool.{true, and-eq-true-iff}
 use mathlib.Core.List.{List}
-use mathlib.Core.Path.{_≡_, _∙_}
+use mathlib.Core.Path.{_≡_}
 use borrow.Author.Tests.{eq-eqb, eqb-true}
 use lib.Dec.{eqb}
 use lib.ListN.{length, replicate, length-replicate}
-use Rattle.pass.specs.Run.{Tables, factsLength, itemsLength, workLength, lengthsFit}
+use Rattle.pass.specs.Run.{Tables, factsLength, listEntriesLength, workLength, lengthsFit}
 use Rattle.analysis.specs.Answer.{tables}
 use Rattle.listing.specs.Listing.{classesLength, recordsLength, allFit}
 
@@ -26,35 +26,29 @@ pub all-fit : {T R : List ℕ} {t : Tables} → Fits T R t → allFit T R t ≡ 
 unfolding allFit
 all-fit {T} {R} f = rw (eq-eqb (length T) classesLength (f .classes), eq-eqb (length R) recordsLength (f .records), f .tables)
 
--- only lengths count
-pub still-fits : (T R T′ R′ : List ℕ) (t : Tables) → length T′ ≡ length T → length R′ ≡ length R → allFit T R t ≡ true → allFit T′ R′ t ≡ true
-still-fits T R T′ R′ t p q e =
-    let f = fits T R t e in
-    all-fit (record { classes = p ∙ f .classes; records = q ∙ f .records; tables = f .tables })
-
 -- arrays of zeros, as a program starts with
-of-lengths : (F C A w : List ℕ) → length F ≡ factsLength → length C ≡ itemsLength → length A ≡ itemsLength → length w ≡ workLength
+of-lengths : (F C A w : List ℕ) → length F ≡ factsLength → length C ≡ listEntriesLength → length A ≡ listEntriesLength → length w ≡ workLength
     → lengthsFit (tables F C A w) ≡ true
 unfolding lengthsFit
 of-lengths F C A w f c a k =
     rw (
       eq-eqb (length F) factsLength f,
-      eq-eqb (length C) itemsLength c,
-      eq-eqb (length A) itemsLength a,
+      eq-eqb (length C) listEntriesLength c,
+      eq-eqb (length A) listEntriesLength a,
       eq-eqb (length w) workLength k,
     )
 
-pub zeros-fit : allFit (replicate classesLength 0) (replicate recordsLength 0)
-    (tables (replicate factsLength 0) (replicate itemsLength 0) (replicate itemsLength 0) (replicate workLength 0)) ≡ true
-zeros-fit =
+pub zeros-fit : (T R : List ℕ) → length T ≡ classesLength → length R ≡ recordsLength
+    → allFit T R (tables (replicate factsLength 0) (replicate listEntriesLength 0) (replicate listEntriesLength 0) (replicate workLength 0)) ≡ true
+zeros-fit T R e f =
     all-fit
     (record {
-      classes = length-replicate {A = ℕ} classesLength 0;
-      records = length-replicate {A = ℕ} recordsLength 0;
+      classes = e;
+      records = f;
       tables =
-          of-lengths (replicate factsLength 0) (replicate itemsLength 0) (replicate itemsLength 0) (replicate workLength 0)
+          of-lengths (replicate factsLength 0) (replicate listEntriesLength 0) (replicate listEntriesLength 0) (replicate workLength 0)
           (length-replicate {A = ℕ} factsLength 0)
-          (length-replicate {A = ℕ} itemsLength 0)
-          (length-replicate {A = ℕ} itemsLength 0)
+          (length-replicate {A = ℕ} listEntriesLength 0)
+          (length-replicate {A = ℕ} listEntriesLength 0)
           (length-replicate {A = ℕ} workLength 0);
     })

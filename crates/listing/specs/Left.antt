@@ -11,7 +11,7 @@ use Rattle.tree.specs.Record.{Record, numbers}
 use Rattle.tree.specs.Tree.{Trees}
 use Rattle.tree.specs.Check.{Refusal, refusal}
 use Rattle.tree.specs.Accepted.{Accepted}
-use Rattle.tree.specs.Acceptance.{accepted as acceptance}
+use Rattle.tree.specs.Laws.Acceptance.{accepted as acceptance}
 use Rattle.pass.specs.Run.{Tables, zeros, freshOutcome}
 use Rattle.printing.specs.Numeral.{below-or}
 use Rattle.reading.specs.Reading.{Answer, bad, good, read}

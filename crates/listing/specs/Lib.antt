@@ -1,6 +1,5 @@
 pub mod Listing
-pub mod Printed
 pub mod Fits
 pub mod Left
 pub mod Answered
-pub mod Scripts
+pub mod Laws

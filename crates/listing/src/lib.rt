@@ -1,5 +1,7 @@
 // What `facts` prints for an input, as one text. A text is made at the start of a buffer; the answer is how many bytes it takes.
 use analysis::Answer;
+use analysis::FACTS;
+use analysis::LIST_ENTRIES;
 use analysis::clear_all;
 use analysis::fit;
 use analysis::fresh;
@@ -10,6 +12,7 @@ use printing::summary::summary;
 use reading::reader::Input;
 use reading::reader::Reading;
 use reading::reader::finish;
+use work::WORK;
 ghost use mathlib.Core.Path.{_≡_};
 ghost use Prim.Native.Nat.{_+_, _*_, _≤_};
 ghost use lib.ListN.{length, take};
@@ -18,7 +21,7 @@ ghost use Rattle.semantic.specs.Rows.{rowWidth};
 ghost use Rattle.pass.specs.Run.{factsLength};
 ghost use Rattle.analysis.specs.Answer.{tables};
 ghost use Rattle.listing.specs.Listing.{recordsMost, textLength, allFit};
-ghost use Rattle.listing.specs.Answered.{RowAfter, RowsIn, FactsIn, OutcomeIn, FreshIn, Counted, Few, InputIn, Answered};
+ghost use Rattle.listing.specs.Answered.{RowAfter, RowsIn, FactsIn, OutcomeIn, FreshIn, Counted, Few, InputIn, Answered, TextIn};
 
 // The most records of an input.
 pub const RECORDS: usize = 512;
@@ -198,4 +201,29 @@ pub fn answer(
             out,
         ),
     }
+}
+
+// The same with the run's tables made here.
+pub fn text(
+    r: Reading,
+    classes: &[u8; CLASS_TABLE],
+    records: &[u32; RECORD_TABLE],
+    out: &mut [u8; TEXT],
+) -> usize
+    ensures { λ n. ⌜ TextIn r (now (classes .entry)) (now (records .entry)) (now (out .exit)) n ⌝ }
+{
+    let mut facts = [0u32; FACTS];
+    let mut captured = [0u32; LIST_ENTRIES];
+    let mut arguments = [0u32; LIST_ENTRIES];
+    let mut work = [0u32; WORK];
+    answer(
+        r,
+        classes,
+        records,
+        &mut facts,
+        &mut captured,
+        &mut arguments,
+        &mut work,
+        out,
+    )
 }

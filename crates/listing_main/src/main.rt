@@ -1,13 +1,10 @@
 // Prints the text of each of many inputs, as `facts` prints that of one. The inputs and how they were made: tools/listing/make.py.
-use analysis::FACTS;
-use analysis::ITEMS;
 use listing::CLASS_TABLE;
 use listing::RECORD_TABLE;
 use listing::TEXT;
-use listing::answer;
+use listing::text;
 use reading::reader::feed;
 use reading::reader::start;
-use work::WORK;
 ghost use mathlib.Core.Bool.{true};
 ghost use mathlib.Core.Path.{_≡_};
 ghost use Prim.Native.Nat.{_+_, _≤_};
@@ -49,19 +46,13 @@ fn part_end(input: &[u8], at: usize) -> usize
     i
 }
 
-fn print_one(
-    input: &[u8],
-    line: &mut [u8],
-    classes: &mut [u8],
-    records: &mut [u32],
-    facts: &mut [u32],
-    captured: &mut [u32],
-    arguments: &mut [u32],
-    work: &mut [u32],
-    out: &mut [u8],
-) {
-    let r = feed(input, line, classes, records, start());
-    let n = answer(r, classes, records, facts, captured, arguments, work, out);
+fn print_one(input: &[u8]) {
+    let mut line = [0u8; 92];
+    let mut classes = [0u8; CLASS_TABLE];
+    let mut records = [0u32; RECORD_TABLE];
+    let mut out = [0u8; TEXT];
+    let r = feed(input, &mut line, &mut classes, &mut records, start());
+    let n = text(r, &classes, &records, &mut out);
     io::write_all(1, &out[..n]);
 }
 
@@ -69,31 +60,11 @@ fn print_parting() {
     io::write_all(1, b"---\n");
 }
 
-fn print_all(
-    input: &[u8],
-    line: &mut [u8],
-    classes: &mut [u8],
-    records: &mut [u32],
-    facts: &mut [u32],
-    captured: &mut [u32],
-    arguments: &mut [u32],
-    work: &mut [u32],
-    out: &mut [u8],
-) {
+fn print_all(input: &[u8]) {
     let mut at = 0;
     loop {
         let end = part_end(input, at);
-        print_one(
-            &input[at..end],
-            line,
-            classes,
-            records,
-            facts,
-            captured,
-            arguments,
-            work,
-            out,
-        );
+        print_one(&input[at..end]);
         if end == input.len() {
             return;
         }
@@ -112,23 +83,5 @@ fn space() -> [u8; 1048576]
 fn main() {
     let mut input = space();
     let end = io::read_full(0, &mut input);
-    let mut line = [0u8; 92];
-    let mut classes = [0u8; CLASS_TABLE];
-    let mut records = [0u32; RECORD_TABLE];
-    let mut facts = [0u32; FACTS];
-    let mut captured = [0u32; ITEMS];
-    let mut arguments = [0u32; ITEMS];
-    let mut work = [0u32; WORK];
-    let mut out = [0u8; TEXT];
-    print_all(
-        &input[..end],
-        &mut line,
-        &mut classes,
-        &mut records,
-        &mut facts,
-        &mut captured,
-        &mut arguments,
-        &mut work,
-        &mut out,
-    );
+    print_all(&input[..end]);
 }

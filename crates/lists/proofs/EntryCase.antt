@@ -6,8 +6,7 @@ use mathlib.Core.Option.{Option, none, some}
 use mathlib.Core.Path.{_≡_, refl, ap, sym, _∙_}
 use native.Mathlib.Omega.{arith}
 use lib.ListN.{length}
-use Rattle.tree.specs.Record.{Record, records}
-use Rattle.tree.specs.RecordLaws.{nth}
+use Rattle.tree.specs.Record.{Record, records, nth}
 use Rattle.tree.specs.Tree.{Ident}
 use Rattle.semantic.specs.Information.{NONE}
 use Rattle.semantic.specs.declared.ScopeInfo.{ScopeInfo}
@@ -17,14 +16,14 @@ use Rattle.work.specs.Known.{Known}
 use Rattle.work.specs.Coded.{lastCode, recordIn, recordOf}
 use Rattle.work.specs.Leaves.{Tells, LoadsEntry}
 use Rattle.work.specs.Scope.{KnownHere}
-use Rattle.work.specs.ScopeLaws.{newest-known}
+use Rattle.work.specs.Laws.Scope.{newest-known}
 use Rattle.work.specs.declared.Pass.{Pass}
 use Rattle.work.specs.declared.entries.Entry.{Entry as Coded}
 use Rattle.work.specs.declared.scope.Binder.{Binder}
 use Rattle.work.specs.declared.scope.Binder.the-variants as binder
 use Rattle.lists.specs.Contract.{Infos}
 use Rattle.lists.specs.Index.{entryIn, whereCaptured, capturedNewest}
-use Rattle.lists.specs.Given.{SomeLast, TellsLast, SomeEntry, KnownEntry, MakesItem}
+use Rattle.lists.specs.Given.{SomeLast, TellsLast, SomeEntry, KnownEntry, MakesListEntry}
 
 -- The id of a last use
 
@@ -88,9 +87,9 @@ entry-some {b = b} h t = record {
   lasts = h .lasts;
 }
 
-pub item-made : {rs w : List ℕ} {b : ℕ} {e : Coded} {n : ℕ} {v : ScopeInfo} → LoadsEntry w b e → n ≡ nth rs b .name → Infos rs b e v
-    → MakesItem rs w b (record { name = n; binder = b; info = v })
-item-made {rs} {b = b} t p i = record {
+pub list-entry-made : {rs w : List ℕ} {b : ℕ} {e : Coded} {n : ℕ} {v : ScopeInfo} → LoadsEntry w b e → n ≡ nth rs b .name → Infos rs b e v
+    → MakesListEntry rs w b (record { name = n; binder = b; info = v })
+list-entry-made {rs} {b = b} t p i = record {
   is = λ q s x k y at h. record {
     name = p ∙ ap (λ (j : ℕ). nth rs j .name) (sym at) ∙ ap (λ (d : Record). d .name) (y .is);
     binder = sym at;

@@ -7,26 +7,23 @@ use mathlib.Core.Path.{_≡_, refl, ap, sym, subst, _∙_}
 use native.Mathlib.Omega.{arith}
 use native.Mathlib.Numerals.{add-one}
 use borrow.Author.Tests.{eqb-true, eqb-false}
-use lib.ListN.{length, getD, set, drop, replicate, length-map, drop-of-length-le}
+use lib.ListN.{length, getD, set, drop, length-map, drop-of-length-le}
 use lib.Seq.{getD-set-same, getD-set-other, drop-cons}
 use lib.Dec.{eqb}
-use Rattle.tree.specs.Record.{Record}
-use Rattle.tree.specs.RecordLaws.{nth}
+use Rattle.tree.specs.Record.{Record, nth}
 use Rattle.tree.specs.Tree.{Ident}
 use Rattle.tree.specs.Check.{member}
 use Rattle.tree.specs.Accepted.{All}
 use Rattle.tree.specs.Stands.{NamesStand}
-use Rattle.tree.specs.StandsLaws.{first-name, first-place, later-names}
+use Rattle.tree.specs.Laws.Stands.{first-name, first-place, later-names}
 use Rattle.scope_map.specs.ScopeMap.{Live, getIn}
 use Rattle.scope_map.specs.declared.Row.{Row}
 use Rattle.pass.specs.State.{State, Scope, binderIn}
 use Rattle.pass.specs.Lambda.{nameIn}
 use Rattle.pass.specs.Run.{rowsMost}
-use Rattle.pass.specs.Laws.Sound.Lists.{all-drop}
+use Rattle.pass_laws.specs.Laws.Sound.Lists.{all-drop}
 use Rattle.work.specs.Known.{Known}
 use Rattle.work.specs.Coded.{lastCode}
-use Rattle.work.specs.Works.{Works}
-use Rattle.work.specs.WorksLaws.{names-many}
 use Rattle.work.specs.Leaves.{LoadsEntry}
 use Rattle.work.specs.Scope.{before, KnownHere, TellsLive}
 use Rattle.work.specs.declared.Pass.{Pass}
@@ -34,7 +31,7 @@ use Rattle.work.specs.declared.entries.Entry.{Entry as Coded}
 use Rattle.walk.specs.declared.uses.Names.{Names}
 use Rattle.lists.specs.Contract.{Told}
 use Rattle.lists.specs.Index.{entryIn, whereCaptured, capturedNewest, decoded, Indexed, CodesBinder, PutsRow, Zeros, PutsRows, ClearsName, ClearsNames}
-use Rattle.lists.proofs.GivenCase.{next-live, before-none, before-all, live-is}
+use Rattle.lists.specs.Laws.Live.{live-is, Upto, upto-none, all-upto, upto-next}
 
 -- A binder's code
 
@@ -72,11 +69,6 @@ module _ (a : List ℕ) (n v x : ℕ) (q : Bool) (same : q ≡ true → n ≡ x)
       go true e = absurd (omega (arith, same e))
       go false e = refl
 
-pub zeros : (n : ℕ) → Zeros (replicate n 0)
-zeros zero x = refl
-zeros (suc n) zero = refl
-zeros (suc n) (suc x) = zeros n x
-
 -- The live names
 
 -- the record of each lies inside the table
@@ -106,29 +98,24 @@ module _ {p : Pass} {w : List ℕ} {i : ℕ} {r : Row} (t : TellsLive p w i r) {
   }
 
 -- those before row i are put
-pub record PutTo (p : Pass) (w : List ℕ) (i : ℕ) (a : List ℕ) : Type 0 where
-  pub is : (s : State) → Works p w s → (x : ℕ) → x < length a → getD a x 0 ≡ lastCode (whereCaptured (s .scope) (binderIn (getIn (before i (s .scope .names .live)) x)))
+
+abbrev pub PutIn : List ℕ → State → List (Live Ident) → Type 0
+PutIn a s l = (x : ℕ) → x < length a → getD a x 0 ≡ lastCode (whereCaptured (s .scope) (binderIn (getIn l x)))
+
+pub put-start : {p : Pass} {w : List ℕ} (a : List ℕ) → Zeros a → Upto p w (PutIn a) 0
+unfolding getIn
+put-start a z = upto-none (λ s works x h. z x)
 
 module _ {p : Pass} {w a : List ℕ} where
-  pub put-start : Zeros a → PutTo p w 0 a
-  unfolding getIn
-  put-start z = record {
-    is = λ s works x h.
-        z x ∙ sym (ap (λ (l : List (Live Ident)). lastCode (whereCaptured (s .scope) (binderIn (getIn l x)))) (before-none (s .scope .names .live)));
-  }
-
-  module _ {i : ℕ} (u : PutTo p w i a) where
-    pub put-next : {b : List ℕ} → PutsRow p w i a b → length b ≡ length a → i < p .scope .length → PutTo p w (i + 1) b
+  module _ {i : ℕ} (u : Upto p w (PutIn a) i) where
+    pub put-next : {b : List ℕ} → PutsRow p w i a b → length b ≡ length a → i < p .scope .length → Upto p w (PutIn b) (i + 1)
     unfolding getIn
-    put-next {b} f g h = record {
-      is = λ s works x k.
-          let l = s .scope .names .live in
-          let v = next-live l i (omega (arith, names-many works)) in
-          f .is s (v .live) works (v .up) x (omega arith)
-          ∙ ap (λ (n : ℕ). cond (eqb (v .live .name) x) (lastCode (whereCaptured (s .scope) (some (v .live .value)))) n) (u .is s works x (omega arith))
-          ∙ go (s .scope) (v .live) (getIn (before i l) x) (eqb (v .live .name) x)
-          ∙ sym (ap (λ (m : List (Live Ident)). lastCode (whereCaptured (s .scope) (binderIn (getIn m x)))) (ap (λ (j : ℕ). before j l) (add-one i) ∙ v .up));
-    }
+    put-next {b} f g h =
+        upto-next u h
+        (λ s works e up r x k.
+        f .is s e works up x (omega arith)
+        ∙ ap (λ (n : ℕ). cond (eqb (e .name) x) (lastCode (whereCaptured (s .scope) (some (e .value)))) n) (r x (omega arith))
+        ∙ go (s .scope) e (getIn (before i (s .scope .names .live)) x) (eqb (e .name) x))
       where
         go : (c : Scope) (e : Live Ident) (o : Option (Live Ident)) (q : Bool)
             → cond q (lastCode (whereCaptured c (some (e .value)))) (lastCode (whereCaptured c (binderIn o))) ≡ lastCode (whereCaptured c (binderIn (cond q (some e) o)))
@@ -136,12 +123,7 @@ module _ {p : Pass} {w a : List ℕ} where
         go c e o false = refl
 
     pub put-last : p .scope .length ≤ i → PutsRows p w a
-    put-last h = record {
-      is = λ s works x k.
-          u .is s works x k
-          ∙ ap (λ (l : List (Live Ident)). lastCode (whereCaptured (s .scope) (binderIn (getIn l x))))
-          (before-all (s .scope .names .live) i (omega (arith, names-many works)));
-    }
+    put-last h = record { is = all-upto u h }
 
 -- The parameters
 

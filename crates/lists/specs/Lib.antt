@@ -4,6 +4,4 @@ pub mod Order
 pub mod Index
 pub mod Given
 pub mod Collected
-pub mod Numbered
-pub mod Counts
-pub mod Kept
+pub mod Laws

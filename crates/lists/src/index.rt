@@ -1,4 +1,4 @@
-// What a name gives to the list of a lambda that ends: by search, or, where many names are live, by an index of them.
+// What a name gives to the list of a lambda that ends: by search, or, where many names are live, by an index of them (docs/SPEED.md, 31).
 use table::wide;
 use walk::uses::Names;
 use walk::uses::holds;

@@ -6,7 +6,7 @@ use mathlib.Core.Option.{Option, none, some}
 use mathlib.Core.Path.{_≡_, refl, ap, sym, _∙_, subst}
 use native.Mathlib.Omega.{arith}
 use lib.Dec.{ltb}
-use Rattle.tree.specs.RecordLaws.{nth}
+use Rattle.tree.specs.Record.{nth}
 use Rattle.tree.specs.Tree.{Ident}
 use Rattle.scope_map.specs.ScopeMap.{ScopeMap, hasAtTop}
 use Rattle.scope_map.specs.ScopeMap as map
@@ -20,23 +20,23 @@ use Rattle.semantic.specs.declared.SemanticInformation.{SemanticInformation}
 use Rattle.semantic.specs.declared.Span.{Span}
 use Rattle.pass.specs.State.{State, Entry, putEntry, insert, amend, withNames, topLevelEntry, newest, depth}
 use Rattle.pass.specs.Read.{noteLive, enter, statusAt, defineFact, enterDefine, shadowIfBuiltin, shadow, enterTopLevelValue, alias}
-use Rattle.pass.specs.Laws.Sound.Each.{each-mark}
-use Rattle.pass.specs.Laws.Sound.Names.{marked-uses}
+use Rattle.pass_laws.specs.Laws.Sound.Each.{each-mark}
+use Rattle.pass_laws.specs.Laws.Sound.Names.{marked-uses}
 use Rattle.work.specs.Coded.{coded, recordIn}
 use Rattle.work.specs.Works.{Works}
-use Rattle.work.specs.WorksLaws.{depth-is, second-is}
-use Rattle.work.specs.ScopeLaws.{newest-known}
+use Rattle.work.specs.Laws.Works.{depth-is}
+use Rattle.work.specs.Laws.Scope.{newest-known}
 use Rattle.work.specs.Leaves.{Becomes, Tells, StoresEntry}
 use Rattle.work.specs.Scope.{TellsId, isLiveRow, inRow, Defines}
 use Rattle.work.specs.Tied.{raw, Tied, Good, Here}
-use Rattle.work.specs.TiedLaws.{rowCount, enter-facts, tied-works, tied-insert, tied-amend}
-use Rattle.work.specs.GoodLaws.{sized-enter, sized-amend, good-each}
+use Rattle.work.specs.Laws.Tied.{rowCount, enter-facts, tied-works, tied-insert, tied-amend}
+use Rattle.work.specs.Laws.Good.{sized-enter, sized-amend, good-each}
 use Rattle.work.specs.declared.Pass.{Pass}
 use Rattle.work.specs.declared.entries.Entry.{Entry as Coded}
 use Rattle.walk.specs.declared.body.Body.{Body}
 use Rattle.names.specs.Facts.{spanOf}
-use Rattle.names.specs.Contract.{Enters, Entered, withName, nameIn, PutsName, DefinesBy, EntersValue, Defined}
-use Rattle.names.specs.EnteredLaws.{enter-aside, enter-second, works-entered}
+use Rattle.names.specs.Contract.{withName, nameIn, EntersName, DefinesBy, EntersValue, Defined}
+use Rattle.names.specs.Laws.Entered.{enter-aside, enter-second, works-entered}
 use Rattle.names.specs.Steps.{DefineFact, Shadows}
 use Rattle.names.proofs.KnownCase.{known-name, known-span, known-few, found-none, uses-are}
 
@@ -66,49 +66,39 @@ note-after : (b : Bool) (i : ℕ) (m : ScopeMap Ident) (s : State) → noteLive 
 note-after true i m s = refl
 note-after false i m s = refl
 
-pub puts-name : {rs : List ℕ} {at n place : ℕ} {e : Coded} {p : Pass} {w w₁ w₂ : List ℕ} → n ≡ nth rs at .name
-    → Defines p w n at place w₁ → StoresEntry w₁ at e w₂ → PutsName rs at e p w place w₂
+-- the tables have the name, and the pass after it tells what it changed
+pub name-enters : {rs : List ℕ} {at n place : ℕ} {e : Coded} {v : SemanticInformation} {b : Bool} {p q r : Pass} {F F′ w w₁ w₂ : List ℕ} → n ≡ nth rs at .name
+    → Defines p w n at place w₁ → StoresEntry w₁ at e w₂ → Stores putRow F at (Variable v) F′ → b ≡ isLiveRow place p → q ≡ inRow place p
+    → ((w : List ℕ) → Becomes q w (noteLive b at) r w) → EntersName rs at e v p F w (withName (nameIn r) p) F′ w₂
 unfolding enter
-puts-name {at = at} {n} {place} {p = p} {w₁ = w₁} {w₂} en d m = record {
-  is = λ q o. record {
-    is = λ s x v kx px ev k.
+name-enters {at = at} {n} {v = v} {p = p} {r = r} {F} {F′} {w₁ = w₁} {w₂} en d m st eb eq o = record {
+  is = λ C u eu. record {
+    is = λ A s x h.
+        let k = h .tied .works in
         let names = map.define n x (s .scope .names) in
-        let k₁ : Works q w₁ (noteLive (isLiveRow place p) at (withNames names s)) = o .is w₁ .is (withNames names s) (d .is s x px k) in
-        let k₂ : Works q w₁ (withNames names (noteLive (isLive n s) at s)) = rw (d .live s k, note-after (isLive n s) at names s) at k₁ in
-        subst (λ (n : ℕ). Works q w₂ (entered n (x .at) x v s)) (en ∙ known-name kx px)
-        (subst (λ (i : ℕ). Works q w₂ (entered n i x v s)) (sym px) (m .is q (withNames names (noteLive (isLive n s) at s)) v k₂ ev));
+        let k₁ : Works r w₁ (noteLive (isLive n s) at (withNames names s)) = rw (eq, eb, d .live s k) at o w₁ .is (withNames names s) (d .is s x (h .place) k) in
+        let k₂ : Works r w₁ (withNames names (noteLive (isLive n s) at s)) = rw (note-after (isLive n s) at names s) at k₁ in
+        let k₃ : Works r w₂ (enter x u s) =
+        subst (λ (n : ℕ). Works r w₂ (entered n (x .at) x u s)) (en ∙ known-name (h .known) (h .place))
+        (subst (λ (i : ℕ). Works r w₂ (entered n i x u s)) (sym (h .place)) (m .is r (withNames names (noteLive (isLive n s) at s)) u k₂ eu)) in
+        let t : Tied (raw (withName (nameIn r) p) F C A w₂) (enter x u s) =
+        tied-works (enter x u s) (h .tied) (enter-facts x u s) (works-entered k k₃ (enter-aside x u s) (enter-second x u s)) in
+        let j : at < rowCount (enter x u s) = omega (arith, sized-enter x u s .rows, h .good .rows, known-few (h .known) (h .place)) in
+        subst (λ (i : ℕ). Tied (raw (withName (nameIn r) p) F′ C A w₂) (insert i (Variable v) (enter x u s))) (sym (h .place)) (tied-insert t j st);
   };
-}
-
-pub passed : {place at : ℕ} {p q r : Pass} {b : Bool} → b ≡ isLiveRow place p → q ≡ inRow place p → ((w : List ℕ) → Becomes q w (noteLive b at) r w)
-    → Entered place at p r
-passed {at = at} {r = r} e f o = record { is = rw (e, f) at o }
-
--- the pass from before, with what the name changed, is the pass after it
-pub enters-changed : {rs : List ℕ} {at : ℕ} {e : Coded} {p q : Pass} {w w′ : List ℕ} → Enters rs at e p w q w′ → Enters rs at e p w (withName (nameIn q) p) w′
-enters-changed k = record {
-  is = λ s x v kx px ev h.
-      works-entered h (k .is s x v kx px ev h) (enter-aside x v s) (second-is h ∙ sym (enter-second x v s));
 }
 
 pub top-level-fits : {e : Coded} → e ≡ coded topLevelEntry → e .uses < 536870912
 top-level-fits q = omega (arith, uses-are q)
 
 pub defines-by : {b : Body} {kind : IdentifierStatus} {a : ℕ} {rs : List ℕ} {at : ℕ} {p q : Pass} {F w F′ w′ : List ℕ} {e : Coded} {r : SemanticInformation}
-    → DefineFact b kind a rs at p w r → e ≡ coded topLevelEntry → Enters rs at e p w q w′ → Stores putRow F at (Variable r) F′
-    → DefinesBy b kind a rs at p F w q F′ w′
+    → DefineFact b kind a rs at p w r → e ≡ coded topLevelEntry → EntersName rs at e r p F w q F′ w′ → DefinesBy b kind a rs at p F w q F′ w′
 unfolding enterDefine
-defines-by {kind = kind} {a} {rs} {at} {p} {q} {F} {w} {F′} {w′} {r = r} f ee k m = record {
+defines-by {kind = kind} {a} {r = r} f ee k = record {
   is = λ classes t C eb. record {
     is = λ A s x h.
-        let s₁ = enter x topLevelEntry s in
-        let t₁ : Tied (raw q F C A w′) s₁ =
-        tied-works s₁ (h .tied) (enter-facts x topLevelEntry s) (k .is s x topLevelEntry (h .known) (h .place) ee (h .tied .works)) in
-        let e = sized-enter x topLevelEntry s .rows in
-        let j : at < rowCount s₁ = omega (arith, e, h .good .rows, known-few (h .known) (h .place)) in
         let z : r ≡ defineFact classes kind a x t s = f .is classes t s x eb (h .known) (h .place) (h .tied .works) (h .good .sound .binders) in
-        subst (λ (i : ℕ). Tied (raw q F′ C A w′) (insert i (Variable (defineFact classes kind a x t s)) s₁)) (sym (h .place))
-        (rw z at (tied-insert t₁ j m));
+        rw z at (k .is C topLevelEntry ee .is A s x h);
   };
 }
 

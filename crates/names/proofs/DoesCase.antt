@@ -5,7 +5,7 @@ use mathlib.Core.Bool.{Bool, true, false, cond}
 use mathlib.Core.Option.{Option, none, some}
 use mathlib.Core.Path.{_≡_, refl, ap, sym, _∙_, subst}
 use lib.Dec.{eqb}
-use Rattle.tree.specs.RecordLaws.{nth}
+use Rattle.tree.specs.Record.{nth}
 use Rattle.tree.specs.Tree.{Ident}
 use Rattle.scope_map.specs.ScopeMap.{Live, get}
 use Rattle.semantic.specs.Rows.{Blank, putRow}
@@ -17,9 +17,9 @@ use Rattle.pass.specs.State.{State, Capture, entryAt, newest, depth}
 use Rattle.pass.specs.Read.{Rule, noEntry, depthOne, currentLayer, takenCapture, homeSlot, captureRule, entryRule, ruleOf, read, isPrelude}
 use Rattle.work.specs.Known.{Known}
 use Rattle.work.specs.Coded.{recordIn}
-use Rattle.work.specs.WorksLaws.{depth-is}
+use Rattle.work.specs.Laws.Works.{depth-is}
 use Rattle.work.specs.Passes.{withSecond}
-use Rattle.work.specs.ScopeLaws.{newest-known}
+use Rattle.work.specs.Laws.Scope.{newest-known}
 use Rattle.work.specs.Tied.{raw, Here}
 use Rattle.work.specs.declared.Pass.{Pass}
 use Rattle.work.specs.declared.Second.{Second}

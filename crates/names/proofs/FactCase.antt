@@ -10,7 +10,7 @@ use Rattle.semantic.specs.declared.ScopeInfo.{ScopeInfo}
 use Rattle.semantic.specs.declared.SemanticInformation.{SemanticInformation}
 use Rattle.semantic.specs.declared.Span.{Span}
 use Rattle.pass.specs.Read.{markIf, statusAt, hasNumber, captureOffsets}
-use Rattle.work.specs.declared.captures.Taken.{Taken}
+use Rattle.work.specs.declared.captures.Capture.{Capture as CodedCapture}
 use Rattle.work.specs.declared.entries.Entry.{Entry as Coded}
 use Rattle.names.specs.Facts.{readingOf, FreeFact, GlobalFact, LocalFact, HomeFact, TakenFact}
 
@@ -79,7 +79,7 @@ module _ {d id : ℕ} {e : Coded} {p : Span} {i r : SemanticInformation} where
   pub home : i ≡ readingOf Captured d id p → r ≡ withOffset (e .slot) i → HomeFact d id e p r
   home ei er = record { is = λ b v x n q g. rw (er, ei, q, n, g) refl }
 
-pub taken : {d : ℕ} {t : Taken} {v : ScopeInfo} {p : Span} {s : IdentifierStatus} {i j k l r : SemanticInformation}
+pub taken : {d : ℕ} {t : CodedCapture} {v : ScopeInfo} {p : Span} {s : IdentifierStatus} {i j k l r : SemanticInformation}
     → s ≡ cond (v .mutated) HeapAllocated Captured → i ≡ readingOf s d (t .id) p → j ≡ withCapturedFromEnclosing (t .enclosing) i
     → k ≡ markIf (hasNumber (v .«read_capture_offset»)) (captureOffsets v) j → l ≡ withReadHeapOffset (v .«read_heap_offset») k
     → r ≡ withHeapOffset (v .«heap_offset») l → TakenFact d t v p r

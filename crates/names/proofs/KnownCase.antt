@@ -7,8 +7,7 @@ use mathlib.Core.Path.{_≡_, refl, ap, sym, _∙_, subst}
 use native.Mathlib.Omega.{arith}
 use lib.ListN.{length}
 use lib.Dec.{eqb}
-use Rattle.tree.specs.Record.{Record, records}
-use Rattle.tree.specs.RecordLaws.{nth}
+use Rattle.tree.specs.Record.{Record, records, nth}
 use Rattle.tree.specs.Tree.{Ident, named}
 use Rattle.tree.specs.Accepted.{All}
 use Rattle.scope_map.specs.ScopeMap.{Live, getIn}
@@ -18,16 +17,16 @@ use Rattle.semantic.specs.declared.SemanticInformation.{SemanticInformation}
 use Rattle.pass.specs.State.{State, rowAt, newest}
 use Rattle.pass.specs.Read.{span}
 use Rattle.pass.specs.Run.{rowsMost}
-use Rattle.pass.specs.Sound.{usesIn}
+use Rattle.pass_laws.specs.Sound.{usesIn}
 use Rattle.work.specs.Known.{Known}
 use Rattle.work.specs.Coded.{recordIn, recordOf}
 use Rattle.work.specs.Entries.{usedMore}
 use Rattle.work.specs.Works.{Works, workLong}
-use Rattle.work.specs.ScopeLaws.{newest-known}
+use Rattle.work.specs.Laws.Scope.{newest-known}
 use Rattle.work.specs.Leaves.{Tells, LoadsEntry}
 use Rattle.work.specs.Tied.{raw, Tied, Good}
-use Rattle.pass.specs.Visitable.{usesMost}
-use Rattle.work.specs.TiedLaws.{rowCount}
+use Rattle.pass_laws.specs.Visitable.{usesMost}
+use Rattle.work.specs.Laws.Tied.{rowCount}
 use Rattle.work.specs.declared.Pass.{Pass}
 use Rattle.work.specs.declared.entries.Entry.{Entry as Coded}
 use Rattle.work.specs.declared.scope.Binder.{Binder}

@@ -5,7 +5,7 @@ use mathlib.Core.Bool.{Bool}
 use mathlib.Core.Option.{none, some}
 use mathlib.Core.Path.{_≡_, refl, ap, _∙_}
 use native.Mathlib.Omega.{arith}
-use Rattle.tree.specs.RecordLaws.{nth}
+use Rattle.tree.specs.Record.{nth}
 use Rattle.tree.specs.Tree.{Ident}
 use Rattle.semantic.specs.Information.{withUsageCount, markSet}
 use Rattle.semantic.specs.Rows.{Blank, Variable, putRow}
@@ -14,16 +14,15 @@ use Rattle.semantic.specs.Leaves.{Stores, Amends}
 use Rattle.semantic.specs.declared.Span.{Span}
 use Rattle.semantic.specs.declared.SemanticInformation.{SemanticInformation}
 use Rattle.pass.specs.State.{State, Entry, entryAt, putEntry, insert, amend, usedEntry, lastEntry, capturedEntry, mutatedEntry, newest, depth}
-use Rattle.pass.specs.Read.{isPrelude, oneUseMore, countUses, freeFact, globalFact, localFact, homeFact, mutate}
-use Rattle.pass.specs.Read.{noEntry, depthOne, currentLayer, homeSlot, readBy}
+use Rattle.pass.specs.Read.{isPrelude, oneUseMore, countUses, freeFact, globalFact, localFact, homeFact, mutate, noEntry, depthOne, currentLayer, homeSlot, readBy}
 use Rattle.pass.specs.Run.{rowsMost}
 use Rattle.work.specs.Known.{Known}
 use Rattle.work.specs.Coded.{coded, recordIn}
 use Rattle.work.specs.Entries.{usedMore, usedLast, nowCaptured, nowMutated}
-use Rattle.work.specs.ScopeLaws.{newest-known}
+use Rattle.work.specs.Laws.Scope.{newest-known}
 use Rattle.work.specs.Leaves.{Tells, LoadsEntry, StoresEntry}
 use Rattle.work.specs.Tied.{raw, Tied, Here}
-use Rattle.work.specs.TiedLaws.{rowCount, count-amend, count-entry, tied-insert, tied-change, tied-amend, tied-entry}
+use Rattle.work.specs.Laws.Tied.{rowCount, count-amend, count-entry, tied-insert, tied-change, tied-amend, tied-entry}
 use Rattle.work.specs.declared.Pass.{Pass}
 use Rattle.work.specs.declared.entries.Entry.{Entry as Coded}
 use Rattle.names.specs.Facts.{spanOf, FreeFact, GlobalFact, LocalFact, HomeFact}

@@ -7,7 +7,7 @@ use native.Mathlib.Omega.{arith}
 use borrow.Author.Tests.{eq-eqb, ne-eqb}
 use Rattle.tree.specs.Tree.{Ident}
 use Rattle.scope_map.specs.ScopeMap.{Live, getIn}
-use Rattle.scope_map.specs.MapLaws.{mapLive}
+use Rattle.scope_map.specs.Laws.Map.{mapLive}
 use Rattle.scope_map.specs.Held.{foundIn}
 use Rattle.scope_map.specs.declared.Found.{Found}
 use Rattle.scope_map.specs.declared.Found.the-variants.{At, Nothing}
@@ -16,11 +16,11 @@ use Rattle.pass.specs.Read.{ruleOf}
 use Rattle.pass.specs.Read as pass
 use Rattle.work.specs.Coded.{recordIn}
 use Rattle.work.specs.Works.{Works, rowOf}
-use Rattle.work.specs.WorksLaws.{depth-is}
-use Rattle.work.specs.ScopeLaws.{newest-known}
+use Rattle.work.specs.Laws.Works.{depth-is}
+use Rattle.work.specs.Laws.Scope.{newest-known}
 use Rattle.work.specs.Leaves.{Tells, LoadsEntry}
 use Rattle.work.specs.Captures.{GetsCapture}
-use Rattle.work.specs.CapturesLaws.{Looked, no-capture, the-capture, found-capture}
+use Rattle.work.specs.Laws.Captures.{Looked, no-capture, the-capture, found-capture}
 use Rattle.work.specs.Tied.{Good}
 use Rattle.work.specs.declared.Pass.{Pass}
 use Rattle.work.specs.declared.entries.Entry.{Entry as Coded}

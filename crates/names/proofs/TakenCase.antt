@@ -6,34 +6,34 @@ use mathlib.Core.Path.{_≡_, refl, ap, sym, _∙_, subst}
 use native.Mathlib.Omega.{arith}
 use lib.ListN.{length, getD}
 use lib.Dec.{eqb}
-use Rattle.tree.specs.RecordLaws.{nth}
+use Rattle.tree.specs.Record.{nth}
 use Rattle.semantic.specs.Information.{NONE, withUsageCount}
-use Rattle.semantic.specs.Rows.{Blank, Variable, rowWidth, putRow, noItem, itemWidth, putItem}
+use Rattle.semantic.specs.Rows.{Blank, Variable, rowWidth, putRow, noListEntry, listEntryWidth, putListEntry}
 use Rattle.semantic.specs.Marks.{bit-low}
 use Rattle.semantic.specs.Amend.{amended}
-use Rattle.semantic.specs.Leaves.{Stores, Amends, Tells, item-inside}
+use Rattle.semantic.specs.Leaves.{Stores, Amends, Tells, list-entry-inside}
 use Rattle.semantic.specs.declared.ScopeInfo.{ScopeInfo}
 use Rattle.semantic.specs.declared.SemanticInformation.{SemanticInformation}
 use Rattle.semantic.specs.declared.Span.{Span}
 use Rattle.pass.specs.State.{State, Capture, entryAt, infoAt, putEntry, insert, lastEntry, capturedEntry, orKept, noteSecond, depth}
 use Rattle.pass.specs.Read.{useCapture, noteTaken, hasNumber, countUses, takenFact}
 use Rattle.pass.specs.Lists.{capturedMost}
-use Rattle.pass.specs.Run.{rowsMost, itemsMost}
-use Rattle.work.specs.Coded.{coded, takenOf, secondOf, refusalAt}
+use Rattle.pass.specs.Run.{rowsMost, listEntriesMost}
+use Rattle.work.specs.Coded.{coded, captureOf, secondOf, refusalAt}
 use Rattle.work.specs.Entries.{usedLast, nowCaptured}
-use Rattle.work.specs.Works.{Works, takenFirst}
-use Rattle.work.specs.WorksLaws.{captured-many, depth-is}
-use Rattle.work.specs.WorksKept.{second-kept}
+use Rattle.work.specs.Works.{Works, captureDataFirst}
+use Rattle.work.specs.Laws.Works.{captured-many, depth-is}
+use Rattle.work.specs.Laws.Kept.{second-kept}
 use Rattle.work.specs.Passes.{withSecond}
 use Rattle.work.specs.Leaves.{LoadsEntry, StoresEntry}
-use Rattle.work.specs.Captures.{LoadsTaken, UsesCapture}
-use Rattle.work.specs.CapturesLaws.{found-below, captures-few, taken-uses}
+use Rattle.work.specs.Captures.{LoadsCapture, UsesCapture}
+use Rattle.work.specs.Laws.Captures.{found-below, captures-few, taken-uses}
 use Rattle.work.specs.Tied.{raw, Tied, Good}
-use Rattle.pass.specs.Visitable.{usesMost}
-use Rattle.work.specs.TiedLaws.{rowCount, count-amend, count-entry, facts-entry, tied-works, tied-insert, tied-amend}
+use Rattle.pass_laws.specs.Visitable.{usesMost}
+use Rattle.work.specs.Laws.Tied.{rowCount, count-amend, count-entry, facts-entry, tied-works, tied-insert, tied-amend}
 use Rattle.work.specs.declared.Pass.{Pass}
 use Rattle.work.specs.declared.Second.{Second}
-use Rattle.work.specs.declared.captures.Taken.{Taken}
+use Rattle.work.specs.declared.captures.Capture.{Capture as CodedCapture}
 use Rattle.work.specs.declared.entries.Entry.{Entry as Coded}
 use Rattle.names.specs.Facts.{spanOf, TakenFact}
 use Rattle.names.specs.Rules.{Stands}
@@ -43,7 +43,7 @@ use Rattle.names.proofs.KnownCase.{known-span, known-few, found-has, bo
 -- The bounds of a capture that stands at a place
 
 module _ {p : Pass} {w rs : List ℕ} {s : State} {name place row : ℕ} {c : Capture} (k : Works p w s) (g : Good rs s) (t : Stands s name place row c) where
-  pub place-few : place < itemsMost
+  pub place-few : place < listEntriesMost
   place-few = omega (arith, found-below (s .captures .live) name (t .found), captures-few k)
 
   pub capture-uses : c .usageCount ≤ usesMost
@@ -54,23 +54,23 @@ module _ {p : Pass} {w rs : List ℕ} {s : State} {name place row : ℕ} {c : Ca
   capture-known = subst (λ (u : Capture). (u .row < capturedMost) × (u .binder .at < capturedMost)) (t .is)
       (found-has (λ e. (e .value .row < capturedMost) × (e .value .binder .at < capturedMost)) (s .captures .live) name (g .sound .taken) (t .newest))
 
-  pub row-few : row < itemsMost
+  pub row-few : row < listEntriesMost
   row-few = omega (arith, capture-known .0, t .standsFor)
 
   pub binder-few : c .binder .at < rowsMost
   binder-few = omega (arith, capture-known .1)
 
   -- one use more of it can be counted
-  pub cell-fits : getD w (takenFirst + 2 * place + 1) 0 < 4294959104
+  pub cell-fits : getD w (captureDataFirst + 2 * place + 1) 0 < 4294959104
   cell-fits =
       let e = taken-uses k name (found-below (s .captures .live) name (t .found)) (t .found) (t .newest) in
       omega (arith, e, bit-low (t .live .value .fromEnclosing), ap (λ (u : Capture). u .usageCount) (t .is), capture-uses, ap (λ (u : Capture). u .binder .at) (t .is), binder-few)
 
 module _ {place : ℕ} {w : List ℕ} (k : Takeable place w) where
-  pub takeable-place : place < itemsMost
+  pub takeable-place : place < listEntriesMost
   takeable-place = place-few (k .works) (k .good) (k .stands)
 
-  pub takeable-cell : getD w (takenFirst + 2 * place + 1) 0 < 4294959104
+  pub takeable-cell : getD w (captureDataFirst + 2 * place + 1) 0 < 4294959104
   takeable-cell = cell-fits (k .works) (k .good) (k .stands)
 
   -- of an entry, after the capture is used
@@ -100,10 +100,10 @@ note-facts false i s = refl
 
 -- The capture and the entry are used
 
-pub uses-taken : {at b place : ℕ} {w w₁ w₂ : List ℕ} {t : Taken} {e f g : Coded} → LoadsTaken w place t → UsesCapture w place w₁ → LoadsEntry w₁ b e
+pub uses-taken : {at b place : ℕ} {w w₁ w₂ : List ℕ} {t : CodedCapture} {e f g : Coded} → LoadsCapture w place t → UsesCapture w place w₁ → LoadsEntry w₁ b e
     → f ≡ usedLast at e → g ≡ nowCaptured f → StoresEntry w₁ b g w₂ → UsesTaken at b place w t w₂
 uses-taken {g = g} l u o e₁ e₂ m = record {
-  loaded = λ p s name row c k z. l .is p s name (z .live .layer) row (z .live) k (z .found) (z .newest) ∙ ap takenOf (z .is);
+  loaded = λ p s name row c k z. l .is p s name (z .live .layer) row (z .live) k (z .found) (z .newest) ∙ ap captureOf (z .is);
   is = λ p s x y row c px py k z.
       let k₁ = u .is p s (x .name) (z .live .layer) row k (z .found) in
       let v = capturedEntry (lastEntry x (entryAt s (y .at))) in
@@ -112,29 +112,29 @@ uses-taken {g = g} l u o e₁ e₂ m = record {
 }
 
 module _ {rs : List ℕ} {at b place row : ℕ} {p : Pass} {F C w : List ℕ} (k : TakenBound rs at b place row p F C w) where
-  pub row-inside-captured : itemWidth * row + itemWidth ≤ length C
+  pub row-inside-captured : listEntryWidth * row + listEntryWidth ≤ length C
   row-inside-captured =
       let h = k .here in
-      item-inside (k .s .facts .captured) (h .tied .captured) (omega (arith, captured-many (h .tied .works), row-few (h .tied .works) (h .good) (k .stands)))
+      list-entry-inside (k .s .facts .captured) (h .tied .captured) (omega (arith, captured-many (h .tied .works), row-few (h .tied .works) (h .good) (k .stands)))
 
-  module _ {t : Taken} {w′ : List ℕ} (u : UsesTaken at b place w t w′) where
-    loaded-is : t ≡ takenOf (k .c)
+  module _ {t : CodedCapture} {w′ : List ℕ} (u : UsesTaken at b place w t w′) where
+    loaded-is : t ≡ captureOf (k .c)
     loaded-is = u .loaded p (k .s) (k .x .name) row (k .c) (k .here .tied .works) (k .stands)
 
     pub loaded-uses : t .uses ≤ usesMost
-    loaded-uses = omega (arith, ap (λ (o : Taken). o .uses) loaded-is, capture-uses (k .here .tied .works) (k .here .good) (k .stands))
+    loaded-uses = omega (arith, ap (λ (o : CodedCapture). o .uses) loaded-is, capture-uses (k .here .tied .works) (k .here .good) (k .stands))
 
     pub loaded-row : {i : ℕ} → i ≡ t .binder → rowWidth * i + rowWidth ≤ length F
     loaded-row {i} e =
         let h = k .here in
-        let j : i < rowsMost = omega (arith, ap (λ (o : Taken). o .binder) loaded-is, binder-few (h .tied .works) (h .good) (k .stands)) in
+        let j : i < rowsMost = omega (arith, ap (λ (o : CodedCapture). o .binder) loaded-is, binder-few (h .tied .works) (h .good) (k .stands)) in
         bounds (h .good) (h .tied) j .row
 
 -- The read
 
-pub reads-taken : {rs : List ℕ} {at b place row : ℕ} {p : Pass} {F C w F′ w′ F″ : List ℕ} {v : ScopeInfo} {t : Taken} {i m d : ℕ} {q : Span}
+pub reads-taken : {rs : List ℕ} {at b place row : ℕ} {p : Pass} {F C w F′ w′ F″ : List ℕ} {v : ScopeInfo} {t : CodedCapture} {i m d : ℕ} {q : Span}
     {r : SemanticInformation} {u′ : Second}
-    → Tells putItem noItem (λ x. x .info) C row v → UsesTaken at b place w t w′ → i ≡ t .binder → m ≡ suc (t .uses)
+    → Tells putListEntry noListEntry (λ x. x .info) C row v → UsesTaken at b place w t w′ → i ≡ t .binder → m ≡ suc (t .uses)
     → Amends putRow Blank (amended (withUsageCount m)) F i F′ → d ≡ p .scope .depth → q ≡ spanOf (nth rs at) → TakenFact d t v q r
     → Stores putRow F′ at (Variable r) F″ → NotesTaken v at (p .second) u′ → ReadsTaken rs at b place row p F C w u′ F″ w′
 reads-taken {at = at} {b} {row = row} {p} {F} {C} {w} {F′} {w′} {F″} {v} {t} {i} {m} {d} {q} {r} {u′} l u ei em a ed eq fact z n = record {
@@ -142,9 +142,9 @@ reads-taken {at = at} {b} {row = row} {p} {F} {C} {w} {F′} {w′} {F″} {v} {
       let k = h .tied .works in
       let ev : v ≡ infoAt s (c .row) =
       l .is (s .facts .captured) (h .tied .captured) (omega (arith, captured-many k, row-few k (h .good) st)) ∙ ap (infoAt s) (st .standsFor) in
-      let et : t ≡ takenOf c = u .loaded p s (x .name) row c k st in
-      let eb : i ≡ c .binder .at = ei ∙ ap (λ (o : Taken). o .binder) et in
-      let ec : m ≡ suc (c .usageCount) = em ∙ ap (λ (o : Taken). suc (o .uses)) et in
+      let et : t ≡ captureOf c = u .loaded p s (x .name) row c k st in
+      let eb : i ≡ c .binder .at = ei ∙ ap (λ (o : CodedCapture). o .binder) et in
+      let ec : m ≡ suc (c .usageCount) = em ∙ ap (λ (o : CodedCapture). suc (o .uses)) et in
       let e₁ = capturedEntry (lastEntry x (entryAt s (y .at))) in
       let s₀ = useCapture (x .name) s in
       let s₁ = putEntry (y .at) e₁ s₀ in

@@ -5,15 +5,14 @@ use mathlib.Core.Path.{_≡_}
 use lib.ListN.{length}
 use Rattle.tree.specs.Tree.{Ident, Tree}
 use Rattle.scope_map.specs.Hints.{rowsLength}
+use Rattle.semantic.specs.Rows.{Variable}
 use Rattle.semantic.specs.declared.IdentifierStatus.{IdentifierStatus}
-use Rattle.pass.specs.State.{State, Entry}
-use Rattle.pass.specs.Read.{noteLive, enter, enterDefine, enterTopLevelValue, mutate, ruleOf}
-use Rattle.work.specs.Known.{Known}
+use Rattle.semantic.specs.declared.SemanticInformation.{SemanticInformation}
+use Rattle.pass.specs.State.{State, Entry, insert}
+use Rattle.pass.specs.Read.{enter, enterDefine, enterTopLevelValue, mutate, ruleOf}
 use Rattle.work.specs.Coded.{coded}
 use Rattle.work.specs.Works.{Works}
-use Rattle.work.specs.Leaves.{Becomes}
 use Rattle.work.specs.Passes.{inScope, withNotes}
-use Rattle.work.specs.Scope.{isLiveRow, inRow}
 use Rattle.work.specs.Tied.{raw, Tied, Good, Here}
 use Rattle.work.specs.declared.Pass.{Pass}
 use Rattle.work.specs.declared.entries.Entry.{Entry as Coded}
@@ -26,23 +25,6 @@ use Rattle.names.specs.declared.read.Rule.{Rule}
 -- one name more has room
 abbrev pub Room : Pass → Type 0
 Room p = 3 * p .scope .length + 3 ≤ rowsLength
-
--- some state is held
-pub record SomeState (p : Pass) (w : List ℕ) : Type 0 where
-  pub s : State
-  pub works : Works p w s
-
--- the name at the record enters, with this entry
-pub record Enters (rs : List ℕ) (at : ℕ) (e : Coded) (p : Pass) (w : List ℕ) (p′ : Pass) (w′ : List ℕ) : Type 0 where
-  pub is : (s : State) (x : Ident) (v : Entry) → Known rs x → x .at ≡ at → e ≡ coded v → Works p w s → Works p′ w′ (enter x v s)
-
--- the pass after a name entered in the row: one row more, or refusal 9 noted where the row was there before, above the bottom layer
-pub record Entered (place at : ℕ) (p p′ : Pass) : Type 0 where
-  pub is : (w : List ℕ) → Becomes (inRow place p) w (noteLive (isLiveRow place p) at) p′ w
-
--- the tables have the name: it has entered once the pass is as after it
-pub record PutsName (rs : List ℕ) (at : ℕ) (e : Coded) (p : Pass) (w : List ℕ) (place : ℕ) (w′ : List ℕ) : Type 0 where
-  pub is : (p′ : Pass) → Entered place at p p′ → Enters rs at e p w p′ w′
 
 -- the pass with what a name that entered changed
 abbrev pub withName : EnteredName → Pass → Pass
@@ -71,6 +53,10 @@ pub record Readable (N : ℕ) (rs : List ℕ) (at : ℕ) (p : Pass) (F C w : Lis
 -- a state becomes f of it and of the identifier at the record
 pub record Does (rs : List ℕ) (at : ℕ) (p : Pass) (F C w : List ℕ) (f : Ident → State → State) (p′ : Pass) (F′ w′ : List ℕ) : Type 0 where
   pub is : (A : List ℕ) (s : State) (x : Ident) → Here rs at (raw p F C A w) s x → Tied (raw p′ F′ C A w′) (f x s)
+
+-- the name at the record enters, with this entry and this fact
+pub record EntersName (rs : List ℕ) (at : ℕ) (e : Coded) (v : SemanticInformation) (p : Pass) (F w : List ℕ) (p′ : Pass) (F′ w′ : List ℕ) : Type 0 where
+  pub is : (C : List ℕ) (u : Entry) → e ≡ coded u → Does rs at p F C w (λ x s. insert (x .at) (Variable v) (enter x u s)) p′ F′ w′
 
 pub record DefinesBy (b : Body) (kind : IdentifierStatus) (a : ℕ) (rs : List ℕ) (at : ℕ) (p : Pass) (F w : List ℕ) (p′ : Pass) (F′ w′ : List ℕ) : Type 0 where
   pub is : (classes : List ℕ) (t : Tree) (C : List ℕ) → b ≡ bodyOf classes t

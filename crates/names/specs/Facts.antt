@@ -11,8 +11,8 @@ use Rattle.semantic.specs.declared.SemanticInformation.{SemanticInformation}
 use Rattle.semantic.specs.declared.Span.{Span}
 use Rattle.pass.specs.State.{Entry, Capture}
 use Rattle.pass.specs.Read.{span, freeFact, globalFact, localFact, homeFact, takenFact}
-use Rattle.work.specs.Coded.{coded, takenOf}
-use Rattle.work.specs.declared.captures.Taken.{Taken}
+use Rattle.work.specs.Coded.{coded, captureOf}
+use Rattle.work.specs.declared.captures.Capture.{Capture as CodedCapture}
 use Rattle.work.specs.declared.entries.Entry.{Entry as Coded}
 
 -- the place of a record
@@ -35,5 +35,5 @@ pub record LocalFact (d id : ℕ) (e : Coded) (p : Span) (r : SemanticInformatio
 pub record HomeFact (d id : ℕ) (e : Coded) (p : Span) (r : SemanticInformation) : Type 0 where
   pub is : (b : Ident) (v : Entry) (x : Ident) → id ≡ b .id → e ≡ coded v → p ≡ span x → r ≡ homeFact d b v x
 
-pub record TakenFact (d : ℕ) (t : Taken) (v : ScopeInfo) (p : Span) (r : SemanticInformation) : Type 0 where
-  pub is : (c : Capture) (x : Ident) → t ≡ takenOf c → p ≡ span x → r ≡ takenFact d c v x
+pub record TakenFact (d : ℕ) (t : CodedCapture) (v : ScopeInfo) (p : Span) (r : SemanticInformation) : Type 0 where
+  pub is : (c : Capture) (x : Ident) → t ≡ captureOf c → p ≡ span x → r ≡ takenFact d c v x

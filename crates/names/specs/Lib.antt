@@ -1,5 +1,5 @@
 pub mod Facts
 pub mod Rules
 pub mod Contract
-pub mod EnteredLaws
 pub mod Steps
+pub mod Laws

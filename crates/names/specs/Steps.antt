@@ -12,15 +12,15 @@ use Rattle.pass.specs.State.{State, Entry, Capture, newest, entryAt, putEntry, 
 use Rattle.pass.specs.Read.{Rule, takenCapture, captureRule, readBy, countUses, useCapture, noteTaken, defineFact, shadow, isPrelude}
 use Rattle.pass.specs.Run.{rowsMost}
 use Rattle.work.specs.Known.{Known}
-use Rattle.work.specs.Coded.{coded, takenOf}
+use Rattle.work.specs.Coded.{coded, captureOf}
 use Rattle.work.specs.Works.{Works}
 use Rattle.work.specs.Passes.{withSecond}
 use Rattle.work.specs.Scope.{BindersKnown}
 use Rattle.work.specs.Tied.{raw, Tied, Good, Here}
-use Rattle.work.specs.TiedLaws.{rowCount}
+use Rattle.work.specs.Laws.Tied.{rowCount}
 use Rattle.work.specs.declared.Pass.{Pass}
 use Rattle.work.specs.declared.Second.{Second}
-use Rattle.work.specs.declared.captures.Taken.{Taken}
+use Rattle.work.specs.declared.captures.Capture.{Capture as CodedCapture}
 use Rattle.work.specs.declared.entries.Entry.{Entry as Coded}
 use Rattle.walk.specs.Contract.{bodyOf}
 use Rattle.walk.specs.declared.body.Body.{Body}
@@ -89,8 +89,8 @@ pub record Takeable (place : ℕ) (w : List ℕ) : Type 0 where
   pub good : Good rs s
   pub stands : Stands s name place row c
 
-pub record UsesTaken (at b place : ℕ) (w : List ℕ) (t : Taken) (w′ : List ℕ) : Type 0 where
-  pub loaded : (p : Pass) (s : State) (name row : ℕ) (c : Capture) → Works p w s → Stands s name place row c → t ≡ takenOf c
+pub record UsesTaken (at b place : ℕ) (w : List ℕ) (t : CodedCapture) (w′ : List ℕ) : Type 0 where
+  pub loaded : (p : Pass) (s : State) (name row : ℕ) (c : Capture) → Works p w s → Stands s name place row c → t ≡ captureOf c
   pub is : (p : Pass) (s : State) (x y : Ident) (row : ℕ) (c : Capture) → x .at ≡ at → y .at ≡ b → Works p w s → Stands s (x .name) place row c
       → Works p w′ (putEntry (y .at) (capturedEntry (lastEntry x (entryAt s (y .at)))) (useCapture (x .name) s))
 

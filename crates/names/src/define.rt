@@ -15,30 +15,64 @@ ghost use mathlib.Core.Path.{_≡_};
 ghost use Prim.Native.Nat.{_<_};
 ghost use lib.ListN.{length};
 ghost use Rattle.tree.specs.Record.{records};
-ghost use Rattle.pass.specs.Run.{rowsMost};
 ghost use Rattle.work.specs.Scope.{KnownHere};
-ghost use Rattle.names.specs.Contract.{SomeState, Room, PutsName, Entered, withName, nameIn, Defined, DefinesBy, EntersValue, Settable};
+ghost use Rattle.names.specs.Contract.{Room, withName, nameIn, Defined, EntersName, DefinesBy, EntersValue, Settable};
 ghost use Rattle.names.specs.Steps.{DefineFact, Shadows};
 
-// The name at the record enters the newest layer, with its entry. Answers the row of the scope that it is in.
-pub fn put_name(all: &[u32], at: usize, e: Entry, p: Pass, work: &mut [u32]) -> usize
-    requires { ⌜ SomeState p (now work) × Room p × (at < length (records (now all))) × (at < rowsMost) × (e .uses < 536870912) ⌝ }
-    ensures { λ r. ⌜ PutsName (now (all .entry)) at e p (now (work .entry)) r (now (work .exit)) ⌝ }
+// What a name that enters changes of the pass: how many names live, and refusal 9.
+pub struct EnteredName {
+    pub length: usize,
+    pub nine: Noted,
+}
+
+pub fn name_in(q: Pass) -> EnteredName
+    ensures { λ r. ⌜ r ≡ nameIn q ⌝ }
+{
+    let scope = q.scope;
+    let nine = q.nine;
+    EnteredName {
+        length: scope.length,
+        nine,
+    }
+}
+
+pub fn with_name(p: Pass, e: EnteredName) -> Pass
+    ensures { λ r. ⌜ r ≡ withName e p ⌝ }
+{
+    let names = p.scope;
+    let scope = ScopeMap {
+        depth: names.depth,
+        length: e.length,
+    };
+    let nine = e.nine;
+    let mut q = p;
+    q.scope = scope;
+    q.nine = nine;
+    q
+}
+
+// The name at the record enters the newest layer, with this entry and this fact: refusal 9 where its row was there before, above the bottom
+// layer, else one row more. Answers what changes: a whole pass would be stored in narrow words and copied in wide ones by the caller, and such
+// a copy waits for the stores (docs/SPEED.md, 43 and 49).
+pub fn enter_name(
+    all: &[u32],
+    at: usize,
+    e: Entry,
+    fact: SemanticInformation,
+    p: Pass,
+    facts: &mut [u32],
+    work: &mut [u32],
+) -> EnteredName
+    requires { ⌜ Room p × Defined (now all) at p (now facts) (now work) × (e .uses < 536870912) ⌝ }
+    ensures { λ r. ⌜ EntersName (now (all .entry)) at e fact p (now (facts .entry)) (now (work .entry)) (withName r p) (now (facts .exit)) (now (work .exit)) ⌝ }
 {
     let name = tree::record::name(all, at);
     let place = work::scope::define_name(p, work, name, at);
     work::entries::store_entry(work, at, e);
-    place
-}
-
-// The pass after that: refusal 9 where the row was there before, above the bottom layer, else one row more.
-pub fn entered(p: Pass, place: usize, at: usize) -> Pass
-    requires { ⌜ Room p × (at < rowsMost) ⌝ }
-    ensures { λ r. ⌜ Entered place at p r ⌝ }
-{
+    semantic::rows::store_information(facts, at, fact);
     let live = is_live_row(p, place);
     let q = work::scope::with_row(p, place);
-    work::notes::note_live(q, live, at)
+    name_in(work::notes::note_live(q, live, at))
 }
 
 fn define_fact(
@@ -66,40 +100,7 @@ fn define_fact(
     l.aliases_to(alias)
 }
 
-// What a name that entered changes of the pass.
-pub struct EnteredName {
-    pub length: usize,
-    pub nine: Noted,
-}
-
-fn name_in(q: Pass) -> EnteredName
-    ensures { λ r. ⌜ r ≡ nameIn q ⌝ }
-{
-    let scope = q.scope;
-    let nine = q.nine;
-    EnteredName {
-        length: scope.length,
-        nine,
-    }
-}
-
-pub fn with_name(p: Pass, e: EnteredName) -> Pass
-    ensures { λ r. ⌜ r ≡ withName e p ⌝ }
-{
-    let names = p.scope;
-    let scope = ScopeMap {
-        depth: names.depth,
-        length: e.length,
-    };
-    let nine = e.nine;
-    let mut q = p;
-    q.scope = scope;
-    q.nine = nine;
-    q
-}
-
-// A define enters, its name at this record. Answers what changes: a whole pass would be stored in narrow words and copied in wide ones by the
-// caller, and such a copy waits for the stores.
+// A define enters, its name at this record.
 pub fn enter_define(
     all: &[u32],
     at: usize,
@@ -114,9 +115,7 @@ pub fn enter_define(
     ensures { λ r. ⌜ DefinesBy b kind alias (now (all .entry)) at p (now (facts .entry)) (now (work .entry)) (withName r p) (now (facts .exit)) (now (work .exit)) ⌝ }
 {
     let fact = define_fact(all, at, kind, alias, b, p, work);
-    let place = put_name(all, at, Entry::top_level(), p, work);
-    semantic::rows::store_information(facts, at, fact);
-    name_in(entered(p, place, at))
+    enter_name(all, at, Entry::top_level(), fact, p, facts, work)
 }
 
 // The fact of the name's newest entry is marked as shadowed, if it is a builtin's.

@@ -4,14 +4,13 @@ use semantic::NONE;
 use semantic::ScopeInfo;
 use semantic::SemanticInformation;
 use semantic::Span;
-use work::captures::Taken;
+use work::captures::Capture;
 use work::entries::Entry;
 ghost use mathlib.Core.Bool.{cond};
 ghost use mathlib.Core.Path.{_≡_};
 ghost use Prim.Native.Nat.{_<_};
 ghost use lib.ListN.{length};
-ghost use Rattle.tree.specs.Record.{records};
-ghost use Rattle.tree.specs.RecordLaws.{nth};
+ghost use Rattle.tree.specs.Record.{records, nth};
 ghost use Rattle.semantic.specs.Information.{markBuiltin, markRequired};
 ghost use Rattle.semantic.specs.declared.IdentifierStatus.the-variants.{Captured, HeapAllocated};
 ghost use Rattle.pass.specs.Read.{markIf, statusAt, hasNumber, captureOffsets};
@@ -105,7 +104,7 @@ fn with_capture_offsets(i: SemanticInformation, v: ScopeInfo) -> SemanticInforma
     j.with_read_capture_offset(v.read_capture_offset)
 }
 
-pub fn taken_fact(depth: u32, t: Taken, v: ScopeInfo, span: Span) -> SemanticInformation
+pub fn taken_fact(depth: u32, t: Capture, v: ScopeInfo, span: Span) -> SemanticInformation
     ensures { λ r. ⌜ TakenFact depth t v span r ⌝ }
 {
     let i = reading(taken_kind(v), depth, t.id, span);

@@ -1,4 +1,4 @@
-// `visit_atom`, and what set! does to its name.
+// An identifier is read, and what set! does to its name.
 use crate::facts::free_fact;
 use crate::facts::global_fact;
 use crate::facts::home_fact;
@@ -11,7 +11,7 @@ use table::wide;
 use walk::body::is_class;
 use work::Pass;
 use work::Second;
-use work::captures::Taken;
+use work::captures::Capture;
 use work::entries::Entry;
 use work::notes::first_second;
 use work::scope::Binder;
@@ -143,11 +143,11 @@ fn note_taken(v: ScopeInfo, at: usize, before: Second) -> Second
 }
 
 // The capture at the place is used, and the entry of the binder at b.
-fn use_taken(at: usize, b: usize, place: usize, work: &mut [u32]) -> Taken
+fn use_taken(at: usize, b: usize, place: usize, work: &mut [u32]) -> Capture
     requires { ⌜ (at < rowsMost) × (b < rowsMost) × Takeable place (now work) ⌝ }
     ensures { λ t. ⌜ UsesTaken at b place (now (work .entry)) t (now (work .exit)) ⌝ }
 {
-    let t = work::captures::load_taken(work, place);
+    let t = work::captures::load_capture(work, place);
     work::captures::use_capture(work, place);
     let e = work::entries::load_entry(work, b);
     let f = e.used_by(at);
@@ -170,7 +170,7 @@ fn read_taken(
     ensures { λ r. ⌜ ReadsTaken (now (all .entry)) at b place row p
         (now (facts .entry)) (now (captured .entry)) (now (work .entry)) r (now (facts .exit)) (now (work .exit)) ⌝ }
 {
-    let v = semantic::items::load_info(captured, row);
+    let v = semantic::list_entries::load_info(captured, row);
     let t = use_taken(at, b, place, work);
     semantic::amend::with_usage_count(facts, wide(t.binder), t.uses + 1);
     let fact = taken_fact(p.depth(), t, v, crate::facts::span_at(all, at));
@@ -179,7 +179,8 @@ fn read_taken(
     note_taken(v, at, before)
 }
 
-// The identifier at the record is read. Answers what the pass then has as the first refusal of a second run; nothing else of it changes.
+// The identifier at the record is read. Answers what the pass then has as the first refusal of a second run; nothing else of it changes
+// (docs/SPEED.md, 43).
 pub fn read(
     classes: &[u8],
     all: &[u32],

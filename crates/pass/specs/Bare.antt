@@ -1,20 +1,11 @@
 -- Trees, facts and states with every position 0. The modules below show of each function of the pass that it gives the same, but for positions,
 -- whatever the positions are.
-pub mod Maps
-pub mod Looks
-pub mod Steps
-pub mod Reads
-pub mod Items
-pub mod Lambdas
-pub mod Lets
-pub mod Visits
-pub mod Runs
 use mathlib.Core.List.{map}
 use mathlib.Core.Option.{Option·map}
 use mathlib.Core.Path.{_≡_}
 use Rattle.tree.specs.Tree.{Node, Ident, Tree, Trees, ident, const, if, letin, define, lambda, sequence, call, set!, nil, cons, Sequence, begins, ands, whens}
-use Rattle.scope_map.specs.MapLaws.{mapValues}
-use Rattle.semantic.specs.Rows.{Row, Blank, Variable, Function, CallSite, Let, Item}
+use Rattle.scope_map.specs.Laws.Map.{mapValues}
+use Rattle.semantic.specs.Rows.{Row, Blank, Variable, Function, CallSite, Let, ListEntry}
 use Rattle.semantic.specs.declared.Span.{Span}
 use Rattle.semantic.specs.declared.SemanticInformation.{SemanticInformation}
 use Rattle.pass.specs.State.{Entry, Facts, Capture, State}
@@ -83,15 +74,15 @@ bareRow (Function v) = Function v
 bareRow (CallSite v) = CallSite (record { kind = v .kind; span = nowhere })
 bareRow (Let v) = Let v
 
-abbrev pub bareItem : Item → Item
-bareItem i = record { binder = bareIdent (i .binder); info = i .info }
+abbrev pub bareListEntry : ListEntry → ListEntry
+bareListEntry i = record { binder = bareIdent (i .binder); info = i .info }
 
 unfoldable pub bareFacts : Facts → Facts
 bareFacts f = record {
   rows = map bareRow (f .rows);
-  captured = map bareItem (f .captured);
+  captured = map bareListEntry (f .captured);
   capturedTop = f .capturedTop;
-  arguments = map bareItem (f .arguments);
+  arguments = map bareListEntry (f .arguments);
   argumentsTop = f .argumentsTop;
 }
 

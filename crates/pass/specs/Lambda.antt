@@ -10,15 +10,15 @@ use Rattle.tree.specs.Check.{member}
 use Rattle.scope_map.specs.ScopeMap.{ScopeMap, Live, pushLayer, popLayer, newestLayer}
 use Rattle.scope_map.specs.ScopeMap as scopeMap
 use Rattle.semantic.specs.Information.{NONE, new, shadows, withUsageCount, markLastUsage}
-use Rattle.semantic.specs.Rows.{Row, Blank, Variable, Function, CallSite, Let, Item, noItem}
+use Rattle.semantic.specs.Rows.{Row, Blank, Variable, Function, CallSite, Let, ListEntry, noListEntry}
 use Rattle.semantic.specs.Kinds.{letIn}
 use Rattle.semantic.specs.declared.IdentifierStatus.{IdentifierStatus}
 use Rattle.semantic.specs.declared.IdentifierStatus.the-variants.{Local, LetVar, HeapAllocated}
-use Rattle.semantic.specs.declared.Entries.{Entries}
+use Rattle.semantic.specs.declared.ListAt.{ListAt}
 use Rattle.semantic.specs.declared.FunctionInformation.{FunctionInformation}
 use Rattle.semantic.specs.declared.LetInformation.{LetInformation}
 use Rattle.semantic.specs.declared.SemanticInformation.{SemanticInformation}
-use Rattle.pass.specs.State.{Entry, Capture, State, withNames, withCaptures, withContext, insert, amend, rowAt, entryAt, localEntry, heapEntry, itemOf, idOf, newest, depth, noteSecond}
+use Rattle.pass.specs.State.{Entry, Capture, State, withNames, withCaptures, withContext, insert, amend, rowAt, entryAt, localEntry, heapEntry, listEntryOf, idOf, newest, depth, noteSecond}
 use Rattle.pass.specs.Read.{span, enter}
 use Rattle.pass.specs.Lists.{capturedVars, sortById, listIn, storeCaptured, storeArguments, rewriteCaptured, numberList, heapCount, namesOf, keep, amendList}
 pub use Rattle.semantic.specs.Kinds.{functionIn}
@@ -26,8 +26,8 @@ pub use Rattle.semantic.specs.Kinds.{functionIn}
 -- Names enter in order. On a second run one that was captured and mutated on the first, by the list's entry at its place, enters as a
 -- heap entry: its slot is its place alone, and its heap offset follows those of the lambda around, which are `heaps`.
 
-abbrev pub isHeap : List Item → ℕ → Bool
-isHeap l j = getD l j noItem .info .captured && getD l j noItem .info .mutated
+abbrev pub isHeap : List ListEntry → ℕ → Bool
+isHeap l j = getD l j noListEntry .info .captured && getD l j noListEntry .info .mutated
 
 abbrev pub orZero : Option ℕ → ℕ
 orZero none = 0
@@ -38,7 +38,7 @@ abbrev pub noteHeap : Option ℕ → Ident → State → State
 noteHeap none x s = noteSecond 11 (x .at) s
 noteHeap (some n) x s = s
 
-module _ (kind : IdentifierStatus) (base : ℕ) (heaps : Option ℕ) (before : List Item) where
+module _ (kind : IdentifierStatus) (base : ℕ) (heaps : Option ℕ) (before : List ListEntry) where
   -- the name at the place j, h heap entries before it
   unfoldable pub enterName : Bool → Ident → ℕ → ℕ → State → State
   enterName true x j h s =
@@ -57,10 +57,10 @@ markLast (some x) s = amend markLastUsage (x .at) s
 
 -- Lambda: on entering
 
-abbrev pub capturedList : State → FunctionInformation → List Item
+abbrev pub capturedList : State → FunctionInformation → List ListEntry
 capturedList s v = listIn (s .facts .captured) (v .«captured_vars»)
 
-abbrev pub argumentList : State → FunctionInformation → List Item
+abbrev pub argumentList : State → FunctionInformation → List ListEntry
 argumentList s v = listIn (s .facts .arguments) (v .arguments)
 
 -- the captures' layer opens, with the lambda's list where it has a fact; one that escapes ends the context
@@ -77,8 +77,8 @@ unfoldable pub enterParameters : Option FunctionInformation → List Ident → S
 enterParameters none xs s = enterNames Local 0 none [] xs 0 0 s
 enterParameters (some v) xs s = enterNames Local 0 (some (heapCount (capturedList s v))) (argumentList s v) xs 0 0 s
 
-unfoldable pub enterLambda : Node → List Ident → State → State
-enterLambda n xs s =
+unfoldable pub openLambda : Node → List Ident → State → State
+openLambda n xs s =
     let f = functionIn (rowAt s (n .at)) in
     enterParameters f xs (openScope (openCaptures f s))
 
@@ -118,9 +118,9 @@ unfoldable mutual
   holdsLambdaIn (cons t ts) = holdsLambda t || holdsLambdaIn ts
 
 -- what is live in the newest layer, as a list keeps it
-abbrev pub itemsOf : State → List (Live Ident) → List Item
-itemsOf s [] = []
-itemsOf s (e ∷ l) = itemOf (e .value) (entryAt s (e .value .at)) ∷ itemsOf s l
+abbrev pub listEntriesOf : State → List (Live Ident) → List ListEntry
+listEntriesOf s [] = []
+listEntriesOf s (e ∷ l) = listEntryOf (e .value) (entryAt s (e .value .at)) ∷ listEntriesOf s l
 
 unfoldable pub markLasts : List (Live Ident) → State → State
 markLasts [] s = s
@@ -141,7 +141,7 @@ endParameters [] s = s
 endParameters (x ∷ xs) s = endParameters xs (amend (endedFact (entryAt s (x .at) .usageCount) (newest s (x .name))) (x .at) s)
 
 -- the fact is made
-unfoldable pub makeFunction : Node → Bool → List Item → List Item → State → State
+unfoldable pub makeFunction : Node → Bool → List ListEntry → List ListEntry → State → State
 makeFunction n escapes captured arguments s =
     insert (n .at) (Function (record {
       «captured_vars» = record { first = s .facts .capturedTop; length = length captured };
@@ -153,13 +153,13 @@ makeFunction n escapes captured arguments s =
     (storeArguments arguments (storeCaptured (n .at) captured s))
 
 -- or its list is amended: for an innermost lambda, to the names in `now` that its body uses
-abbrev pub nowUsed : Tree → List Item → List Item
+abbrev pub nowUsed : Tree → List ListEntry → List ListEntry
 nowUsed b now = cond (holdsLambda b) now (keep (λ x. member x (namesUsed b)) now)
 
-abbrev pub keptOf : Tree → List Item → List Item → List Item
+abbrev pub keptOf : Tree → List ListEntry → List ListEntry → List ListEntry
 keptOf b now l = cond (holdsLambda b) l (keep (λ x. member x (namesOf now)) l)
 
-unfoldable pub amendFunction : Node → Tree → List Item → ScopeMap Capture → FunctionInformation → State → State
+unfoldable pub amendFunction : Node → Tree → List ListEntry → ScopeMap Capture → FunctionInformation → State → State
 amendFunction n b now m v s =
     let used = nowUsed b now in
     let l = amendList used m [] (keptOf b used (capturedList s v)) in
@@ -172,26 +172,26 @@ amendFunction n b now m v s =
     }))
     (rewriteCaptured (v .«captured_vars») l s)
 
-abbrev pub functionEnds : Option FunctionInformation → Node → Tree → Bool → List Item → List Item → ScopeMap Capture → State → State
+abbrev pub functionEnds : Option FunctionInformation → Node → Tree → Bool → List ListEntry → List ListEntry → ScopeMap Capture → State → State
 functionEnds none n b escapes now arguments m s = makeFunction n escapes (sortById now) arguments s
 functionEnds (some v) n b escapes now arguments m s = amendFunction n b now m v s
 
 abbrev pub nameIn : Ident → ℕ
 nameIn x = x .name
 
-unfoldable pub leaveLambda : Node → List Ident → Tree → Bool → State → State
-leaveLambda n xs b escapes s =
+unfoldable pub closeLambda : Node → List Ident → Tree → Bool → State → State
+closeLambda n xs b escapes s =
     let layer = newestLayer (s .scope .names) in
-    functionEnds (functionIn (rowAt s (n .at))) n b escapes (capturedVars (map nameIn xs) s) (itemsOf s layer) (s .captures)
+    functionEnds (functionIn (rowAt s (n .at))) n b escapes (capturedVars (map nameIn xs) s) (listEntriesOf s layer) (s .captures)
     (endParameters xs (markLasts layer (closeCaptures (closeScope s))))
 
 -- Let
 
-abbrev pub letArgumentsIn : State → Option LetInformation → List Item
+abbrev pub letArgumentsIn : State → Option LetInformation → List ListEntry
 letArgumentsIn s none = []
 letArgumentsIn s (some v) = listIn (s .facts .arguments) (v .arguments)
 
-abbrev pub letArguments : State → Row → List Item
+abbrev pub letArguments : State → Row → List ListEntry
 letArguments s r = letArgumentsIn s (letIn r)
 
 -- how many heap entries the lambda around has
@@ -204,20 +204,20 @@ heapsAround s none = none
 heapsAround s (some n) = heapsIn s (functionIn (rowAt s (n .at)))
 
 -- a let opens a layer only at depth 1
-unfoldable pub openLet : Bool → State → State
-openLet true s = openScope s
-openLet false s = s
+unfoldable pub openLayer : Bool → State → State
+openLayer true s = openScope s
+openLayer false s = s
 
-unfoldable pub closeLet : Bool → State → State
-closeLet true s = closeScope s
-closeLet false s = s
+unfoldable pub closeLayer : Bool → State → State
+closeLayer true s = closeScope s
+closeLayer false s = s
 
 abbrev pub atBottom : State → Bool
 atBottom s = eqb (depth s) 1
 
-unfoldable pub enterLet : Node → List Ident → ℕ → Option Node → State → State
-enterLet n xs height function s =
-    let t = openLet (atBottom s) s in
+unfoldable pub openLet : Node → List Ident → ℕ → Option Node → State → State
+openLet n xs height function s =
+    let t = openLayer (atBottom s) s in
     enterNames LetVar height (heapsAround t function) (letArguments t (rowAt t (n .at))) xs 0 0 t
 
 -- the names leave one by one, with their last uses marked
@@ -226,16 +226,16 @@ leaveNames [] s = s
 leaveNames (x ∷ xs) s =
     leaveNames xs (markLast (entryAt s (x .at) .lastUsed) (withNames (scopeMap.remove (x .name) (s .scope .names)) s))
 
-unfoldable pub entered : List Ident → State → List Item
+unfoldable pub entered : List Ident → State → List ListEntry
 entered [] s = []
-entered (x ∷ xs) s = itemOf x (entryAt s (x .at)) ∷ entered xs s
+entered (x ∷ xs) s = listEntryOf x (entryAt s (x .at)) ∷ entered xs s
 
 abbrev pub functionId : Option Node → ℕ
 functionId none = NONE
 functionId (some n) = n .id
 
 -- the let's fact, if it has none yet
-abbrev pub makeLet : Row → Node → List Item → ℕ → Option Node → State → State
+abbrev pub makeLet : Row → Node → List ListEntry → ℕ → Option Node → State → State
 makeLet Blank n l height function s =
     insert (n .at) (Let (record {
       «stack_offset» = height;
@@ -249,6 +249,6 @@ makeLet (CallSite v) n l height function s = s
 makeLet (Let v) n l height function s = s
 
 -- `opened`: the let opened a layer
-unfoldable pub leaveLet : Bool → Node → List Ident → ℕ → Option Node → State → State
-leaveLet opened n xs height function s =
-    closeLet opened (makeLet (rowAt s (n .at)) n (entered xs s) height function (leaveNames xs s))
+unfoldable pub closeLet : Bool → Node → List Ident → ℕ → Option Node → State → State
+closeLet opened n xs height function s =
+    closeLayer opened (makeLet (rowAt s (n .at)) n (entered xs s) height function (leaveNames xs s))

@@ -3,15 +3,6 @@ pub mod Read
 pub mod Lists
 pub mod Lambda
 pub mod Visit
-pub mod Stage
 pub mod Run
-pub mod Sound
-pub mod Visitable
-pub mod Static
-pub mod TailPosition
-pub mod Scripts
-pub mod AndWhenUnless
-pub mod Laws
 pub mod Bare
-pub mod Recorded
-pub mod Expansion
+pub mod Laws

@@ -10,9 +10,9 @@ use Rattle.tree.specs.Core.{core}
 use Rattle.scope_map.specs.ScopeMap.{ScopeMap, Live, get, hasAtTop}
 use Rattle.scope_map.specs.ScopeMap as map
 use Rattle.semantic.specs.Information.{NONE, new, shadows, withUsageCount, refersTo, aliasesTo, markBuiltin, markRequired, withOffset, withCaptureIndex, withReadCaptureOffset, withHeapOffset, withReadHeapOffset, withCapturedFromEnclosing, markSet, markShadowed}
-use Rattle.semantic.specs.Rows.{Row, Variable, Item}
+use Rattle.semantic.specs.Rows.{Row, Variable, ListEntry}
 use Rattle.semantic.specs.Amend.{usedOr}
-use Rattle.semantic.specs.Items.{onInfo}
+use Rattle.semantic.specs.ListEntries.{onInfo}
 use Rattle.semantic.specs.declared.IdentifierStatus.{IdentifierStatus}
 use Rattle.semantic.specs.declared.IdentifierStatus.the-variants.{Global, Local, LetVar, Captured, Free, HeapAllocated}
 use Rattle.semantic.specs.declared.Span.{Span}

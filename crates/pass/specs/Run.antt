@@ -1,7 +1,7 @@
 -- Both runs, and what the operations answer. Document 01, "What the operations answer".
-use Prim.Native.Nat.{ℕ, zero, suc, _+_, _*_, _%_}
-use mathlib.Core.List.{List, [], _∷_, _++_}
-use mathlib.Core.Bool.{Bool, true, false, cond, _&&_}
+use Prim.Native.Nat.{ℕ, _*_, _%_}
+use mathlib.Core.List.{List}
+use mathlib.Core.Bool.{Bool, true, false, _&&_}
 use mathlib.Core.Option.{Option, none, some}
 use mathlib.Core.Path.{_≡_}
 use lib.ListN.{length, replicate}
@@ -14,24 +14,25 @@ use Rattle.tree.specs.Check.{Refusal, refusal}
 use Rattle.tree.specs.Accepted.{Accepted}
 use Rattle.scope_map.specs.ScopeMap.{new}
 use Rattle.semantic.specs.Information.{NONE}
-use Rattle.semantic.specs.Rows.{Row, Blank, rowWidth, putRow, Item, noItem, itemWidth, putItem}
-use Rattle.pass.specs.State.{Facts, Scope, Noted, State, noEntry}
-use Rattle.pass.specs.Visit.{enterTops, visitTops}
+use Rattle.semantic.specs.Rows.{Blank, rowWidth, putRow, noListEntry, listEntryWidth, putListEntry}
+use Rattle.semantic.specs.declared.IdentifierStatus.the-variants.{Global}
+use Rattle.pass.specs.State.{Facts, Noted, State, noEntry}
+use Rattle.pass.specs.Visit.{enterChildren, visitTops}
 
 -- how many rows each table has
 abbrev pub rowsMost : ℕ
 rowsMost = 4096
 
-abbrev pub itemsMost : ℕ
-itemsMost = 4096
+abbrev pub listEntriesMost : ℕ
+listEntriesMost = 4096
 
 -- nothing is known yet
 unfoldable pub noFacts : Facts
 noFacts = record {
   rows = replicate rowsMost Blank;
-  captured = replicate itemsMost noItem;
+  captured = replicate listEntriesMost noListEntry;
   capturedTop = 0;
-  arguments = replicate itemsMost noItem;
+  arguments = replicate listEntriesMost noListEntry;
   argumentsTop = 0;
 }
 
@@ -45,8 +46,9 @@ start f = record {
   noted = record { nine = none; ten = none; second = none };
 }
 
+-- `run_with_scope`: the lambda defines at top level enter first
 unfoldable pub run : List ℕ → Trees → Facts → State
-run classes ts f = visitTops classes (topLevel ts) (enterTops classes (topLevel ts) (start f))
+run classes ts f = visitTops classes (topLevel ts) (enterChildren classes Global (topLevel ts) (start f))
 
 -- The fresh run, and the settled run: the same called twice, with the facts kept
 
@@ -58,16 +60,16 @@ settled classes ts = run classes ts (fresh classes ts .facts)
 
 -- The refusals of a run: 9 covers the whole input before 10
 
-abbrev pub tenIn : Option ℕ → Option Refusal
-tenIn none = none
-tenIn (some i) = some (record { number = 10; at = i })
+abbrev pub tenAt : Option ℕ → Option Refusal
+tenAt none = none
+tenAt (some i) = some (record { number = 10; at = i })
 
-abbrev pub nineIn : Option ℕ → Option Refusal → Option Refusal
-nineIn none o = o
-nineIn (some i) o = some (record { number = 9; at = i })
+abbrev pub nineOr : Option ℕ → Option Refusal → Option Refusal
+nineOr none o = o
+nineOr (some i) o = some (record { number = 9; at = i })
 
 abbrev pub refusedFirst : Noted → Option Refusal
-refusedFirst n = nineIn (n .nine) (tenIn (n .ten))
+refusedFirst n = nineOr (n .nine) (tenAt (n .ten))
 
 abbrev pub orSecond : Option Refusal → Option Refusal → Option Refusal
 orSecond none o = o
@@ -84,8 +86,8 @@ pub record Tables : Type 0 where
 abbrev pub factsLength : ℕ
 factsLength = rowWidth * rowsMost
 
-abbrev pub itemsLength : ℕ
-itemsLength = itemWidth * itemsMost
+abbrev pub listEntriesLength : ℕ
+listEntriesLength = listEntryWidth * listEntriesMost
 
 abbrev pub workLength : ℕ
 workLength = 59392
@@ -93,13 +95,13 @@ workLength = 59392
 unfoldable pub lengthsFit : Tables → Bool
 lengthsFit t =
     eqb (length (t .facts)) factsLength
-    && (eqb (length (t .captured)) itemsLength && (eqb (length (t .arguments)) itemsLength && eqb (length (t .work)) workLength))
+    && (eqb (length (t .captured)) listEntriesLength && (eqb (length (t .arguments)) listEntriesLength && eqb (length (t .work)) workLength))
 
 unfoldable pub zeros : Tables
 zeros = record {
   facts = replicate factsLength 0;
-  captured = replicate itemsLength 0;
-  arguments = replicate itemsLength 0;
+  captured = replicate listEntriesLength 0;
+  arguments = replicate listEntriesLength 0;
   work = replicate workLength 0;
 }
 
@@ -107,8 +109,8 @@ zeros = record {
 unfoldable pub tablesOf : Facts → Tables
 tablesOf f = record {
   facts = layout putRow (f .rows);
-  captured = layout putItem (f .captured);
-  arguments = layout putItem (f .arguments);
+  captured = layout putListEntry (f .captured);
+  arguments = layout putListEntry (f .arguments);
   work = replicate workLength 0;
 }
 

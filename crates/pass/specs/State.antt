@@ -9,7 +9,7 @@ use Rattle.tree.specs.Check.{Refusal}
 use Rattle.scope_map.specs.ScopeMap.{ScopeMap, Live, get}
 use Rattle.scope_map.specs.ScopeMap as map
 use Rattle.semantic.specs.Information.{NONE}
-use Rattle.semantic.specs.Rows.{Row, Blank, Item, noItem}
+use Rattle.semantic.specs.Rows.{Row, Blank, ListEntry, noListEntry}
 use Rattle.semantic.specs.declared.SemanticInformation.{SemanticInformation}
 use Rattle.semantic.specs.declared.ScopeInfo.{ScopeInfo}
 pub use Rattle.semantic.specs.Amend.{amended}
@@ -27,9 +27,9 @@ pub record Entry : Type 0 where
 -- the facts; each list of captured or argument entries is some rows of its table, one after another
 pub record Facts : Type 0 where
   pub rows : List Row
-  pub captured : List Item
+  pub captured : List ListEntry
   pub capturedTop : ℕ  -- how many captured entries all lists have
-  pub arguments : List Item
+  pub arguments : List ListEntry
   pub argumentsTop : ℕ
 
 -- the live names with their binders, and the entry of each binder, at its record's place
@@ -83,7 +83,7 @@ withRows l s = withFacts (record {
   argumentsTop = s .facts .argumentsTop;
 }) s
 
-abbrev pub withCaptured : List Item → State → State
+abbrev pub withCaptured : List ListEntry → State → State
 withCaptured l s = withFacts (record {
   rows = s .facts .rows;
   captured = l;
@@ -93,11 +93,11 @@ withCaptured l s = withFacts (record {
 }) s
 
 -- the entry at a row of the captured entries
-abbrev pub itemAt : State → ℕ → Item
-itemAt s r = getD (s .facts .captured) r noItem
+abbrev pub listEntryAt : State → ℕ → ListEntry
+listEntryAt s r = getD (s .facts .captured) r noListEntry
 
 abbrev pub infoAt : State → ℕ → ScopeInfo
-infoAt s r = itemAt s r .info
+infoAt s r = listEntryAt s r .info
 
 abbrev pub withNames : ScopeMap Ident → State → State
 withNames m s = withScope (record { names = m; entries = s .scope .entries }) s
@@ -220,8 +220,8 @@ abbrev pub idOf : Option Ident → ℕ
 idOf none = NONE
 idOf (some x) = x .id
 
-abbrev pub itemOf : Ident → Entry → Item
-itemOf b e = record {
+abbrev pub listEntryOf : Ident → Entry → ListEntry
+listEntryOf b e = record {
   binder = b;
   info = record {
     id = b .id;

@@ -1,6 +1,6 @@
 -- The visits, one for each form; and a run over the top level. docs/RULES.md, 2, 4 and 7.
-use Prim.Native.Nat.{ℕ, zero, suc, _+_}
-use mathlib.Core.List.{List, [], _∷_, _++_}
+use Prim.Native.Nat.{ℕ, suc, _+_}
+use mathlib.Core.List.{List}
 use mathlib.Core.Bool.{Bool, true, false, cond, not, _&&_}
 use mathlib.Core.Option.{Option, none, some}
 use lib.ListN.{length}
@@ -9,13 +9,15 @@ use Rattle.tree.specs.Tree.{Ident, Node, Tree, Trees, ident, const, if, letin, 
 use Rattle.tree.specs.Core.{core, cores}
 use Rattle.semantic.specs.Information.{NONE}
 use Rattle.semantic.specs.Rows.{CallSite}
-use Rattle.semantic.specs.declared.IdentifierStatus.the-variants.{Global, Local, LocallyDefinedFunction}
+use Rattle.semantic.specs.declared.IdentifierStatus.{IdentifierStatus}
+use Rattle.semantic.specs.declared.IdentifierStatus.the-variants.{Local, LocallyDefinedFunction}
 use Rattle.semantic.specs.declared.CallKind.{CallKind}
 use Rattle.semantic.specs.declared.CallKind.the-variants.{Normal, TailCall, SelfTailCall}
 use Rattle.semantic.specs.declared.Span.{Span}
-use Rattle.pass.specs.State.{Entry, State, withContext, insert, rowAt, entryAt, newest, depth}
+use Rattle.pass.specs.State.{State, withContext, insert, rowAt, entryAt, newest, depth}
 use Rattle.pass.specs.Read.{span, enterDefine, enterTopLevelValue, read, mutate}
-use Rattle.pass.specs.Lambda.{enterLambda, leaveLambda, enterLet, leaveLet, markLast, atBottom}
+use Rattle.pass.specs.Lambda.{openLambda, closeLambda, openLet, closeLet, markLast, atBottom}
+pub use Rattle.tree.specs.Core.{isLambdaForm, isLambda}
 pub use Rattle.semantic.specs.Kinds.{refersIn}
 
 -- What a visit inherits
@@ -48,20 +50,6 @@ bodyFlags n k f = record { tail = true; escape = f .escape; height = k; counter 
 
 abbrev pub argumentFlags : Flags → Flags
 argumentFlags f = record { tail = false; escape = true; height = f .height; counter = f .counter; function = f .function; direct = false }
-
-abbrev pub isLambdaForm : Tree → Bool
-isLambdaForm (ident x) = false
-isLambdaForm (const n q) = false
-isLambdaForm (if n a b c) = false
-isLambdaForm (letin n xs es b) = false
-isLambdaForm (define n x b) = false
-isLambdaForm (lambda n xs b) = true
-isLambdaForm (sequence n es) = false
-isLambdaForm (call n h es) = false
-isLambdaForm (set! n x e) = false
-
-abbrev pub isLambda : Tree → Bool
-isLambda t = isLambdaForm (core t)
 
 abbrev pub headFlags : Tree → ℕ → Flags → Flags
 headFlags h k f = record { tail = false; escape = f .tail && not (isLambda h); height = f .height + k; counter = f .counter; function = f .function; direct = false }
@@ -145,8 +133,8 @@ abbrev pub markIfTail : Bool → Trees → State → State
 markIfTail true es s = markArguments es s
 markIfTail false es s = s
 
-unfoldable pub endCall : Node → Tree → Trees → Flags → State → State
-endCall n h es f s =
+unfoldable pub closeCall : Node → Tree → Trees → Flags → State → State
+closeCall n h es f s =
     let tail = f .tail && ltb 1 (depth s) in
     callFact (core h) n tail (f .counter) (markIfTail tail (cores es) s)
 
@@ -157,37 +145,38 @@ clearContext x s = cond (isSelf s x) (withContext NONE s) s
 module _ (classes : List ℕ) where
   -- Define: an inner begin has entered its lambda defines; any other lambda define enters before its body, a value define after it
 
-  abbrev pub beforeDefine : Bool → Bool → Ident → Tree → State → State
-  beforeDefine true true x b s = withContext (x .id) s
-  beforeDefine true false x b s = withContext (x .id) s
-  beforeDefine false true x b s = withContext (x .id) (enterDefine classes Local NONE x b s)
-  beforeDefine false false x b s = s
+  abbrev pub openDefine : Bool → Bool → Ident → Tree → State → State
+  openDefine true true x b s = withContext (x .id) s
+  openDefine true false x b s = withContext (x .id) s
+  openDefine false true x b s = withContext (x .id) (enterDefine classes Local NONE x b s)
+  openDefine false false x b s = s
 
-  abbrev pub afterDefine : Bool → Bool → ℕ → Ident → Tree → State → State
-  afterDefine true true c x b s = withContext c s
-  afterDefine true false c x b s = withContext c (enterDefine classes Local NONE x b s)
-  afterDefine false true c x b s = withContext c s
-  afterDefine false false c x b s = enterDefine classes Local NONE x b s
+  abbrev pub closeDefine : Bool → Bool → ℕ → Ident → Tree → State → State
+  closeDefine true true c x b s = withContext c s
+  closeDefine true false c x b s = withContext c (enterDefine classes Local NONE x b s)
+  closeDefine false true c x b s = withContext c s
+  closeDefine false false c x b s = enterDefine classes Local NONE x b s
 
-  -- an inner begin's lambda defines
-  abbrev pub enterIfLambda : Bool → Ident → Tree → State → State
-  enterIfLambda true x b s = enterDefine classes LocallyDefinedFunction NONE x b s
-  enterIfLambda false x b s = s
+  -- the lambda defines among the expressions of an inner begin, or at top level, enter first, with this kind
+  module _ (kind : IdentifierStatus) where
+    abbrev pub enterIfLambda : Bool → Ident → Tree → State → State
+    enterIfLambda true x b s = enterDefine classes kind NONE x b s
+    enterIfLambda false x b s = s
 
-  abbrev pub enterChild : Tree → State → State
-  enterChild (ident x) s = s
-  enterChild (const n q) s = s
-  enterChild (if n a b c) s = s
-  enterChild (letin n xs es b) s = s
-  enterChild (define n x b) s = enterIfLambda (isLambda b) x b s
-  enterChild (lambda n xs b) s = s
-  enterChild (sequence n es) s = s
-  enterChild (call n h es) s = s
-  enterChild (set! n x e) s = s
+    abbrev pub enterChild : Tree → State → State
+    enterChild (ident x) s = s
+    enterChild (const n q) s = s
+    enterChild (if n a b c) s = s
+    enterChild (letin n xs es b) s = s
+    enterChild (define n x b) s = enterIfLambda (isLambda b) x b s
+    enterChild (lambda n xs b) s = s
+    enterChild (sequence n es) s = s
+    enterChild (call n h es) s = s
+    enterChild (set! n x e) s = s
 
-  unfoldable pub enterChildren : Trees → State → State
-  enterChildren nil s = s
-  enterChildren (cons t ts) s = enterChildren ts (enterChild t s)
+    unfoldable pub enterChildren : Trees → State → State
+    enterChildren nil s = s
+    enterChildren (cons t ts) s = enterChildren ts (enterChild t s)
 
   unfoldable mutual
     pub visit : Tree → Flags → State → State
@@ -195,16 +184,16 @@ module _ (classes : List ℕ) where
     visit (const n q) f s = s
     visit (if n a b c) f s = visit c (sameTail f) (visit b (sameTail f) (visit a (notTail f) s))
     visit (letin n xs es b) f s =
-        leaveLet (atBottom s) n xs (f .height) (f .function)
+        closeLet (atBottom s) n xs (f .height) (f .function)
         (visit b (letBodyFlags (many es) f)
-        (enterLet n xs (f .height) (f .function) (withContext (s .context) (visitArguments es (notTail f) (withContext NONE s)))))
+        (openLet n xs (f .height) (f .function) (withContext (s .context) (visitArguments es (notTail f) (withContext NONE s)))))
     visit (define n x b) f s =
-        afterDefine (f .direct) (isLambda b) (s .context) x b (visit b (defineFlags f) (beforeDefine (f .direct) (isLambda b) x b s))
-    visit (lambda n xs b) f s = leaveLambda n xs b (f .escape) (visit b (bodyFlags n (length xs) f) (enterLambda n xs s))
-    visit (sequence (begins n) es) f s = visitChildren es (inBegin f) (enterChildren (cores es) s)
+        closeDefine (f .direct) (isLambda b) (s .context) x b (visit b (defineFlags f) (openDefine (f .direct) (isLambda b) x b s))
+    visit (lambda n xs b) f s = closeLambda n xs b (f .escape) (visit b (bodyFlags n (length xs) f) (openLambda n xs s))
+    visit (sequence (begins n) es) f s = visitChildren es (inBegin f) (enterChildren LocallyDefinedFunction (cores es) s)
     visit (sequence (ands n) es) f s = visitChildren es (inAnd (isAlone es) f) s
     visit (sequence (whens b n) es) f s = visitTested es f s
-    visit (call n h es) f s = endCall n h es f (visit h (headFlags h (many es) f) (visitArguments es (argumentFlags f) s))
+    visit (call n h es) f s = closeCall n h es f (visit h (headFlags h (many es) f) (visitArguments es (argumentFlags f) s))
     visit (set! n x e) f s = read classes x (mutate (x .name) (visit e (notTail f) (clearContext x s)))
 
     -- arguments or initial expressions: each pushes a value
@@ -220,28 +209,9 @@ module _ (classes : List ℕ) where
     -- a test and what follows it, which is as an inner begin
     pub visitTested : Trees → Flags → State → State
     visitTested nil f s = s
-    visitTested (cons t ts) f s = visitChildren ts (inBegin f) (enterChildren (cores ts) (visit t (notTail f) s))
+    visitTested (cons t ts) f s = visitChildren ts (inBegin f) (enterChildren LocallyDefinedFunction (cores ts) (visit t (notTail f) s))
 
-  -- `run_with_scope`: the lambda defines at top level enter first
-
-  abbrev pub enterTopLambda : Bool → Ident → Tree → State → State
-  enterTopLambda true x b s = enterDefine classes Global NONE x b s
-  enterTopLambda false x b s = s
-
-  abbrev pub enterTop : Tree → State → State
-  enterTop (ident x) s = s
-  enterTop (const n q) s = s
-  enterTop (if n a b c) s = s
-  enterTop (letin n xs es b) s = s
-  enterTop (define n x b) s = enterTopLambda (isLambda b) x b s
-  enterTop (lambda n xs b) s = s
-  enterTop (sequence n es) s = s
-  enterTop (call n h es) s = s
-  enterTop (set! n x e) s = s
-
-  unfoldable pub enterTops : Trees → State → State
-  enterTops nil s = s
-  enterTops (cons t ts) s = enterTops ts (enterTop t s)
+  -- The top level
 
   abbrev pub visitTopDefine : Bool → Ident → Tree → State → State
   visitTopDefine true x b s = withContext NONE (visit b topFlags (withContext (x .id) s))

@@ -13,7 +13,7 @@ use Rattle.table.specs.Layout.{layout, length-layout}
 use Rattle.table.specs.Leaves.{tells-first, tells-number}
 use Rattle.tree.specs.Tree.{bit}
 use Rattle.semantic.specs.Rows.{kindNumber, callNumber, Row, Blank, Variable, Function, CallSite, Let, rowWidth, putRow, row-long}
-use Rattle.semantic.specs.KindLaws.{kind-low}
+use Rattle.semantic.specs.Laws.Kinds.{kind-low}
 use Rattle.semantic.specs.Leaves.{Tells}
 use Rattle.semantic.specs.declared.CallKind.{CallKind}
 use Rattle.semantic.specs.declared.CallKind.the-variants.{Normal, TailCall, SelfTailCall}

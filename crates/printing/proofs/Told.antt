@@ -1,8 +1,8 @@
 -- The line of a row, from what its numbers and its kind are told to be.
-use Prim.Native.Nat.{ℕ}
+use Prim.Native.Nat.{ℕ, _≤_}
 use mathlib.Core.List.{List, [], _∷_}
 use mathlib.Core.Path.{_≡_, ap, sym, _∙_}
-use lib.ListN.{getD}
+use lib.ListN.{getD, take}
 use Rattle.semantic.specs.Rows.{Blank, putRow}
 use Rattle.semantic.specs.Kinds.{rowKind}
 use Rattle.semantic.specs.Leaves.{Tells}
@@ -13,16 +13,19 @@ use Rattle.printing.specs.Puts.{Line}
 use Rattle.printing.specs.Counts.{Counted, Summed}
 use Rattle.printing.specs.Numbers.{textOf, row-text}
 
-pub row-told : (F : List ℕ) (at : ℕ) (row : List ℕ) {k j : RowKind} {t : List ℕ} → Tells putRow Blank putRow F at row
-    → Tells putRow Blank rowKind F at k → k ≡ j → t ≡ textOf at j row → Tells putRow Blank (rowText at) F at t
-row-told F at row {k} {j} w v q p = record {
-  is = λ l e h.
-      let r = getD l at Blank in
-      p
-      ∙ ap (λ (i : RowKind). textOf at i row) (sym q ∙ v .is l e h)
-      ∙ ap (textOf at (rowKind r)) (w .is l e h)
-      ∙ row-text at r;
-}
+pub row-told : {F : List ℕ} {at : ℕ} {row : List ℕ} {k j : RowKind} {d : List ℕ} {r : ℕ} → Tells putRow Blank putRow F at row
+    → Tells putRow Blank rowKind F at k → k ≡ j → Line (textOf at j row) d r → (r ≤ 128) × Tells putRow Blank (rowText at) F at (take r d)
+row-told {at = at} {row} {k} {j} w v q p = (
+  p .short,
+  record {
+    is = λ l e h.
+        let r = getD l at Blank in
+        p .text
+        ∙ ap (λ (i : RowKind). textOf at i row) (sym q ∙ v .is l e h)
+        ∙ ap (textOf at (rowKind r)) (w .is l e h)
+        ∙ row-text at r;
+  },
+)
 
 -- The summary, from the counts
 

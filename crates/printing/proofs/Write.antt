@@ -9,8 +9,7 @@ use lib.ListN.{length, getD, take, set, length-append, length-set}
 use lib.Seq.{take-suc, take-suc-set}
 use Rattle.printing.specs.Numeral.{numeral, numeral-small, numeral-more, numeral-length}
 use Rattle.semantic.specs.Information.{NONE}
-use Rattle.printing.specs.Text.{Field, line, orNone}
-use Rattle.printing.specs.Numbers.{begun, begun-line}
+use Rattle.printing.specs.Text.{orNone}
 use Rattle.printing.specs.Puts.{Puts, Line}
 
 -- one byte more
@@ -67,6 +66,11 @@ puts-then {t} {u} {d} {e} {f} {m} {n} {at} v w = record {
   long = w .long ∙ v .long;
 }
 
+-- a field, then what follows it
+pub puts-field : (mark v : List ℕ) {u d e f : List ℕ} {m n at p q : ℕ} → Puts (mark ++ v) m d at e p → Puts u n e p f q
+    → Puts (mark ++ (v ++ u)) (m + n) d at f q
+puts-field mark v {u} h g = rw (sym (append-assoc mark v u)) (puts-then h g)
+
 pub puts-most : {t d e : List ℕ} {m n at p : ℕ} → m ≤ n → Puts t m d at e p → Puts t n d at e p
 puts-most h v = record { text = v .text; short = omega arith; long = v .long }
 
@@ -91,7 +95,3 @@ puts-some mark n h v =
 -- a whole line
 pub line-of : {t d e : List ℕ} {m r : ℕ} → m ≤ 128 → Puts t m d 0 e r → Line t e r
 line-of h v = record { text = v .text; short = omega arith }
-
--- one begun elsewhere
-pub line-after : (fs gs : List Field) {d e : List ℕ} {m r : ℕ} → m ≤ 128 → Puts (begun fs ++ line gs) m d 0 e r → Line (line (fs ++ gs)) e r
-line-after fs gs h v = record { text = v .text ∙ begun-line fs gs; short = omega arith }

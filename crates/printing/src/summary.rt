@@ -2,6 +2,9 @@
 use crate::text::long_number;
 use crate::text::number;
 use crate::text::word;
+use semantic::fields::CALL_SITE;
+use semantic::fields::ROW;
+use semantic::fields::call;
 ghost use mathlib.Core.Path.{_≡_};
 ghost use Prim.Native.Nat.{_+_, _*_, _≤_};
 ghost use lib.ListN.{length};
@@ -28,24 +31,24 @@ fn is_call(facts: &[u32], at: usize) -> bool
     requires { ⌜ rowWidth * at + rowWidth ≤ length (now facts) ⌝ }
     ensures { λ r. ⌜ Tells putRow Blank isCall (now (facts .entry)) at r ⌝ }
 {
-    facts[20 * at] == 10
+    facts[ROW * at] == CALL_SITE
 }
 
 fn is_tail(facts: &[u32], at: usize) -> bool
     requires { ⌜ rowWidth * at + rowWidth ≤ length (now facts) ⌝ }
     ensures { λ r. ⌜ Tells putRow Blank isTail (now (facts .entry)) at r ⌝ }
 {
-    if facts[20 * at] != 10 {
+    if facts[ROW * at] != CALL_SITE {
         return false;
     }
-    facts[20 * at + 1] != 1
+    facts[ROW * at + call::KIND] != 1
 }
 
 pub fn count_calls(facts: &[u32]) -> Calls
     requires { ⌜ length (now facts) ≤ 81920 ⌝ }
     ensures { λ r. ⌜ Counted (now (facts .entry)) r ⌝ }
 {
-    let rows = facts.len() / 20;
+    let rows = facts.len() / ROW;
     let mut all = 0;
     let mut tail = 0;
     let mut i = 0;

@@ -1,6 +1,4 @@
-pub mod Outcomes
-pub mod Back
 pub mod Tables
 pub mod Refusals
-pub mod Records
 pub mod Positions
+pub mod Laws

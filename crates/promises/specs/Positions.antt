@@ -12,14 +12,14 @@ use Rattle.table.specs.Layout.{layout, zeros-layout}
 use Rattle.tree.specs.Record.{width}
 use Rattle.tree.specs.Tree.{Trees}
 use Rattle.tree.specs.Check.{Refusal, refusal}
-use Rattle.tree.specs.Acceptance.{accepted}
-use Rattle.semantic.specs.Rows.{Row, Blank, rowWidth, putRow, row-long, putItem}
+use Rattle.tree.specs.Laws.Acceptance.{accepted}
+use Rattle.semantic.specs.Rows.{Row, Blank, rowWidth, putRow, row-long, putListEntry}
 use Rattle.pass.specs.State.{State}
 use Rattle.pass.specs.Run.{rowsMost, Tables, tablesOf, zeros, Outcome, outcome, fitting, Answers, fresh, settled, refusedFirst, orSecond, freshOutcome, settledOutcome, Fresh, Settled}
 use Rattle.pass.specs.Bare.{bareRow, bares}
 use Rattle.execution.specs.Positions.{Same}
-use Rattle.execution.specs.Carried.{positions-carried}
-use Rattle.promises.specs.Records.{bareRecords, same-refusal, same-trees}
+use Rattle.execution.specs.Laws.Carried.{positions-carried}
+use Rattle.promises.specs.Laws.Records.{bareRecords, same-refusal, same-trees}
 
 -- two tables of facts: the same rows but for positions. No other rows have those numbers (Back.antt `rows-same`).
 pub record SameRows (F G : List ℕ) : Type 0 where
@@ -42,7 +42,7 @@ refused-alike r =
     let z = sym (zeros-layout rowWidth putRow row-long Blank refl rowsMost) in
     record { refused = refl; facts = record { T = replicate rowsMost Blank; U = replicate rowsMost Blank; isT = z; isU = z; same = refl }; captured = refl; arguments = refl }
 
--- the items hold no position
+-- the entries hold no position
 listed : {A : Type 0} (put : A → List ℕ) (l : List A) → layout put l ≡ layout (λ (x : List ℕ). x) (map put l)
 unfolding layout
 listed put [] = refl
@@ -57,8 +57,8 @@ unfolding tablesOf
 left-alike s u x = record {
   refused = refl;
   facts = record { T = s .facts .rows; U = u .facts .rows; isT = refl; isU = refl; same = x .rows };
-  captured = laid-alike putItem (s .facts .captured) (u .facts .captured) (x .captured);
-  arguments = laid-alike putItem (s .facts .arguments) (u .facts .arguments) (x .arguments);
+  captured = laid-alike putListEntry (s .facts .captured) (u .facts .captured) (x .captured);
+  arguments = laid-alike putListEntry (s .facts .arguments) (u .facts .arguments) (x .arguments);
 }
 
 outcome-alike : (q r : Option Refusal) (s u : State) → q ≡ r → Same s u → Alike (outcome q (s .facts)) (outcome r (u .facts))

@@ -14,9 +14,9 @@ use Rattle.pass.specs.State.{Facts, Noted}
 use Rattle.pass.specs.Run.{Tables, Outcome, outcome, fitting, fresh, settled, refusedFirst, orSecond, freshOutcome, settledOutcome, Fresh, Settled}
 use Rattle.r7rs.specs.Binding.{events}
 use Rattle.execution.specs.Acceptance.{nineIn, tenIn, secondIn, freshRefusal, settledRefusal}
-use Rattle.execution.specs.Exact.Nine.{nine-exact}
-use Rattle.execution.specs.Exact.Ten.{ten-exact}
-use Rattle.execution.specs.Exact.Second.{second-exact}
+use Rattle.execution.specs.Laws.Exact.Nine.{nine-exact}
+use Rattle.execution.specs.Laws.Exact.Ten.{ten-exact}
+use Rattle.execution.specs.Laws.Exact.Second.{second-exact}
 
 -- 9 goes before 10: what holds of 10 and of the rest is asked where nothing before is refused
 first-is : (n : Noted) (i j : Option ℕ) → n .nine ≡ i → (i ≡ none → n .ten ≡ j) → refusedFirst n ≡ orElse 9 i (orElse 10 j none)

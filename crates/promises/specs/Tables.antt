@@ -9,23 +9,23 @@ use Rattle.table.specs.Layout.{layout}
 use Rattle.tree.specs.Tree.{Trees}
 use Rattle.tree.specs.Define.{innerDefines}
 use Rattle.tree.specs.Accepted.{Accepted}
-use Rattle.tree.specs.Acceptance.{unique}
+use Rattle.tree.specs.Laws.Acceptance.{unique}
 use Rattle.semantic.specs.Rows.{Row, putRow}
 use Rattle.pass.specs.Run.{Tables, Outcome, fresh, settled, refusedFirst, orSecond, freshOutcome, settledOutcome, Fresh, Settled}
-use Rattle.pass.specs.TailPosition.{CallsRecorded}
+use Rattle.execution.specs.Calls.{CallsRecorded}
 use Rattle.r7rs.specs.Run.{plain}
-use Rattle.execution.specs.Slot.{slots}
-use Rattle.execution.specs.Lock.{Lockstep}
+use Rattle.lockstep.specs.Slot.{slots}
+use Rattle.lockstep.specs.Lock.{Lockstep}
 use Rattle.execution.specs.Premises.{FreshAccepts, SettledAccepts, Premises}
 use Rattle.execution.specs.References.{Referred, LambdasMade, DefinesNamed, UsesCounted, freshReference, freshBinder, settledReference, settledBinder}
-use Rattle.execution.specs.TailPosition.{tail-fresh, tail-settled}
-use Rattle.execution.specs.BindingFresh.{binding-fresh}
-use Rattle.execution.specs.DefinedNames.{defined-fresh, defined-settled}
-use Rattle.execution.specs.UsesFresh.{uses-fresh}
-use Rattle.execution.specs.BindingSettled.{binding-settled}
-use Rattle.execution.specs.Simulation.Main.{demand3}
-use Rattle.promises.specs.Outcomes.{outcomes, kept}
-use Rattle.promises.specs.Back.{rows-same}
+use Rattle.execution.specs.Laws.TailPosition.{tail-fresh, tail-settled}
+use Rattle.execution.specs.Laws.BindingFresh.{binding-fresh}
+use Rattle.execution.specs.Laws.DefinedNames.{defined-fresh, defined-settled}
+use Rattle.execution.specs.Laws.UsesFresh.{uses-fresh}
+use Rattle.execution.specs.Laws.BindingSettled.{binding-settled}
+use Rattle.execution.specs.Laws.Demand3.{demand3}
+use Rattle.promises.specs.Laws.Outcomes.{outcomes, kept}
+use Rattle.promises.specs.Laws.Back.{rows-same}
 
 -- What holds of the tree ts and of the rows T that the table of facts is
 

@@ -1,8 +1,4 @@
 -- What it is for the plain machine to run a tree and its expansion (document 02, order 7) alike. The theorem is in Runs.
-pub mod Values
-pub mod Relation
-pub mod Step
-pub mod Runs
 use Prim.Native.Nat.{ℕ}
 use mathlib.Core.List.{map}
 use mathlib.Core.Option.{Option·map}

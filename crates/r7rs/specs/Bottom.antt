@@ -2,11 +2,11 @@
 -- Document 01, "Rules of the pass": top-level lambda defines enter before anything is visited, other top-level defines before their body.
 use Prim.Native.Nat.{ℕ}
 use mathlib.Core.List.{List, [], _∷_, _++_}
-use mathlib.Core.Bool.{Bool, true, false, cond, not, _&&_}
+use mathlib.Core.Bool.{Bool, cond, not, _&&_}
 use mathlib.Core.Option.{Option, none, some}
 use lib.Dec.{eqb, ltb}
 use Rattle.tree.specs.Tree.{Ident, Tree, Trees, ident, const, if, letin, define, lambda, sequence, call, set!, nil, cons}
-use Rattle.tree.specs.Core.{core}
+use Rattle.tree.specs.Core.{isLambda}
 use Rattle.tree.specs.Define.{topLevel}
 
 -- a define at top level: its record, its name, and whether its body is a lambda
@@ -14,20 +14,6 @@ pub record Define : Type 0 where
   pub at : ℕ
   pub name : Ident
   pub isLambda : Bool
-
-abbrev pub isLambdaForm : Tree → Bool
-isLambdaForm (ident x) = false
-isLambdaForm (const n q) = false
-isLambdaForm (if n a b c) = false
-isLambdaForm (letin n xs es b) = false
-isLambdaForm (define n x b) = false
-isLambdaForm (lambda n xs b) = true
-isLambdaForm (sequence n es) = false
-isLambdaForm (call n h es) = false
-isLambdaForm (set! n x e) = false
-
-abbrev pub isLambda : Tree → Bool
-isLambda t = isLambdaForm (core t)
 
 abbrev pub defineOf : Tree → List Define
 defineOf (ident x) = []

@@ -5,7 +5,5 @@ pub mod Machine
 pub mod Steps
 pub mod Plain
 pub mod Run
-pub mod Examples
-pub mod Sequences
-pub mod Expansion
 pub mod Alike
+pub mod Laws

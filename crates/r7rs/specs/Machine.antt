@@ -32,11 +32,11 @@ pub data Moment : Type 0 where
   pushed : ℕ → After → ℕ → Trees → Moment  -- the value of the expression at this record: what for, how many are pushed, the expressions left
 
 -- "After a moment a machine is at the record entered, or read, or whose value was pushed"; "before the first moment both are at record 0"
-abbrev pub place : Moment → ℕ
-place (start ts) = 0
-place (entered e) = at e
-place (read i) = i
-place (pushed i w n es) = i
+abbrev pub standsAt : Moment → ℕ
+standsAt (start ts) = 0
+standsAt (entered e) = at e
+standsAt (read i) = i
+standsAt (pushed i w n es) = i
 
 -- What waits for a value, innermost first; B is what a body that waits keeps. The last child of a begin, a branch of an if and a let's body
 -- leave nothing of theirs behind but the let's names.

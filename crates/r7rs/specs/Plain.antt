@@ -67,16 +67,16 @@ pget x b m = pgetAt (locate (b .env) x) x m
 
 -- "A set! ... fills what a read would find"; "reading or setting an unbound cell ... stops both machines alike"
 
-abbrev pub putCell : Option PVal → ℕ → PVal → PBody → PMem → Got (PBody × PMem)
-putCell none x w b m = missing
-putCell (some _) x w b m = got (b, mem (m .store) (fill (m .cells) x w))
+abbrev pub pputCell : Option PVal → ℕ → PVal → PBody → PMem → Got (PBody × PMem)
+pputCell none x w b m = missing
+pputCell (some _) x w b m = got (b, mem (m .store) (fill (m .cells) x w))
 
 abbrev pub putStore : Option (ℕ × PVal) → ℕ → PVal → PBody → PMem → Got (PBody × PMem)
 putStore none ℓ w b m = missing
 putStore (some c) ℓ w b m = got (b, mem (set (m .store) ℓ (c .0, w)) (m .cells))
 
 abbrev pub pputAt : Option ℕ → ℕ → PVal → PBody → PMem → Got (PBody × PMem)
-pputAt none x w b m = putCell (m .cells x) x w b m
+pputAt none x w b m = pputCell (m .cells x) x w b m
 pputAt (some ℓ) x w b m = putStore (getElem? (m .store) ℓ) ℓ w b m
 
 abbrev pub pput : ℕ → PVal → PBody → PMem → Got (PBody × PMem)
@@ -99,10 +99,10 @@ binds xs ρ m = bindEnv xs (length (m .store)) ρ
 abbrev pub holds : List Ident → List PVal → PMem → PMem
 holds xs ws m = mem (m .store ++ locations xs ws) (m .cells)
 
-abbrev pub isFalse : PVal → Bool
-isFalse (pconst c q) = q
-isFalse punit = false
-isFalse (pclo i xs e ρ) = false
+abbrev pub pisFalse : PVal → Bool
+pisFalse (pconst c q) = q
+pisFalse punit = false
+pisFalse (pclo i xs e ρ) = false
 
 abbrev pub procedure : PVal → Option (Procedure Env)
 procedure (pconst c q) = none
@@ -116,7 +116,7 @@ abbrev pub plainly : Ops PVal Env PBody PMem
 plainly = record {
   constant = pconst;
   unit = punit;
-  isFalse = isFalse;
+  isFalse = pisFalse;
   made = λ i xs e b. pclo i xs e (b .env);
   procedure = procedure;
   get = λ x b m. pget (x .name) b m;

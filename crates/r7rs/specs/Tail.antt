@@ -1,7 +1,9 @@
 -- Tail position, by structure alone. R7RS 3.5.
 use Prim.Native.Nat.{ℕ}
 use mathlib.Core.List.{List, [], _∷_, _++_}
-use mathlib.Core.Bool.{Bool, true, false}
+use mathlib.Core.Bool.{Bool, true, false, not, _&&_, _||_}
+use lib.Dec.{eqb}
+use Rattle.tree.specs.Core.{isConstant}
 use Rattle.tree.specs.Tree.{Tree, Trees, ident, const, if, letin, define, lambda, sequence, call, set!, nil, cons, begins, ands, whens}
 
 -- a call: its record, its head, and whether it stands in tail position of the innermost lambda around it
@@ -42,3 +44,8 @@ unfoldable mutual
   pub callsTested : Trees → Bool → List Call
   callsTested nil t = []
   callsTested (cons e es) t = calls e false ++ callsLast es t
+
+-- i is the record of one of the calls, and its head is no constant
+unfoldable pub hasFact : ℕ → List Call → Bool
+hasFact i [] = false
+hasFact i (c ∷ l) = (eqb (c .at) i && not (isConstant (c .head))) || hasFact i l

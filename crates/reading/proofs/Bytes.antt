@@ -9,8 +9,8 @@ use lib.ListN.{length, getD, take, set, length-append, length-set}
 use lib.Seq.{take-suc, take-suc-set, take-all}
 use Rattle.printing.specs.Text.{LF}
 use Rattle.reading.specs.Reading.{Said, next, withLine, State, state, withByte, withBytes, bad, read}
-use Rattle.reading.specs.ReadLaws.{byte-end, byte-more}
-use Rattle.reading.specs.Lost.{reached, reached-byte, differs-lost, long-lost}
+use Rattle.reading.specs.Laws.Read.{byte-end, byte-more}
+use Rattle.reading.specs.Laws.Lost.{reached, reached-byte, differs-lost, long-lost}
 use Rattle.reading.specs.declared.reader.Reading.{Reading}
 use Rattle.reading.specs.Held.{shown, spoiled, Tied, tied-nothing, tied-says, Going, Holds, going, lost, Starts, Fed, Turned, turned, spoilt, Turns}
 use Rattle.reading.specs.Leaves.{between-none, Spares, Same, Leaves}

@@ -6,7 +6,7 @@ use native.Mathlib.Omega.{arith}
 use borrow.Author.Tests.{lt-ltb, le-ltb, eq-eqb, ne-eqb}
 use lib.ListN.{length}
 use Rattle.reading.specs.Reading.{Said, nothing, says, next, bad, ending, answer, read}
-use Rattle.reading.specs.Lost.{reached, read-is}
+use Rattle.reading.specs.Laws.Lost.{reached, read-is}
 use Rattle.reading.specs.declared.reader.Reading.{Reading}
 use Rattle.reading.specs.declared.reader.Input.{Input}
 use Rattle.reading.specs.declared.reader.Input.the-variants as input

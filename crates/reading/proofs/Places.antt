@@ -1,16 +1,16 @@
 -- One line, place by place.
 use Prim.Native.Nat.{ℕ, _+_, _-_, _*_, _^_, _≤_, _<_}
-use mathlib.Core.Bool.{Bool, true, false}
+use mathlib.Core.Bool.{Bool, true, false, cond}
 use mathlib.Core.List.{List, [], _∷_}
 use mathlib.Core.Option.{Option, none, some}
 use mathlib.Core.Path.{_≡_, refl, ap, sym, _∙_}
 use native.Mathlib.Omega.{arith}
 use native.Mathlib.Numerals.{add-one}
 use borrow.Author.Tests.{eq-eqb, ne-eqb}
-use lib.ListN.{length, getD, drop, drop-of-length-le}
+use lib.ListN.{length, getD, drop, replicate, drop-of-length-le}
 use lib.Seq.{drop-cons}
 use Rattle.reading.specs.Reading.{Numbered, after, isDigit, digits, fit, numberAt, numberIf, fieldAt, numbersOf, onto}
-use Rattle.reading.specs.NumberLaws.{
+use Rattle.reading.specs.Laws.Numbers.{
   numbered,
   Digit,
   digit,
@@ -24,10 +24,12 @@ use Rattle.reading.specs.NumberLaws.{
   number-digit,
   number-other,
 }
-use Rattle.reading.specs.LineLaws.{numbers-none, numbers-some}
+use Rattle.reading.specs.Laws.Line.{Below, none-left, one-more, numbers-none, numbers-some, numbers-sound}
 use Rattle.reading.specs.declared.line.Field.{Field}
 use Rattle.reading.specs.declared.line.Field.the-variants as Field
-use Rattle.reading.specs.Found.{Starts, starts, starts-not, Found, found, found-not}
+use Rattle.reading.specs.Found.{Starts, starts, starts-not, Found, found, found-not, six, entered, allEntered, enter, saidOf, Next}
+use Rattle.reading.specs.declared.line.Six.{Six}
+use Rattle.printing.specs.Text.{form=, id=, name=, count=, from=, to=, recordMarks}
 
 next : (l : List ℕ) (i : ℕ) → i < length l → drop i l ≡ getD l i 0 ∷ drop (i + 1) l
 next l i h = rw add-one (drop-cons l i 0 h)
@@ -133,37 +135,77 @@ place : Field → ℕ
 place (Field.Value v p) = p
 place Field.Nothing = 0
 
--- Field after field: the numbers of the line are f of those that are left, from the place on
-
-pub record Stage (all : List (List ℕ)) (l : List ℕ) (ms : List (List ℕ)) (at : ℕ) (f : Option (List ℕ) → Option (List ℕ)) : Type 0 where
-  pub inside : at ≤ length l
-  pub is : numbersOf all l ≡ f (numbersOf ms (drop at l))
-  pub strict : f none ≡ none
-
-pub stage-first : (all : List (List ℕ)) (l : List ℕ) → Stage all l all 0 (λ o. o)
-stage-first all l = record { inside = omega arith; is = refl; strict = refl }
-
-module _ {all : List (List ℕ)} {l m : List ℕ} {ms : List (List ℕ)} {at : ℕ} {f : Option (List ℕ) → Option (List ℕ)} (s : Stage all l (m ∷ ms) at f) where
-  pub stage-next : (r : Field) {v p : ℕ} → r ≡ Field.Value v p → Found l (fieldAt m (drop at l)) r → Stage all l ms p (λ o. f (onto v o))
+module _ {l : List ℕ} {o : Option Numbered} where
+  pub found-some : (f : Field) {v p : ℕ} → f ≡ Field.Value v p → Found l o f → (p ≤ length l) × (o ≡ some (numbered v (drop p l)))
   unfolding value place
-  stage-next (Field.Value w q) {v} {p} e (found h g) =
+  found-some (Field.Value w q) {v} {p} e (found h g) =
       let a : w ≡ v = ap value e in
       let b : q ≡ p = ap place e in
-      rw (← a, ← b)
-      (record { inside = h; is = s .is ∙ ap f (numbers-some m ms (drop at l) (numbered w (drop q l)) g); strict = s .strict })
-  stage-next Field.Nothing e (found-not g) = let y : _≡_ {A = ℕ} 0 1 = cc in absurd (omega arith)
+      rw (← a, ← b) (h, g)
+  found-some Field.Nothing e (found-not g) = let y : _≡_ {A = ℕ} 0 1 = cc in absurd (omega arith)
 
-  pub stage-none : (r : Field) → r ≡ Field.Nothing → Found l (fieldAt m (drop at l)) r → numbersOf all l ≡ none
-  stage-none (Field.Value w q) e (found h g) = let y : _≡_ {A = ℕ} 0 1 = cc in absurd (omega arith)
-  stage-none Field.Nothing e (found-not g) = s .is ∙ ap f (numbers-none m ms (drop at l) g) ∙ s .strict
+  pub found-none : (f : Field) → f ≡ Field.Nothing → Found l o f → o ≡ none
+  found-none (Field.Value w q) e (found h g) = let y : _≡_ {A = ℕ} 0 1 = cc in absurd (omega arith)
+  found-none Field.Nothing e (found-not g) = g
 
-module _ {all : List (List ℕ)} {l : List ℕ} {at : ℕ} {f : Option (List ℕ) → Option (List ℕ)} (s : Stage all l [] at f) where
-  pub stage-more : (at ≡ length l → ⊥) → numbersOf all l ≡ none
+-- the line ends at the place, or goes on
+module _ (l : List ℕ) {at : ℕ} where
+  pub line-ends : at ≡ length l → numbersOf [] (drop at l) ≡ some []
   unfolding numbersOf
-  stage-more h =
-      let i : at ≤ length l = s .inside in
-      s .is ∙ ap (λ (r : List ℕ). f (numbersOf [] r)) (next l at (omega arith)) ∙ s .strict
+  line-ends h = ap (numbersOf []) (drop-of-length-le l {i = at} (omega arith))
 
-  pub stage-end : at ≡ length l → numbersOf all l ≡ f (some [])
+  pub line-goes : at ≤ length l → (at ≡ length l → ⊥) → numbersOf [] (drop at l) ≡ none
   unfolding numbersOf
-  stage-end h = s .is ∙ ap (λ (r : List ℕ). f (numbersOf [] r)) (drop-of-length-le l {i = at} (omega arith))
+  line-goes i h = ap (numbersOf []) (next l at (omega arith))
+
+-- A record's line, field after field
+
+entered-more : (a : List ℕ) (n : ℕ) (o : Option (List ℕ)) → enter a (onto n o) ≡ enter (entered a n) o
+entered-more a n none = refl
+entered-more a n (some ns) = refl
+
+neither : (b : Bool) → _≡_ {A = Option (List ℕ)} (cond b none none) none
+neither true = refl
+neither false = refl
+
+module _ {l m : List ℕ} (r : Six) where
+  pub next-some : (f : Field) {v p : ℕ} → f ≡ Field.Value v p → Found l (fieldAt m (drop (r .at) l)) f
+      → Next l m r (record { ok = r .ok; at = p; numbers = entered (r .numbers) v })
+  next-some f {v} {p} e k =
+      let g = found-some f e k in
+      record {
+        inside = g .0;
+        is = λ ms.
+            ap (λ (o : Option (List ℕ)). cond (r .ok) (enter (r .numbers) o) none) (numbers-some m ms (drop (r .at) l) (numbered v (drop p l)) (g .1))
+            ∙ ap (λ (o : Option (List ℕ)). cond (r .ok) o none) (entered-more (r .numbers) v (numbersOf ms (drop p l)));
+      }
+
+  pub next-none : (f : Field) → r .at ≤ length l → f ≡ Field.Nothing → Found l (fieldAt m (drop (r .at) l)) f
+      → Next l m r (record { ok = false; at = r .at; numbers = r .numbers })
+  next-none f h e k = record {
+    inside = h;
+    is = λ ms.
+        ap (λ (o : Option (List ℕ)). cond (r .ok) (enter (r .numbers) o) none) (numbers-none m ms (drop (r .at) l) (found-none f e k))
+        ∙ neither (r .ok);
+  }
+
+six-entered : {ns : List ℕ} → Below recordMarks ns → ns ≡ allEntered (replicate 6 0) ns
+six-entered (one-more a (one-more b (one-more c (one-more d (one-more e (one-more f none-left)))))) = refl
+
+pub all-six : (l : List ℕ) → numbersOf recordMarks l ≡ enter (replicate 6 0) (numbersOf recordMarks l)
+all-six l = go (numbersOf recordMarks l) refl
+  where
+    go : (o : Option (List ℕ)) → numbersOf recordMarks l ≡ o → o ≡ enter (replicate 6 0) o
+    go none e = refl
+    go (some ns) e = ap some (six-entered (numbers-sound recordMarks l ns e .below))
+
+-- a field for each mark, and the end of the line
+pub record-read : {l : List ℕ} {a b c d e f : Six} → Next l form= (record { ok = true; at = 0; numbers = replicate 6 0 }) a → Next l id= a b → Next l name= b c
+    → Next l count= c d → Next l from= d e → Next l to= e f
+    → (f .at ≡ length l → numbersOf recordMarks l ≡ six f) × ((f .at ≡ length l → ⊥) → numbersOf recordMarks l ≡ none)
+record-read {l} {f = f} form id name count from to =
+    let k : numbersOf recordMarks l ≡ saidOf l f [] = all-six l ∙ form .is (drop 1 recordMarks) ∙ id .is (drop 2 recordMarks) ∙ name .is (drop 3 recordMarks)
+    ∙ count .is (drop 4 recordMarks) ∙ from .is (drop 5 recordMarks) ∙ to .is [] in (
+      λ h. k ∙ ap (λ (o : Option (List ℕ)). cond (f .ok) (enter (f .numbers) o) none) (line-ends l h),
+      λ h. k ∙ ap (λ (o : Option (List ℕ)). cond (f .ok) (enter (f .numbers) o) none) (line-goes l (to .inside) h) ∙ neither (f .ok),
+    )

@@ -10,8 +10,8 @@ use Rattle.table.specs.Layout.{layout, layout-append}
 use Rattle.tree.specs.Record.{Record, put, numbers}
 use Rattle.printing.specs.Text.{namesMarks, classMarks, recordMarks}
 use Rattle.reading.specs.Reading.{numbersOf, Said, nothing, says, differs, next, first, class, entry, recordOf, withLine}
-use Rattle.reading.specs.LineLaws.{Below, none-left, one-more, numbers-sound}
-use Rattle.reading.specs.ReadLaws.{line-class, line-record, class-fits, class-over}
+use Rattle.reading.specs.Laws.Line.{Below, none-left, one-more, numbers-sound}
+use Rattle.reading.specs.Laws.Read.{line-class, line-record, class-fits, class-over}
 use Rattle.reading.specs.declared.reader.Reading.{Reading}
 use Rattle.reading.specs.Held.{shown, spoiled, Says, Tied, tied-nothing, tied-says, Turned, turned, spoilt, Turns, First, Class, Entry, RowStored}
 use Rattle.reading.specs.Leaves.{Spares}

@@ -1,11 +1,11 @@
 -- What the functions that read a line promise.
 use Prim.Native.Nat.{ℕ, _+_, _≤_}
-use mathlib.Core.Bool.{Bool, true, false}
+use mathlib.Core.Bool.{Bool, true, false, cond}
 use mathlib.Core.List.{List, [], _∷_}
 use mathlib.Core.Option.{Option, none, some}
 use mathlib.Core.Path.{_≡_}
-use lib.ListN.{length, drop}
-use Rattle.reading.specs.Reading.{Numbered, after}
+use lib.ListN.{length, getD, drop}
+use Rattle.reading.specs.Reading.{Numbered, after, numbersOf}
 use Rattle.reading.specs.declared.line.Field.{Field}
 use Rattle.reading.specs.declared.line.Field.the-variants as field
 use Rattle.reading.specs.declared.line.Only.{Only}
@@ -26,9 +26,28 @@ abbrev pub ones : Only → Option (List ℕ)
 ones (only.Value n) = some (n ∷ [])
 ones only.Nothing = none
 
-abbrev pub sixIf : Bool → List ℕ → Option (List ℕ)
-sixIf true ns = some ns
-sixIf false ns = none
+-- The numbers of a record's line
 
 abbrev pub six : Six → Option (List ℕ)
-six s = sixIf (s .ok) (s .numbers)
+six r = cond (r .ok) (some (r .numbers)) none
+
+-- a number enters as the last, and the first leaves
+abbrev pub entered : List ℕ → ℕ → List ℕ
+entered a n = getD a 1 0 ∷ getD a 2 0 ∷ getD a 3 0 ∷ getD a 4 0 ∷ getD a 5 0 ∷ n ∷ []
+
+abbrev pub allEntered : List ℕ → List ℕ → List ℕ
+allEntered a [] = a
+allEntered a (n ∷ ns) = allEntered (entered a n) ns
+
+abbrev pub enter : List ℕ → Option (List ℕ) → Option (List ℕ)
+enter a none = none
+enter a (some ns) = some (allEntered a ns)
+
+-- what the line says, where these marks are left
+abbrev pub saidOf : List ℕ → Six → List (List ℕ) → Option (List ℕ)
+saidOf l r ms = cond (r .ok) (enter (r .numbers) (numbersOf ms (drop (r .at) l))) none
+
+-- the field of the mark m is read too
+pub record Next (l m : List ℕ) (r q : Six) : Type 0 where
+  pub inside : q .at ≤ length l
+  pub is : (ms : List (List ℕ)) → saidOf l r (m ∷ ms) ≡ saidOf l q ms

@@ -5,7 +5,7 @@ use lib.ListN.{length}
 use Rattle.table.specs.Layout.{layout}
 use Rattle.tree.specs.Record.{Record, put}
 use Rattle.printing.specs.Text.{namesLine, classLine, recordLine, recordMarks}
-use Rattle.reading.specs.LineLaws.{Below}
+use Rattle.reading.specs.Laws.Line.{Below}
 
 unfoldable pub input : List ℕ → List Record → List ℕ
 input cs rs = namesLine (length cs) ++ (layout classLine cs ++ layout recordLine rs)

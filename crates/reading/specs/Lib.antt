@@ -1,11 +1,6 @@
 pub mod Reading
-pub mod NumberLaws
-pub mod LineLaws
 pub mod Found
 pub mod Leaves
 pub mod Held
-pub mod Lost
 pub mod Input
-pub mod ReadLaws
-pub mod RoundTrip
-pub mod Samples
+pub mod Laws

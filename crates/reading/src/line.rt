@@ -4,9 +4,8 @@ ghost use mathlib.Core.List.{_∷_, []};
 ghost use Prim.Native.Nat.{_≤_};
 ghost use lib.ListN.{length, drop};
 ghost use Rattle.printing.specs.Text.{recordMarks};
-ghost use mathlib.Core.Option.{none as Option·none};
 ghost use Rattle.reading.specs.Reading.{fit, numberAt, fieldAt, numbersOf, isDigit as Reading·isDigit, digits as Reading·digits};
-ghost use Rattle.reading.specs.Found.{Starts, Found, ones, six};
+ghost use Rattle.reading.specs.Found.{Starts, Found, ones, six, Next};
 
 // A number, and the place after it.
 pub enum Field {
@@ -19,8 +18,10 @@ pub enum Only {
     Nothing,
 }
 
+// What was read of a record's line: the newest number is the last, and the place is after it.
 pub struct Six {
     pub ok: bool,
+    pub at: usize,
     pub numbers: [u32; 6],
 }
 
@@ -114,12 +115,24 @@ pub fn single(l: &[u8], mark: &[u8]) -> Only
     Only::Value(n)
 }
 
-fn none() -> Six
-    ensures { λ r. ⌜ six r ≡ Option·none ⌝ }
+// The number after the mark is read too.
+fn next(l: &[u8], r: Six, mark: &[u8]) -> Six
+    requires { ⌜ r .at ≤ length (now l) ⌝ }
+    ensures { λ q. ⌜ Next (now (l .entry)) (now (mark .entry)) r q ⌝ }
 {
+    let at = r.at;
+    let a = r.numbers;
+    let Field::Value(n, end) = field_at(l, at, mark) else {
+        return Six {
+            ok: false,
+            at,
+            numbers: a,
+        };
+    };
     Six {
-        ok: false,
-        numbers: [0; 6],
+        ok: r.ok,
+        at: end,
+        numbers: [a[1], a[2], a[3], a[4], a[5], n],
     }
 }
 
@@ -127,29 +140,19 @@ fn none() -> Six
 pub fn record(l: &[u8]) -> Six
     ensures { λ r. ⌜ numbersOf recordMarks (now (l .entry)) ≡ six r ⌝ }
 {
-    let Field::Value(form, a) = field_at(l, 0, b"form=") else {
-        return none();
-    };
-    let Field::Value(id, b) = field_at(l, a, b" id=") else {
-        return none();
-    };
-    let Field::Value(name, c) = field_at(l, b, b" name=") else {
-        return none();
-    };
-    let Field::Value(count, d) = field_at(l, c, b" count=") else {
-        return none();
-    };
-    let Field::Value(from, e) = field_at(l, d, b" from=") else {
-        return none();
-    };
-    let Field::Value(to, f) = field_at(l, e, b" to=") else {
-        return none();
-    };
-    if f != l.len() {
-        return none();
-    }
-    Six {
+    let start = Six {
         ok: true,
-        numbers: [form, id, name, count, from, to],
+        at: 0,
+        numbers: [0; 6],
+    };
+    let form = next(l, start, b"form=");
+    let id = next(l, form, b" id=");
+    let name = next(l, id, b" name=");
+    let count = next(l, name, b" count=");
+    let from = next(l, count, b" from=");
+    let mut r = next(l, from, b" to=");
+    if r.at != l.len() {
+        r.ok = false;
     }
+    r
 }

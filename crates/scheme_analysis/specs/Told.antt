@@ -6,7 +6,7 @@ use mathlib.Core.Option.{Option, none, some}
 use mathlib.Core.Path.{_≡_, refl, ap, sym, _∙_}
 use Rattle.tree.specs.Check.{Refusal, member}
 use Rattle.pass.specs.Run.{Tables, Outcome, Fresh, Settled}
-use Rattle.pass.specs.Laws.Numbers.{Among, fresh-numbers, settled-numbers}
+use Rattle.pass_laws.specs.Laws.Numbers.{Among, fresh-numbers, settled-numbers}
 
 -- 0 where nothing is refused
 abbrev pub numberTold : Option Refusal → ℕ

@@ -7,12 +7,12 @@ use native.Mathlib.Omega.{arith}
 use borrow.Author.Tests.{eqb-true, eqb-false, eq-eqb, ne-eqb, lt-ltb, le-ltb}
 use lib.ListN.{length, drop}
 use lib.Dec.{eqb, ltb}
-use Rattle.scope_map.specs.ScopeMap.{Live, ScopeMap, replaceIn, removeIn, belowLayer, popLayer, hasAtTop, define, remove}
+use Rattle.scope_map.specs.ScopeMap.{Live, ScopeMap, replaceIn, removeIn, belowLayer, popLayer, define, remove}
 use Rattle.scope_map.specs.Rows.{valuesMost, rowAt, linkAt, liveIn, written}
-use Rattle.scope_map.specs.RowLaws.{length-liveIn, live-next, live-same, place-name, replace-liveIn, remove-absent, remove-liveIn}
+use Rattle.scope_map.specs.Laws.Rows.{length-liveIn, live-next, live-same, place-name, replace-liveIn, remove-absent, remove-liveIn}
 use Rattle.scope_map.specs.Hints.{rowsLength, mapLength, Roomy, Enters, Leaves, Moves}
 use Rattle.scope_map.specs.Held.{Sorted, Held, Becomes, Tells, entryOf, Gets, distanceIn, distanceOf, placeIn, Places, withRow, DefinesAt, Starts}
-use Rattle.scope_map.specs.HeldLaws.{mapOf, held-is, becomes, places}
+use Rattle.scope_map.specs.Laws.Held.{mapOf, held-is, becomes, places}
 use Rattle.scope_map.specs.declared.ScopeMap.{ScopeMap as Map}
 use Rattle.scope_map.specs.declared.Found.{Found}
 use Rattle.scope_map.specs.declared.Found.the-variants as found
@@ -78,9 +78,6 @@ pub with-its-row : {m m′ : Map} {t t′ : List ℕ} {x v p : ℕ} → DefinesA
 with-its-row {m} {t = t} {t′} {x} {v} d e = subst (λ (m′ : Map). Becomes m t (define x v) m′ t′) (sym e) (d .becomes)
 
 module _ {m : Map} {t : List ℕ} {x p : ℕ} (u : Places m t x p) where
-  pub at-top : Tells m t (λ s. hasAtTop s x) (ltb p (m .length))
-  at-top = record { is = u .has }
-
   module _ (k : Held m t (mapOf m t)) where
     -- the same, by the rows
     place-row : p ≡ placeIn (m .depth) x (m .length) (liveIn t (m .length))

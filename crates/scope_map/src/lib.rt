@@ -1,12 +1,12 @@
 // Layers of names, each with a value. The live names stand in a lent table, oldest first, as rows of three numbers: name, layer, and value and
 // link packed. The bottom layer is 1. After the rows stand the hints, a number for each name: no row from it on has the name. A row's link is the
-// name's hint as it was before the row.
+// name's hint as it was before the row (docs/SPEED.md, 30 and 40).
 use table::wide;
 ghost use mathlib.Core.Path.{_≡_};
 ghost use mathlib.Core.List.{List};
 ghost use Prim.Native.Nat.{ℕ, _+_, _*_, _≤_, _<_};
 ghost use lib.ListN.{length};
-ghost use Rattle.scope_map.specs.ScopeMap.{new, pushLayer, popLayer, hasAtTop, define, remove};
+ghost use Rattle.scope_map.specs.ScopeMap.{new, pushLayer, popLayer, define, remove};
 ghost use Rattle.scope_map.specs.Rows.{valuesMost, linksMost, rowAt, liveOf, written};
 ghost use Rattle.scope_map.specs.Hints.{mapLength, Roomy, withHint, Bounds, Enters, Leaves, Moves};
 ghost use Rattle.scope_map.specs.Held.{Held, Becomes, Tells, Gets, Places, Starts, distanceOf, withRow, DefinesAt};
@@ -170,14 +170,6 @@ impl ScopeMap {
             return row;
         }
         self.length
-    }
-
-    pub fn contains_key_at_top(self, t: &[u32], name: u32) -> bool
-        requires { ⌜ Roomy (self .length) (now t) ⌝ }
-        ensures { λ r. ⌜ Tells self (now (t .entry)) (λ m. hasAtTop m name) r ⌝ }
-    {
-        let place = self.place(t, name);
-        place < self.length
     }
 
     // In a layer that has the name the value is replaced. Answers the row that the name is in; a row after the last is one more.

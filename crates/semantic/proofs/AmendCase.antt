@@ -13,7 +13,7 @@ use Rattle.semantic.specs.Information.{markShadowed}
 use Rattle.semantic.specs.Rows.{Row, Blank, Variable, Function, CallSite, Let, rowWidth, putRow, row-long}
 use Rattle.semantic.specs.Amend.{amended, markIf, oneUseMore, usedOr}
 use Rattle.semantic.specs.Kinds.{isBlank, isVariable, isIdentifier}
-use Rattle.semantic.specs.KindLaws.{variable-told}
+use Rattle.semantic.specs.Laws.Kinds.{variable-told}
 use Rattle.semantic.specs.Leaves.{Stores, Amends, Tells, SetsNumber}
 use Rattle.semantic.specs.declared.SemanticInformation.{SemanticInformation}
 

@@ -1,3 +1,3 @@
 pub mod RowCase
 pub mod AmendCase
-pub mod ItemCase
+pub mod ListEntryCase

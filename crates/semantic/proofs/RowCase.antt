@@ -1,29 +1,26 @@
 -- Whole rows of the facts, against their numbers. No place of the code stands here.
-use Prim.Native.Nat.{ℕ, _+_, _*_, _<_}
+use Prim.Native.Nat.{ℕ, _+_, _*_}
 use mathlib.Core.List.{List, [], _∷_}
-use mathlib.Core.Bool.{true, false, true≢false, false≢true}
-use mathlib.Core.Option.{none, some}
+use mathlib.Core.Bool.{Bool, true, false, cond}
+use mathlib.Core.Option.{Option, none, some}
 use mathlib.Core.Path.{_≡_, refl, ap, sym, _∙_}
 use native.Mathlib.Omega.{arith}
-use lib.ListN.{length, getD, drop, replicate}
+use borrow.Author.Tests.{eq-eqb, ne-eqb}
+use lib.ListN.{getD, drop, replicate}
 use lib.Seq.{sets}
-use Rattle.table.specs.Layout.{layout}
+use lib.Dec.{eqb}
 use Rattle.table.specs.Leaves.{stores-row, tells-number, tells-first}
 use Rattle.semantic.specs.Information.{NONE}
 use Rattle.semantic.specs.Rows.{kindNumber, callNumber, selfNumber, Row, Blank, Variable, Function, CallSite, Let, rowWidth, putRow, row-long}
-use Rattle.semantic.specs.Decode.{informationOf, information-back, functionOf, function-back, function-none, letOf, let-back, let-none}
-use Rattle.semantic.specs.Numbers.{statusOf, status-kind}
-use Rattle.semantic.specs.Kinds.{isVariable, isIdentifier, refersIn, functionIn, letIn}
-use Rattle.semantic.specs.KindLaws.{variable-told}
-use Rattle.semantic.specs.Leaves.{Stores, Tells, Loads}
-use Rattle.semantic.specs.declared.IdentifierStatus.{IdentifierStatus}
+use Rattle.semantic.specs.Kinds.{isIdentifier, refersIn}
+use Rattle.semantic.specs.Laws.Kinds.{kind-low, low-identifier}
+use Rattle.semantic.specs.Leaves.{Tells, StoresFilled}
 use Rattle.semantic.specs.declared.SemanticInformation.{SemanticInformation}
-use Rattle.semantic.specs.declared.FunctionInformation.{FunctionInformation}
 use Rattle.semantic.specs.declared.CallSiteInformation.{CallSiteInformation}
-use Rattle.semantic.specs.declared.LetInformation.{LetInformation}
 
-pub stored : (F : List ℕ) (i : ℕ) (r : Row) {row F′ : List ℕ} → row ≡ putRow r → F′ ≡ sets F (rowWidth * i) row → Stores putRow F i r F′
-stored F i r e k = stores-row rowWidth putRow row-long Blank F i r (k ∙ ap (sets F (rowWidth * i)) e)
+pub stores-filled : {F : List ℕ} {i : ℕ} {start row F′ : List ℕ} → row ≡ sets (replicate rowWidth 0) 0 start → F′ ≡ sets F (rowWidth * i) row
+    → StoresFilled F i start F′
+stores-filled {F} {i} e k = record { is = λ r q. stores-row rowWidth putRow row-long Blank F i r (k ∙ ap (sets F (rowWidth * i)) (e ∙ q)) }
 
 -- a row but for the numbers that a call gave
 
@@ -36,60 +33,43 @@ pub call-site-row : (v : CallSiteInformation) {n m : ℕ} → n ≡ callNumber (
 unfolding putRow
 call-site-row v e f = rw (e, f)
 
--- Facts loaded
+-- what the row says by a test of its first number
 
-pub loads : (F : List ℕ) (i : ℕ) {row : List ℕ} {k : IdentifierStatus} {r : SemanticInformation}
-    → Tells putRow Blank putRow F i row → k ≡ statusOf (getD row 0 0) → r ≡ informationOf k row → Loads F i r
-unfolding putRow
-loads F i {row} {k} t s d = record {
-  is = λ l v e h q.
-      let p : row ≡ putRow (Variable v) = t .is l e h ∙ ap putRow q in
-      let kind : k ≡ v .kind = s ∙ ap (λ (m : List ℕ). statusOf (getD m 0 0)) p ∙ status-kind (v .kind) in
-      d ∙ ap (informationOf k) p ∙ ap (λ (j : IdentifierStatus). informationOf j (putRow (Variable v))) kind ∙ information-back v;
-}
-
-module _ (F : List ℕ) (i : ℕ) where
-  first : (l : List Row) → F ≡ layout putRow l → i < length l → getD F (rowWidth * i) 0 ≡ getD (putRow (getD l i Blank)) 0 0
-  first l e h = tells-first rowWidth putRow row-long Blank F i (omega arith) .is l e h
-
-  pub function-told : {row : List ℕ} {r : FunctionInformation} → getD F (rowWidth * i) 0 ≡ 8 → Tells putRow Blank putRow F i row → r ≡ functionOf row
-      → Tells putRow Blank functionIn F i (some r)
-  function-told k t q = record {
-    is = λ l e h. ap some (q ∙ ap functionOf (t .is l e h)) ∙ function-back (getD l i Blank) (sym (first l e h) ∙ k);
+module _ (F : List ℕ) (i : ℕ) {B : Type 0} (test : ℕ → Bool) (f g : Row → B) (no : B)
+    (back : (r : Row) → cond (test (getD (putRow r) 0 0)) (f r) no ≡ g r) where
+  told : {b : Bool} → test (getD F (rowWidth * i) 0) ≡ b → {x : B} → Tells putRow Blank (λ r. cond b (f r) no) F i x → Tells putRow Blank g F i x
+  told t s = record {
+    is = λ l e h.
+        let r = getD l i Blank in
+        s .is l e h
+        ∙ ap (λ (b : Bool). cond b (f r) no) (sym t ∙ ap test (tells-first rowWidth putRow row-long Blank F i (omega arith) .is l e h))
+        ∙ back r;
   }
 
-  pub no-function : (getD F (rowWidth * i) 0 ≡ 8 → ⊥) → Tells putRow Blank functionIn F i none
-  no-function k = record { is = λ l e h. function-none (getD l i Blank) (λ q. k (first l e h ∙ q)) }
+-- the fact that a row holds whose first number is n
+module _ (F : List ℕ) (i n : ℕ) {A : Type 0} (decode : List ℕ → A) (g : Row → Option A)
+    (back : (r : Row) → cond (eqb (getD (putRow r) 0 0) n) (some (decode (putRow r))) none ≡ g r) where
+  pub found : getD F (rowWidth * i) 0 ≡ n → {row : List ℕ} → Tells putRow Blank putRow F i row → Tells putRow Blank g F i (some (decode row))
+  found k t =
+      told F i (λ m. eqb m n) (λ r. some (decode (putRow r))) g none back (eq-eqb (getD F (rowWidth * i) 0) n k)
+      (record { is = λ l e h. ap (λ (m : List ℕ). some (decode m)) (t .is l e h) })
 
-  pub let-told : {row : List ℕ} {r : LetInformation} → getD F (rowWidth * i) 0 ≡ 9 → Tells putRow Blank putRow F i row → r ≡ letOf row
-      → Tells putRow Blank letIn F i (some r)
-  let-told k t q = record {
-    is = λ l e h. ap some (q ∙ ap letOf (t .is l e h)) ∙ let-back (getD l i Blank) (sym (first l e h) ∙ k);
-  }
+  pub not-found : (getD F (rowWidth * i) 0 ≡ n → ⊥) → Tells putRow Blank g F i none
+  not-found k =
+      told F i (λ m. eqb m n) (λ r. some (decode (putRow r))) g none back (ne-eqb (getD F (rowWidth * i) 0) n k) (record { is = λ l e h. refl })
 
-  pub no-let : (getD F (rowWidth * i) 0 ≡ 9 → ⊥) → Tells putRow Blank letIn F i none
-  no-let k = record { is = λ l e h. let-none (getD l i Blank) (λ q. k (first l e h ∙ q)) }
-
-refers-row : (r : Row) → true ≡ isVariable r → getD (putRow r) 7 0 ≡ refersIn r
+refers-back : (r : Row) → cond (isIdentifier (getD (putRow r) 0 0)) (getD (putRow r) 7 0) NONE ≡ refersIn r
 unfolding putRow
-refers-row Blank t = absurd (true≢false t)
-refers-row (Variable v) t = refl
-refers-row (Function v) t = absurd (true≢false t)
-refers-row (CallSite v) t = absurd (true≢false t)
-refers-row (Let v) t = absurd (true≢false t)
-
-refers-none : (r : Row) → false ≡ isVariable r → NONE ≡ refersIn r
-refers-none Blank t = refl
-refers-none (Variable v) t = absurd (false≢true t)
-refers-none (Function v) t = refl
-refers-none (CallSite v) t = refl
-refers-none (Let v) t = refl
+refers-back Blank = refl
+refers-back (Variable v) = rw (low-identifier (kindNumber (v .kind)) (kind-low (v .kind)))
+refers-back (Function v) = refl
+refers-back (CallSite v) = refl
+refers-back (Let v) = refl
 
 module _ (F : List ℕ) (i : ℕ) where
   pub refers : true ≡ isIdentifier (getD F (rowWidth * i) 0) → Tells putRow Blank refersIn F i (getD F (rowWidth * i + 7) 0)
-  refers t = record {
-    is = λ l e h. tells-number rowWidth putRow row-long Blank F i 7 (omega arith) .is l e h ∙ refers-row (getD l i Blank) (variable-told F i t .is l e h);
-  }
+  refers t =
+      told F i isIdentifier (λ r. getD (putRow r) 7 0) refersIn NONE refers-back (sym t) (tells-number rowWidth putRow row-long Blank F i 7 (omega arith))
 
   pub no-refers : false ≡ isIdentifier (getD F (rowWidth * i) 0) → Tells putRow Blank refersIn F i NONE
-  no-refers t = record { is = λ l e h. refers-none (getD l i Blank) (variable-told F i t .is l e h) }
+  no-refers t = told F i isIdentifier (λ r. getD (putRow r) 7 0) refersIn NONE refers-back (sym t) (record { is = λ l e h. refl })

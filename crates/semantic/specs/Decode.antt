@@ -1,15 +1,17 @@
 -- Facts and entries from the numbers of their rows.
 use Prim.Native.Nat.{ℕ, _/_, _%_}
 use mathlib.Core.List.{List}
+use mathlib.Core.Bool.{cond}
 use mathlib.Core.Option.{none, some}
 use mathlib.Core.Path.{_≡_, refl}
 use native.Mathlib.Omega.{arith}
+use borrow.Author.Tests.{ne-eqb}
 use lib.ListN.{getD}
 use lib.Dec.{eqb}
-use Rattle.semantic.specs.Rows.{Row, Blank, Variable, Function, CallSite, Let, putRow, Item, putInfo, putItem}
+use Rattle.semantic.specs.Rows.{kindNumber, Row, Blank, Variable, Function, CallSite, Let, putRow, ListEntry, putInfo, putListEntry}
 use Rattle.semantic.specs.Numbers.{bit-one}
 use Rattle.semantic.specs.Kinds.{functionIn, letIn}
-use Rattle.semantic.specs.KindLaws.{kind-low}
+use Rattle.semantic.specs.Laws.Kinds.{kind-low}
 use Rattle.semantic.specs.Marks.{captured-mark, escapes-mark, enclosing-mark, mutated-mark}
 use Rattle.semantic.specs.declared.IdentifierStatus.{IdentifierStatus}
 use Rattle.semantic.specs.declared.SemanticInformation.{SemanticInformation}
@@ -63,21 +65,13 @@ functionOf row = record {
   depth = getD row 7 0;
 }
 
-pub function-back : (r : Row) → getD (putRow r) 0 0 ≡ 8 → some (functionOf (putRow r)) ≡ functionIn r
+pub function-back : (r : Row) → cond (eqb (getD (putRow r) 0 0) 8) (some (functionOf (putRow r))) none ≡ functionIn r
 unfolding putRow
-function-back Blank k = absurd (omega arith)
-function-back (Variable v) k = absurd (omega (arith, kind-low (v .kind)))
-function-back (Function v) k = rw (bit-one (v .escapes))
-function-back (CallSite v) k = absurd (omega arith)
-function-back (Let v) k = absurd (omega arith)
-
-pub function-none : (r : Row) → (getD (putRow r) 0 0 ≡ 8 → ⊥) → none ≡ functionIn r
-unfolding putRow
-function-none Blank k = refl
-function-none (Variable v) k = refl
-function-none (Function v) k = absurd (k refl)
-function-none (CallSite v) k = refl
-function-none (Let v) k = refl
+function-back Blank = refl
+function-back (Variable v) = rw (ne-eqb (kindNumber (v .kind)) 8 (omega (arith, kind-low (v .kind))))
+function-back (Function v) = rw (bit-one (v .escapes))
+function-back (CallSite v) = refl
+function-back (Let v) = refl
 
 abbrev pub letOf : List ℕ → LetInformation
 letOf row = record {
@@ -86,21 +80,13 @@ letOf row = record {
   arguments = record { first = getD row 3 0; length = getD row 4 0 };
 }
 
-pub let-back : (r : Row) → getD (putRow r) 0 0 ≡ 9 → some (letOf (putRow r)) ≡ letIn r
+pub let-back : (r : Row) → cond (eqb (getD (putRow r) 0 0) 9) (some (letOf (putRow r))) none ≡ letIn r
 unfolding putRow
-let-back Blank k = absurd (omega arith)
-let-back (Variable v) k = absurd (omega (arith, kind-low (v .kind)))
-let-back (Function v) k = absurd (omega arith)
-let-back (CallSite v) k = absurd (omega arith)
-let-back (Let v) k = refl
-
-pub let-none : (r : Row) → (getD (putRow r) 0 0 ≡ 9 → ⊥) → none ≡ letIn r
-unfolding putRow
-let-none Blank k = refl
-let-none (Variable v) k = refl
-let-none (Function v) k = refl
-let-none (CallSite v) k = refl
-let-none (Let v) k = absurd (k refl)
+let-back Blank = refl
+let-back (Variable v) = rw (ne-eqb (kindNumber (v .kind)) 9 (omega (arith, kind-low (v .kind))))
+let-back (Function v) = refl
+let-back (CallSite v) = refl
+let-back (Let v) = refl
 
 abbrev pub infoOf : List ℕ → ScopeInfo
 infoOf row = record {
@@ -121,8 +107,8 @@ infoOf row = record {
   depth = getD row 12 0;
 }
 
-pub info-back : (x : Item) → infoOf (putItem x) ≡ x .info
-unfolding putItem putInfo
+pub info-back : (x : ListEntry) → infoOf (putListEntry x) ≡ x .info
+unfolding putListEntry putInfo
 info-back x =
     let v = x .info in
     rw (

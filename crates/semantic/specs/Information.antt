@@ -34,9 +34,6 @@ markRequired i = record { kind = i .kind; «set_bang» = i .«set_bang»; depth 
 abbrev pub withOffset : ℕ → SemanticInformation → SemanticInformation
 withOffset a i = record { kind = i .kind; «set_bang» = i .«set_bang»; depth = i .depth; shadows = i .shadows; «usage_count» = i .«usage_count»; span = i .span; «refers_to» = i .«refers_to»; «aliases_to» = i .«aliases_to»; builtin = i .builtin; «last_usage» = i .«last_usage»; «stack_offset» = a; escapes = i .escapes; «capture_index» = i .«capture_index»; «read_capture_offset» = i .«read_capture_offset»; «captured_from_enclosing» = i .«captured_from_enclosing»; «heap_offset» = i .«heap_offset»; «read_heap_offset» = i .«read_heap_offset»; «is_shadowed» = i .«is_shadowed»; «is_required_identifier» = i .«is_required_identifier» }
 
-abbrev pub markEscapes : SemanticInformation → SemanticInformation
-markEscapes i = record { kind = i .kind; «set_bang» = i .«set_bang»; depth = i .depth; shadows = i .shadows; «usage_count» = i .«usage_count»; span = i .span; «refers_to» = i .«refers_to»; «aliases_to» = i .«aliases_to»; builtin = i .builtin; «last_usage» = i .«last_usage»; «stack_offset» = i .«stack_offset»; escapes = true; «capture_index» = i .«capture_index»; «read_capture_offset» = i .«read_capture_offset»; «captured_from_enclosing» = i .«captured_from_enclosing»; «heap_offset» = i .«heap_offset»; «read_heap_offset» = i .«read_heap_offset»; «is_shadowed» = i .«is_shadowed»; «is_required_identifier» = i .«is_required_identifier» }
-
 abbrev pub withCaptureIndex : ℕ → SemanticInformation → SemanticInformation
 withCaptureIndex a i = record { kind = i .kind; «set_bang» = i .«set_bang»; depth = i .depth; shadows = i .shadows; «usage_count» = i .«usage_count»; span = i .span; «refers_to» = i .«refers_to»; «aliases_to» = i .«aliases_to»; builtin = i .builtin; «last_usage» = i .«last_usage»; «stack_offset» = i .«stack_offset»; escapes = i .escapes; «capture_index» = a; «read_capture_offset» = i .«read_capture_offset»; «captured_from_enclosing» = i .«captured_from_enclosing»; «heap_offset» = i .«heap_offset»; «read_heap_offset» = i .«read_heap_offset»; «is_shadowed» = i .«is_shadowed»; «is_required_identifier» = i .«is_required_identifier» }
 

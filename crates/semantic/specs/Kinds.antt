@@ -5,6 +5,8 @@ use mathlib.Core.Option.{Option, none, some}
 use lib.Dec.{eqb, ltb}
 use Rattle.semantic.specs.Information.{NONE}
 use Rattle.semantic.specs.Rows.{Row, Blank, Variable, Function, CallSite, Let}
+use Rattle.semantic.specs.declared.CallKind.{CallKind}
+use Rattle.semantic.specs.declared.CallKind.the-variants.{Normal, TailCall, SelfTailCall}
 use Rattle.semantic.specs.declared.FunctionInformation.{FunctionInformation}
 use Rattle.semantic.specs.declared.LetInformation.{LetInformation}
 use Rattle.semantic.specs.declared.RowKind.{RowKind}
@@ -75,3 +77,24 @@ functionFound function.Nothing = none
 abbrev pub letFound : FoundLet → Option LetInformation
 letFound (letin.Found v) = some v
 letFound letin.Nothing = none
+
+abbrev pub isCallSite : Row → Bool
+isCallSite Blank = false
+isCallSite (Variable v) = false
+isCallSite (Function v) = false
+isCallSite (CallSite v) = true
+isCallSite (Let v) = false
+
+-- a tail call
+abbrev pub isTail : CallKind → Bool
+isTail Normal = false
+isTail TailCall = true
+isTail (SelfTailCall d) = true
+
+-- a row that records a tail call
+abbrev pub isTailRow : Row → Bool
+isTailRow Blank = false
+isTailRow (Variable v) = false
+isTailRow (Function v) = false
+isTailRow (CallSite v) = isTail (v .kind)
+isTailRow (Let v) = false

@@ -4,14 +4,15 @@ use mathlib.Core.List.{List}
 use mathlib.Core.Bool.{true, false≢true}
 use mathlib.Core.Path.{_≡_, refl, sym, subst, _∙_}
 use native.Mathlib.Omega.{arith}
-use lib.ListN.{length, getD, set}
+use lib.ListN.{length, getD, set, replicate}
+use lib.Seq.{sets}
 use Rattle.table.specs.Layout.{layout}
 use Rattle.table.specs.Leaves.{inside, tells-number}
 use Rattle.semantic.specs.Information.{NONE}
-use Rattle.semantic.specs.Rows.{Row, Blank, Variable, Function, CallSite, Let, rowWidth, putRow, row-long, Item, noItem, itemWidth, putItem, item-long}
+use Rattle.semantic.specs.Rows.{Row, Blank, Variable, Function, CallSite, Let, rowWidth, putRow, row-long, ListEntry, noListEntry, listEntryWidth, putListEntry, list-entry-long}
 use Rattle.semantic.specs.Amend.{amended}
 use Rattle.semantic.specs.Kinds.{isVariable, isIdentifier}
-use Rattle.semantic.specs.KindLaws.{variable-told}
+use Rattle.semantic.specs.Laws.Kinds.{variable-told}
 use Rattle.semantic.specs.declared.SemanticInformation.{SemanticInformation}
 use Rattle.semantic.specs.declared.ScopeInfo.{ScopeInfo}
 pub use Rattle.table.specs.Leaves.{Stores, Amends, Tells}
@@ -20,12 +21,12 @@ pub use Rattle.table.specs.Leaves.{Stores, Amends, Tells}
 pub row-inside : (l : List Row) {F : List ℕ} {i : ℕ} → F ≡ layout putRow l → i < length l → rowWidth * i + rowWidth ≤ length F
 row-inside l {F} {i} e h = inside rowWidth putRow row-long Blank F i l e h
 
-pub item-inside : (l : List Item) {F : List ℕ} {i : ℕ} → F ≡ layout putItem l → i < length l → itemWidth * i + itemWidth ≤ length F
-item-inside l {F} {i} e h = inside itemWidth putItem item-long noItem F i l e h
+pub list-entry-inside : (l : List ListEntry) {F : List ℕ} {i : ℕ} → F ≡ layout putListEntry l → i < length l → listEntryWidth * i + listEntryWidth ≤ length F
+list-entry-inside l {F} {i} e h = inside listEntryWidth putListEntry list-entry-long noListEntry F i l e h
 
--- the identifier's fact in row i
-pub record Loads (F : List ℕ) (i : ℕ) (r : SemanticInformation) : Type 0 where
-  pub is : (l : List Row) (v : SemanticInformation) → F ≡ layout putRow l → i < length l → getD l i Blank ≡ Variable v → r ≡ v
+-- the row that starts with these numbers, and has 0 from there on, is row i
+pub record StoresFilled (F : List ℕ) (i : ℕ) (start F′ : List ℕ) : Type 0 where
+  pub is : (r : Row) → sets (replicate rowWidth 0) 0 start ≡ putRow r → Stores putRow F i r F′
 
 -- number j of row i is x now, if the row is an identifier's: so is its fact changed by any f that does this to the numbers
 pub record SetsNumber (F : List ℕ) (i j x : ℕ) (F′ : List ℕ) : Type 0 where
@@ -53,6 +54,6 @@ uses-fit l {F} {i} e h k = record {
     go (CallSite v) t f = absurd (false≢true t)
     go (Let v) t f = absurd (false≢true t)
 
--- an item of this name and this info is row i
-pub record StoresItem (F : List ℕ) (i name : ℕ) (info : ScopeInfo) (F′ : List ℕ) : Type 0 where
-  pub is : (x : Item) → x .binder .name ≡ name → x .info ≡ info → Stores putItem F i x F′
+-- an entry of this name and this info is row i
+pub record StoresListEntry (F : List ℕ) (i name : ℕ) (info : ScopeInfo) (F′ : List ℕ) : Type 0 where
+  pub is : (x : ListEntry) → x .binder .name ≡ name → x .info ≡ info → Stores putListEntry F i x F′

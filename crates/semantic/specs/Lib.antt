@@ -3,8 +3,8 @@ pub mod Rows
 pub mod Numbers
 pub mod Amend
 pub mod Kinds
-pub mod KindLaws
-pub mod Items
+pub mod ListEntries
 pub mod Marks
 pub mod Decode
 pub mod Leaves
+pub mod Laws

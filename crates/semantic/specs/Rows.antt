@@ -98,12 +98,12 @@ row-long (Let v) = refl
 
 -- An entry of a captured or an argument list: the name's binder, with its `ScopeInfo`
 
-pub record Item : Type 0 where
+pub record ListEntry : Type 0 where
   pub binder : Ident
   pub info : ScopeInfo
 
-abbrev pub itemWidth : ℕ
-itemWidth = 13
+abbrev pub listEntryWidth : ℕ
+listEntryWidth = 13
 
 -- the yes-or-no fields of an entry, added together
 abbrev pub marks : Bool → Bool → Bool → Bool → ℕ
@@ -125,16 +125,16 @@ putInfo v =
     ∷ v .depth
     ∷ []
 
-unfoldable pub putItem : Item → List ℕ
-putItem i = i .binder .name ∷ putInfo (i .info)
+unfoldable pub putListEntry : ListEntry → List ℕ
+putListEntry i = i .binder .name ∷ putInfo (i .info)
 
-pub item-long : (i : Item) → length (putItem i) ≡ itemWidth
-unfolding putItem putInfo
-item-long i = refl
+pub list-entry-long : (i : ListEntry) → length (putListEntry i) ≡ listEntryWidth
+unfolding putListEntry putInfo
+list-entry-long i = refl
 
--- the item of a place that no list holds: zeros
-abbrev pub noItem : Item
-noItem = record {
+-- the entry of a place that no list holds: zeros
+abbrev pub noListEntry : ListEntry
+noListEntry = record {
   binder = record { at = 0; id = 0; name = 0; from = 0; to = 0 };
   info = record {
     id = 0;
@@ -155,6 +155,6 @@ noItem = record {
   };
 }
 
-pub no-item : putItem noItem ≡ replicate itemWidth 0
-unfolding putItem putInfo
-no-item = refl
+pub no-list-entry : putListEntry noListEntry ≡ replicate listEntryWidth 0
+unfolding putListEntry putInfo
+no-list-entry = refl

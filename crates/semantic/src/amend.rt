@@ -1,5 +1,7 @@
 // Facts of identifiers changed in place. A row that holds no such fact stays as it is.
 use crate::SemanticInformation;
+use crate::fields::ROW;
+use crate::fields::variable;
 use crate::kinds::is_blank;
 use crate::kinds::is_variable;
 use crate::rows::store_information;
@@ -16,7 +18,7 @@ fn set_number(facts: &mut [u32], at: usize, place: usize, x: u32)
     ensures { λ _. ⌜ SetsNumber (now (facts .entry)) at place x (now (facts .exit)) ⌝ }
 {
     if is_variable(facts, at) {
-        facts[20 * at + place] = x;
+        facts[ROW * at + place] = x;
     }
 }
 
@@ -24,21 +26,21 @@ pub fn with_usage_count(facts: &mut [u32], at: usize, count: u32)
     requires { ⌜ rowWidth * at + rowWidth ≤ length (now facts) ⌝ }
     ensures { λ _. ⌜ Amends putRow Blank (amended (withUsageCount count)) (now (facts .entry)) at (now (facts .exit)) ⌝ }
 {
-    set_number(facts, at, 4, count);
+    set_number(facts, at, variable::USAGE_COUNT, count);
 }
 
 pub fn mark_set(facts: &mut [u32], at: usize)
     requires { ⌜ rowWidth * at + rowWidth ≤ length (now facts) ⌝ }
     ensures { λ _. ⌜ Amends putRow Blank (amended markSet) (now (facts .entry)) at (now (facts .exit)) ⌝ }
 {
-    set_number(facts, at, 1, 1);
+    set_number(facts, at, variable::SET_BANG, 1);
 }
 
 pub fn mark_last_usage(facts: &mut [u32], at: usize)
     requires { ⌜ rowWidth * at + rowWidth ≤ length (now facts) ⌝ }
     ensures { λ _. ⌜ Amends putRow Blank (amended markLastUsage) (now (facts .entry)) at (now (facts .exit)) ⌝ }
 {
-    set_number(facts, at, 10, 1);
+    set_number(facts, at, variable::LAST_USAGE, 1);
 }
 
 // The fact of a builtin is marked as shadowed.
@@ -46,8 +48,8 @@ pub fn shadow_if_builtin(facts: &mut [u32], at: usize)
     requires { ⌜ rowWidth * at + rowWidth ≤ length (now facts) ⌝ }
     ensures { λ _. ⌜ Amends putRow Blank (amended (λ i. markIf (i .builtin) markShadowed i)) (now (facts .entry)) at (now (facts .exit)) ⌝ }
 {
-    if facts[20 * at + 9] == 1 {
-        set_number(facts, at, 18, 1);
+    if facts[ROW * at + variable::BUILTIN] == 1 {
+        set_number(facts, at, variable::IS_SHADOWED, 1);
     }
 }
 
@@ -56,8 +58,8 @@ pub fn end_parameter(facts: &mut [u32], at: usize, count: u32, id: u32)
     requires { ⌜ rowWidth * at + rowWidth ≤ length (now facts) ⌝ }
     ensures { λ _. ⌜ Amends putRow Blank (amended (λ i. shadows id (withUsageCount count i))) (now (facts .entry)) at (now (facts .exit)) ⌝ }
 {
-    set_number(facts, at, 4, count);
-    set_number(facts, at, 3, id);
+    set_number(facts, at, variable::USAGE_COUNT, count);
+    set_number(facts, at, variable::SHADOWS, id);
 }
 
 pub fn one_use_more(facts: &mut [u32], at: usize)
@@ -65,7 +67,7 @@ pub fn one_use_more(facts: &mut [u32], at: usize)
     ensures { λ _. ⌜ Amends putRow Blank (amended oneUseMore) (now (facts .entry)) at (now (facts .exit)) ⌝ }
 {
     if is_variable(facts, at) {
-        let count = 20 * at + 4;
+        let count = ROW * at + variable::USAGE_COUNT;
         facts[count] = facts[count] + 1;
     }
 }

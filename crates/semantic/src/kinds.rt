@@ -1,18 +1,22 @@
 // What a row of the facts is, and what it says.
-use crate::Entries;
 use crate::FoundFunction;
 use crate::FoundLet;
 use crate::FunctionInformation;
 use crate::LetInformation;
+use crate::ListAt;
 use crate::NONE;
 use crate::RowKind;
+use crate::fields;
+use crate::fields::ROW;
+use crate::fields::function;
+use crate::fields::lets;
+use crate::fields::variable;
 use crate::rows::row_at;
 ghost use mathlib.Core.Path.{_≡_};
 ghost use Prim.Native.Nat.{_+_, _*_, _≤_};
 ghost use lib.ListN.{length, getD};
 ghost use Rattle.semantic.specs.Rows.{Blank, rowWidth, putRow};
 ghost use Rattle.semantic.specs.Kinds.{rowKind, isBlank, isIdentifier, refersIn, functionIn, letIn, functionFound, letFound};
-ghost use Rattle.semantic.specs.Decode.{functionOf, letOf};
 ghost use Rattle.semantic.specs.Leaves.{Tells};
 
 // Whether the row holds no fact.
@@ -20,7 +24,7 @@ pub fn is_blank(facts: &[u32], at: usize) -> bool
     requires { ⌜ rowWidth * at + rowWidth ≤ length (now facts) ⌝ }
     ensures { λ r. ⌜ Tells putRow Blank isBlank (now (facts .entry)) at r ⌝ }
 {
-    facts[20 * at] == 0
+    facts[ROW * at] == fields::BLANK
 }
 
 // Whether the row holds the fact of an identifier.
@@ -28,23 +32,23 @@ pub fn is_variable(facts: &[u32], at: usize) -> bool
     requires { ⌜ rowWidth * at + rowWidth ≤ length (now facts) ⌝ }
     ensures { λ r. ⌜ r ≡ isIdentifier (getD (now (facts .entry)) (rowWidth * at) 0) ⌝ }
 {
-    let first = facts[20 * at];
-    if first == 0 {
+    let first = facts[ROW * at];
+    if first == fields::BLANK {
         return false;
     }
-    first < 8
+    first < fields::FUNCTION
 }
 
 pub fn row_kind(facts: &[u32], at: usize) -> RowKind
     requires { ⌜ rowWidth * at + rowWidth ≤ length (now facts) ⌝ }
     ensures { λ r. ⌜ Tells putRow Blank rowKind (now (facts .entry)) at r ⌝ }
 {
-    let first = facts[20 * at];
+    let first = facts[ROW * at];
     match first {
-        0 => RowKind::Blank,
+        fields::BLANK => RowKind::Blank,
         1..=7 => RowKind::Variable,
-        8 => RowKind::Function,
-        9 => RowKind::Let,
+        fields::FUNCTION => RowKind::Function,
+        fields::LET => RowKind::Let,
         _ => RowKind::CallSite,
     }
 }
@@ -55,27 +59,9 @@ pub fn refers_at(facts: &[u32], at: usize) -> u32
     ensures { λ r. ⌜ Tells putRow Blank refersIn (now (facts .entry)) at r ⌝ }
 {
     if is_variable(facts, at) {
-        return facts[20 * at + 7];
+        return facts[ROW * at + variable::REFERS_TO];
     }
     NONE
-}
-
-fn function_of(row: [u32; 20]) -> FunctionInformation
-    ensures { λ r. ⌜ r ≡ functionOf row ⌝ }
-{
-    FunctionInformation {
-        captured_vars: Entries {
-            first: row[1],
-            length: row[2],
-        },
-        arguments: Entries {
-            first: row[3],
-            length: row[4],
-        },
-        escapes: row[5] == 1,
-        aliases_to: row[6],
-        depth: row[7],
-    }
 }
 
 // The fact of a lambda, if the row holds one.
@@ -83,25 +69,23 @@ pub fn function_at(facts: &[u32], at: usize) -> FoundFunction
     requires { ⌜ rowWidth * at + rowWidth ≤ length (now facts) ⌝ }
     ensures { λ r. ⌜ Tells putRow Blank functionIn (now (facts .entry)) at (functionFound r) ⌝ }
 {
-    if facts[20 * at] != 8 {
+    if facts[ROW * at] != fields::FUNCTION {
         return FoundFunction::Nothing;
     }
     let row = row_at(facts, at);
-    let f = function_of(row);
-    FoundFunction::Found(f)
-}
-
-fn let_of(row: [u32; 20]) -> LetInformation
-    ensures { λ r. ⌜ r ≡ letOf row ⌝ }
-{
-    LetInformation {
-        stack_offset: row[1],
-        function_context: row[2],
-        arguments: Entries {
-            first: row[3],
-            length: row[4],
+    FoundFunction::Found(FunctionInformation {
+        captured_vars: ListAt {
+            first: row[function::CAPTURED_FIRST],
+            length: row[function::CAPTURED_LENGTH],
         },
-    }
+        arguments: ListAt {
+            first: row[function::ARGUMENTS_FIRST],
+            length: row[function::ARGUMENTS_LENGTH],
+        },
+        escapes: row[function::ESCAPES] == 1,
+        aliases_to: row[function::ALIASES_TO],
+        depth: row[function::DEPTH],
+    })
 }
 
 // The fact of a let, if the row holds one.
@@ -109,10 +93,16 @@ pub fn let_at(facts: &[u32], at: usize) -> FoundLet
     requires { ⌜ rowWidth * at + rowWidth ≤ length (now facts) ⌝ }
     ensures { λ r. ⌜ Tells putRow Blank letIn (now (facts .entry)) at (letFound r) ⌝ }
 {
-    if facts[20 * at] != 9 {
+    if facts[ROW * at] != fields::LET {
         return FoundLet::Nothing;
     }
     let row = row_at(facts, at);
-    let l = let_of(row);
-    FoundLet::Found(l)
+    FoundLet::Found(LetInformation {
+        stack_offset: row[lets::STACK_OFFSET],
+        function_context: row[lets::FUNCTION_CONTEXT],
+        arguments: ListAt {
+            first: row[lets::ARGUMENTS_FIRST],
+            length: row[lets::ARGUMENTS_LENGTH],
+        },
+    })
 }

@@ -1,6 +1,6 @@
 // The facts, by value. An id is a record's id, and NONE stands where the Rust has `None`.
 ghost use mathlib.Core.Path.{_≡_};
-ghost use Rattle.semantic.specs.Information.{new, shadows, withUsageCount, refersTo, aliasesTo, markBuiltin, markRequired, withOffset, markEscapes, withCaptureIndex, withReadCaptureOffset, withHeapOffset, withReadHeapOffset, withCapturedFromEnclosing, markSet, markLastUsage, markShadowed};
+ghost use Rattle.semantic.specs.Information.{new, shadows, withUsageCount, refersTo, aliasesTo, markBuiltin, markRequired, withOffset, withCaptureIndex, withReadCaptureOffset, withHeapOffset, withReadHeapOffset, withCapturedFromEnclosing};
 
 pub const NONE: u32 = 4294967295;
 
@@ -119,13 +119,6 @@ impl SemanticInformation {
         self
     }
 
-    pub fn mark_escapes(mut self) -> Self
-        ensures { λ r. ⌜ r ≡ markEscapes self ⌝ }
-    {
-        self.escapes = true;
-        self
-    }
-
     pub fn with_capture_index(mut self, offset: u32) -> Self
         ensures { λ r. ⌜ r ≡ withCaptureIndex offset self ⌝ }
     {
@@ -160,27 +153,6 @@ impl SemanticInformation {
         self.captured_from_enclosing = enclosing;
         self
     }
-
-    pub fn mark_set(mut self) -> Self
-        ensures { λ r. ⌜ r ≡ markSet self ⌝ }
-    {
-        self.set_bang = true;
-        self
-    }
-
-    pub fn mark_last_usage(mut self) -> Self
-        ensures { λ r. ⌜ r ≡ markLastUsage self ⌝ }
-    {
-        self.last_usage = true;
-        self
-    }
-
-    pub fn mark_shadowed(mut self) -> Self
-        ensures { λ r. ⌜ r ≡ markShadowed self ⌝ }
-    {
-        self.is_shadowed = true;
-        self
-    }
 }
 
 // What is known of a bound name, as a captured or an argument entry keeps it.
@@ -203,15 +175,15 @@ pub struct ScopeInfo {
 }
 
 // Some entries of a lent table, one after another.
-pub struct Entries {
+pub struct ListAt {
     pub first: u32,
     pub length: u32,
 }
 
 // The fact of a lambda.
 pub struct FunctionInformation {
-    pub captured_vars: Entries,
-    pub arguments: Entries,
+    pub captured_vars: ListAt,
+    pub arguments: ListAt,
     pub escapes: bool,
     pub aliases_to: u32,
     pub depth: u32,
@@ -242,11 +214,11 @@ impl CallSiteInformation {
 pub struct LetInformation {
     pub stack_offset: u32,
     pub function_context: u32,
-    pub arguments: Entries,
+    pub arguments: ListAt,
 }
 
 impl LetInformation {
-    pub fn new(stack_offset: u32, function_context: u32, arguments: Entries) -> Self
+    pub fn new(stack_offset: u32, function_context: u32, arguments: ListAt) -> Self
         ensures { λ r. ⌜ r ≡ record { «stack_offset» = «stack_offset»; «function_context» = «function_context»; arguments = arguments } ⌝ }
     {
         LetInformation {
@@ -278,7 +250,8 @@ pub enum FoundLet {
 }
 
 pub mod amend;
-pub mod items;
+pub mod fields;
 pub mod kinds;
+pub mod list_entries;
 pub mod numbers;
 pub mod rows;

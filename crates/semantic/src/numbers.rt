@@ -1,9 +1,8 @@
-// The numbers of kinds, and back.
+// The numbers of kinds.
 use crate::CallKind;
 use crate::IdentifierStatus;
 ghost use mathlib.Core.Path.{_≡_};
 ghost use Rattle.semantic.specs.Rows.{kindNumber, callNumber, selfNumber};
-ghost use Rattle.semantic.specs.Numbers.{statusOf};
 
 pub fn kind_number(k: IdentifierStatus) -> u32
     ensures { λ r. ⌜ r ≡ kindNumber k ⌝ }
@@ -16,20 +15,6 @@ pub fn kind_number(k: IdentifierStatus) -> u32
         IdentifierStatus::Captured => 5,
         IdentifierStatus::Free => 6,
         IdentifierStatus::HeapAllocated => 7,
-    }
-}
-
-pub fn status(n: u32) -> IdentifierStatus
-    ensures { λ r. ⌜ r ≡ statusOf n ⌝ }
-{
-    match n {
-        1 => IdentifierStatus::Global,
-        2 => IdentifierStatus::Local,
-        3 => IdentifierStatus::LocallyDefinedFunction,
-        4 => IdentifierStatus::LetVar,
-        5 => IdentifierStatus::Captured,
-        6 => IdentifierStatus::Free,
-        _ => IdentifierStatus::HeapAllocated,
     }
 }
 

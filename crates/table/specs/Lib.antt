@@ -2,4 +2,4 @@ pub mod Layout
 pub mod Leaves
 pub mod Part
 pub mod Region
-pub mod RegionLaws
+pub mod Laws

@@ -11,6 +11,13 @@ pub fn wide(x: u32) -> usize
     x as usize
 }
 
+// A number of 16 bits alike.
+pub fn index(x: u16) -> usize
+    ensures { λ r. ⌜ r ≡ x ⌝ }
+{
+    x as usize
+}
+
 // Sets every number of the table to 0.
 pub fn clear(t: &mut [u32])
     ensures { λ _. ⌜ now (t .exit) ≡ replicate (length (now (t .entry))) 0 ⌝ }

@@ -1,14 +1,15 @@
 -- Checks 1 to 8 and 16: each over the whole input before the next, each with the first record it applies to. Document 01, "What the operations answer".
-use Prim.Native.Nat.{ℕ, zero, suc, _+_, _%_}
+use Prim.Native.Nat.{ℕ, _%_}
 use mathlib.Core.List.{List, [], _∷_}
 use mathlib.Core.Bool.{Bool, true, false, cond, not, _&&_, _||_}
 use mathlib.Core.Option.{Option, none, some}
 use lib.ListN.{length}
-use lib.Dec.{eqb, leb, ltb}
+use lib.Dec.{eqb, ltb}
 use Rattle.tree.specs.Record.{Record, width, records}
 use Rattle.tree.specs.Form.{fits}
-use Rattle.tree.specs.Place.{Open, Placed, placed, left}
+use Rattle.tree.specs.Place.{placed, left}
 use Rattle.tree.specs.First.{on, first}
+pub mod Examples
 
 pub record Refusal : Type 0 where
   pub number : ℕ
@@ -34,8 +35,8 @@ orElse n (some i) o = some (record { number = n; at = i })
 orElse n none o = o
 
 -- a when or an unless of nothing
-abbrev pub testless : Record → Bool
-testless r = (eqb (r .form) 11 || eqb (r .form) 12) && eqb (r .count) 0
+abbrev pub untested : Record → Bool
+untested r = (eqb (r .form) 11 || eqb (r .form) 12) && eqb (r .count) 0
 
 -- Each check as the record that it refuses, if any. N is the number of names.
 module _ (N : ℕ) (rs : List ℕ) where
@@ -69,7 +70,7 @@ module _ (N : ℕ) (rs : List ℕ) where
 
   -- 16: a when or an unless without a test
   unfoldable pub check16 : Option ℕ
-  check16 = first testless (records rs)
+  check16 = first untested (records rs)
 
   -- 8: an id used twice, at the record that repeats an earlier one
   unfoldable pub check8 : Option ℕ

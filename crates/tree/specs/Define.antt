@@ -3,6 +3,7 @@ use Prim.Native.Nat.{ℕ}
 use mathlib.Core.List.{List, [], _∷_, _++_}
 use Rattle.tree.specs.Tree.{Tree, Trees, ident, const, if, letin, define, lambda, sequence, call, set!, nil, cons, begins, ands, whens}
 use Rattle.tree.specs.Core.{core, cores}
+pub mod Examples
 
 infixr 50 _⊕_
 unfoldable pub _⊕_ : Trees → Trees → Trees

@@ -1,7 +1,7 @@
 -- The twelve forms: what a record of each may hold, and how many children it has. Document 01, "The tree".
 use Prim.Native.Nat.{ℕ, zero, suc, _+_}
 use mathlib.Core.List.{List, [], _∷_}
-use mathlib.Core.Bool.{Bool, true, false, cond, _&&_}
+use mathlib.Core.Bool.{Bool, true, false, _&&_}
 use mathlib.Core.Option.{Option, none, some}
 use lib.ListN.{getElem?}
 use lib.Dec.{eqb, leb, ltb}
@@ -39,6 +39,15 @@ forms =
 unfoldable pub formOf : ℕ → Option Form
 formOf zero = none
 formOf (suc n) = getElem? forms n
+
+-- whether a form is known, and whether it has an id
+abbrev pub isForm : Option Form → Bool
+isForm none = false
+isForm (some f) = true
+
+abbrev pub hasIdIn : Option Form → Bool
+hasIdIn none = false
+hasIdIn (some f) = f .hasId
 
 -- the children of a record of form f and count c
 abbrev pub namesIn : Option Form → ℕ → ℕ

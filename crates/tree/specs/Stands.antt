@@ -6,7 +6,7 @@ use mathlib.Core.Path.{_≡_}
 use lib.ListN.{length, drop}
 use Rattle.tree.specs.Record.{Record, width, numbers}
 use Rattle.tree.specs.Form.{fits}
-use Rattle.tree.specs.Tree.{Ident, Tree, Trees, named, flat, flats, size, sizes, NumNames, Num, Nums}
+use Rattle.tree.specs.Tree.{Ident, Tree, Trees, named, flat, flats, NumNames, Num, Nums}
 use Rattle.tree.specs.Accepted.{All}
 
 -- the records l stand in rs from the record at on, each within the limits, over N names

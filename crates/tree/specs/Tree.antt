@@ -1,5 +1,5 @@
 -- Trees: every node holds its record's number, and what the facts take from the record. Document 01, "The tree".
-use Prim.Native.Nat.{ℕ, zero, suc, _+_, max, _<_}
+use Prim.Native.Nat.{ℕ, suc, _+_, max, _<_}
 use mathlib.Core.List.{List, [], _∷_, _++_, map}
 use mathlib.Core.Bool.{Bool, true, false}
 use mathlib.Core.Path.{_≡_}

@@ -3,8 +3,7 @@
 ghost use mathlib.Core.Path.{_≡_};
 ghost use mathlib.Core.Bool.{true};
 ghost use Prim.Native.Nat.{_+_, _*_, _≤_};
-ghost use Rattle.tree.specs.Form.{formOf, namesOf, childrenOf};
-ghost use Rattle.tree.specs.Field.{isForm, hasIdIn};
+ghost use Rattle.tree.specs.Form.{formOf, namesOf, childrenOf, isForm, hasIdIn};
 use table::wide;
 
 pub const FORMS: u32 = 12;
@@ -34,7 +33,7 @@ const FIXED: [u8; 13] = [0, 0, 0, 3, 1, 2, 1, 0, 0, 2, 0, 0, 0];
 
 const COUNTED: [u8; 13] = [0, 0, 0, 0, 2, 0, 1, 1, 1, 0, 1, 1, 1];
 
-// The names among them, alike. No `match` on the form here: forms come mixed, and a branch on one is often mispredicted.
+// The names among them, alike. No `match` on the form here: forms come mixed, and a branch on one is often mispredicted (docs/SPEED.md, 32).
 const FIXED_NAMES: [u8; 13] = [0, 0, 0, 0, 0, 1, 0, 0, 0, 1, 0, 0, 0];
 
 const COUNTED_NAMES: [u8; 13] = [0, 0, 0, 0, 1, 0, 1, 0, 0, 0, 0, 0, 0];

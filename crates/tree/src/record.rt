@@ -3,10 +3,8 @@ ghost use mathlib.Core.Path.{_≡_};
 ghost use mathlib.Core.Bool.{true};
 ghost use Prim.Native.Nat.{_*_, _<_, _≤_};
 ghost use lib.ListN.{length, drop, getD};
-ghost use Rattle.tree.specs.Record.{width, put, records};
-ghost use Rattle.tree.specs.RecordLaws.{nth};
-ghost use Rattle.tree.specs.Form.{formOf, childrenOf};
-ghost use Rattle.tree.specs.Field.{isForm};
+ghost use Rattle.tree.specs.Record.{width, put, records, nth};
+ghost use Rattle.tree.specs.Form.{formOf, childrenOf, isForm};
 use crate::form;
 
 pub const WIDTH: usize = 6;

@@ -2,8 +2,9 @@
 use crate::build::LENGTH;
 use crate::build::Numbers;
 use crate::build::RECORDS;
+use checks::Checked;
+use table::index;
 use table::wide;
-use tree::Checked;
 use tree::record::WIDTH;
 
 pub fn number(name: &[u8], x: usize) {
@@ -64,15 +65,11 @@ fn refused(refusal: u64, at: usize) {
 // So many starts are printed.
 const SHOWN: usize = 4;
 
-fn start(x: u16) -> usize {
-    x as usize
-}
-
 // Where the first trees of n records start, how many trees there are, and the record after them.
 fn starts(tops: &[u16], n: usize) {
     let mut i = 0;
     while i < tops.len() {
-        let at = start(tops[i]);
+        let at = index(tops[i]);
         if n <= at {
             number(b"trees", i);
             number(b"end", at);
@@ -92,7 +89,7 @@ pub fn numbers(t: &Numbers, n: usize, names: usize) {
     }
     let all: &[u32] = t;
     let mut tops = [0u16; RECORDS + 1];
-    let a = tree::check(&all[..n], names, &mut tops);
+    let a = checks::check(&all[..n], names, &mut tops);
     let r = refusal(a);
     if r != 0 {
         refused(r, at(a));

@@ -6,29 +6,28 @@ use mathlib.Core.Path.{_≡_, refl, ap, sym, subst, _∙_}
 use native.Mathlib.Omega.{arith}
 use lib.ListN.{length, drop}
 use lib.Dec.{eqb}
-use Rattle.tree.specs.Record.{width, records}
-use Rattle.tree.specs.RecordLaws.{nth}
+use Rattle.tree.specs.Record.{width, records, nth}
 use Rattle.tree.specs.Tree.{Node, Tree, Trees, ident, const, if, letin, define, lambda, sequence, call, set!, begins, ands, whens, many, size, sizes}
 use Rattle.tree.specs.Core.{peel}
-use Rattle.tree.specs.CoreLaws.{by-peel}
+use Rattle.tree.specs.Laws.Core.{by-peel}
 use Rattle.tree.specs.Stands.{Stands}
-use Rattle.tree.specs.TreeLaws.{size-pos, many-sizes}
-use Rattle.tree.specs.StandsLaws.{root-form, tree-inside}
-use Rattle.tree.specs.Parts.{own}
-use Rattle.tree.specs.StandsParts.{CallParts}
-use Rattle.tree.specs.StandsForms.{call-of}
+use Rattle.tree.specs.Laws.Tree.{size-pos, many-sizes}
+use Rattle.tree.specs.Laws.Stands.{root-form, tree-inside}
+use Rattle.tree.specs.Laws.Parts.{own}
+use Rattle.tree.specs.Laws.Stands.Parts.{CallParts}
+use Rattle.tree.specs.Laws.Stands.Forms.{call-of}
 use Rattle.pass.specs.Visit.{argumentFlags, headFlags, isLambdaForm, isLambda, visit, visitArguments}
-use Rattle.pass.specs.Visitable.{Visitable}
-use Rattle.pass.specs.Laws.Visitable.Parts.{call-arguments, call-head}
-use Rattle.pass.specs.Laws.Visitable.Leaves.{call-ends}
+use Rattle.pass_laws.specs.Visitable.{Visitable}
+use Rattle.pass_laws.specs.Laws.Visitable.Parts.{call-arguments, call-head}
+use Rattle.pass_laws.specs.Laws.Visitable.Leaves.{call-ends}
 use Rattle.work.specs.Known.{Known}
 use Rattle.work.specs.Tied.{Raw, raw, Tied}
 use Rattle.work.specs.declared.Pass.{Pass}
 use Rattle.walk.specs.Contract.{SomeTree, Extends, Reaches}
 use Rattle.flags.specs.Flags.{FlagsAre, Handed, HandsHead}
-use Rattle.forms.specs.Contract.{CallFits, EndsCall}
+use Rattle.forms.specs.Contract.{CallFits, ClosesCall}
 use Rattle.flags.specs.declared.Flags.{Flags as Coded}
-use Rattle.visits.specs.Contract.{Fit, Done, FitAll, DoneAll}
+use Rattle.visits.specs.Contract.{Fit, Done, values, FitRow, DoneRow}
 use Rattle.visits.proofs.Views.{part-on, small, stand-all-at, arguments-at}
 
 is-six : (t : Tree) → eqb (own t .form) 6 ≡ isLambdaForm t
@@ -99,7 +98,7 @@ module _ {classes rs part : List ℕ} {at : ℕ} {g : Coded} {z : Raw} where
 
   -- the head has m records, and k arguments come after it
   pub operands-fit : {p : List ℕ} {k m : ℕ} {g₁ : Coded} → nth rs at .form ≡ 8 → suc k ≡ nth rs at .count → Extends rs (at + 1) m → Handed g argumentFlags g₁
-      → p ≡ drop (width * (1 + m)) part → Fit classes rs part at g z → FitAll classes rs p k (at + 1 + m) g₁ z
+      → p ≡ drop (width * (1 + m)) part → Fit classes rs part at g z → FitRow values classes rs p k (at + 1 + m) g₁ z
   operands-fit {k = k} {m = m} e c l a d x =
       let v = view x e in
       let u : m ≡ size (v .h) = l .is (length classes) (v .h) (v .parts .operator) in
@@ -118,7 +117,7 @@ module _ {classes rs part : List ℕ} {at : ℕ} {g : Coded} {z : Raw} where
       }
 
   pub operator-fits : {p q : List ℕ} {k m n₁ : ℕ} {lambda : Bool} {g₁ g₂ : Coded} {z₁ : Raw} → nth rs at .form ≡ 8 → suc k ≡ nth rs at .count
-      → Extends rs (at + 1) m → Handed g argumentFlags g₁ → p ≡ drop (width * (1 + m)) part → DoneAll classes rs p k (at + 1 + m) g₁ z n₁ z₁
+      → Extends rs (at + 1) m → Handed g argumentFlags g₁ → p ≡ drop (width * (1 + m)) part → DoneRow values classes rs p k (at + 1 + m) g₁ z n₁ z₁
       → ((t : Tree) → Stands (length classes) rs (at + 1) t → lambda ≡ isLambda t) → HandsHead g lambda k g₂ → q ≡ drop (width * 1) part
       → Fit classes rs part at g z → Fit classes rs q (at + 1) g₂ z₁
   unfolding operands-fit
@@ -138,7 +137,7 @@ module _ {classes rs part : List ℕ} {at : ℕ} {g : Coded} {z : Raw} where
 
 module _ {classes rs part : List ℕ} {at : ℕ} {g : Coded} {z : Raw} {p q : List ℕ} {k m n₁ n₂ : ℕ} {lambda : Bool} {g₁ g₂ : Coded} {z₁ : Raw} {p₂ : Pass} {F C A w : List ℕ}
     (e : nth rs at .form ≡ 8) (c : suc k ≡ nth rs at .count) (l : Extends rs (at + 1) m) (a : Handed g argumentFlags g₁)
-    (d : p ≡ drop (width * (1 + m)) part) (o : DoneAll classes rs p k (at + 1 + m) g₁ z n₁ z₁)
+    (d : p ≡ drop (width * (1 + m)) part) (o : DoneRow values classes rs p k (at + 1 + m) g₁ z n₁ z₁)
     (b : (t : Tree) → Stands (length classes) rs (at + 1) t → lambda ≡ isLambda t) (j : HandsHead g lambda k g₂) (t : q ≡ drop (width * 1) part)
     (r : Done classes rs q (at + 1) g₂ z₁ n₂ (raw p₂ F C A w)) where
   pub call-fits : Fit classes rs part at g z → CallFits rs at (at + 1 + m) k p₂ F w
@@ -162,7 +161,7 @@ module _ {classes rs part : List ℕ} {at : ℕ} {g : Coded} {z : Raw} {p q : Li
         };
       }
 
-  pub call-done : {F′ : List ℕ} → EndsCall rs at (at + 1 + m) k (g .tail) (g .counter) p₂ F w F′ → Done classes rs part at g z (1 + m + n₁) (raw p₂ F′ C A w)
+  pub call-done : {F′ : List ℕ} → ClosesCall rs at (at + 1 + m) k (g .tail) (g .counter) p₂ F w F′ → Done classes rs part at g z (1 + m + n₁) (raw p₂ F′ C A w)
   unfolding size visit operands-fit operator-fits
   call-done {F′} y = record {
     used = λ x.

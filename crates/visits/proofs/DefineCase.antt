@@ -2,36 +2,35 @@
 use Prim.Native.Nat.{ℕ, _+_, _*_, _≤_}
 use mathlib.Core.List.{List}
 use mathlib.Core.Bool.{Bool}
-use mathlib.Core.Path.{_≡_, refl, ap, sym, subst}
+use mathlib.Core.Path.{_≡_, refl, sym, subst}
 use native.Mathlib.Omega.{arith}
 use lib.ListN.{length, drop}
-use Rattle.tree.specs.Record.{width}
-use Rattle.tree.specs.RecordLaws.{nth}
+use Rattle.tree.specs.Record.{width, nth}
 use Rattle.tree.specs.Tree.{Ident, Node, Tree, define, size}
 use Rattle.tree.specs.Stands.{Stands}
-use Rattle.tree.specs.TreeLaws.{size-pos}
-use Rattle.tree.specs.StandsParts.{NamedParts}
-use Rattle.tree.specs.StandsForms.{define-of}
-use Rattle.pass.specs.Visit.{defineFlags, isLambda, beforeDefine, afterDefine, visit}
-use Rattle.pass.specs.Visitable.{Visitable}
-use Rattle.pass.specs.Laws.Visitable.Parts.{define-body}
-use Rattle.pass.specs.Laws.Visitable.Leaves.{define-begins, define-ends}
+use Rattle.tree.specs.Laws.Tree.{size-pos}
+use Rattle.tree.specs.Laws.Stands.Parts.{NamedParts}
+use Rattle.tree.specs.Laws.Stands.Forms.{define-of}
+use Rattle.pass.specs.Visit.{defineFlags, isLambda, openDefine, closeDefine, visit}
+use Rattle.pass_laws.specs.Visitable.{Visitable}
+use Rattle.pass_laws.specs.Laws.Visitable.Parts.{define-body}
+use Rattle.pass_laws.specs.Laws.Visitable.Leaves.{define-begins, define-ends}
 use Rattle.work.specs.Known.{Known}
-use Rattle.work.specs.WorksLaws.{context-is}
+use Rattle.work.specs.Laws.Works.{context-is}
 use Rattle.work.specs.Tied.{raw, Tied}
 use Rattle.work.specs.declared.Pass.{Pass}
 use Rattle.walk.specs.Contract.{SomeTreeOf, TellsBody}
 use Rattle.walk.specs.declared.body.Body.{Body as Says}
 use Rattle.flags.specs.Flags.{Handed}
-use Rattle.forms.specs.Contract.{DefineFits, BeforeDefine, AfterDefine}
+use Rattle.forms.specs.Contract.{DefineFits, OpensDefine, ClosesDefine}
 use Rattle.flags.specs.declared.Flags.{Flags as Coded}
 use Rattle.visits.specs.Contract.{Fit, Done}
 use Rattle.visits.proofs.Views.{part-on, small, names-room}
 
 -- the context after it, told as the one before it
 pub context-told : {rs : List ℕ} {at k m : ℕ} {direct : Bool} {b : Says} {p p′ : Pass} {F w F′ w′ : List ℕ} → k ≡ m
-    → AfterDefine rs at direct k b p F w p′ F′ w′ → AfterDefine rs at direct m b p F w p′ F′ w′
-context-told {rs} {at} {direct = direct} {b} {p} {p′} {F} {w} {F′} {w′} e y = subst (λ (i : ℕ). AfterDefine rs at direct i b p F w p′ F′ w′) e y
+    → ClosesDefine rs at direct k b p F w p′ F′ w′ → ClosesDefine rs at direct m b p F w p′ F′ w′
+context-told {rs} {at} {direct = direct} {b} {p} {p′} {F} {w} {F′} {w′} e y = subst (λ (i : ℕ). ClosesDefine rs at direct i b p F w p′ F′ w′) e y
 
 module _ {classes rs part : List ℕ} {at : ℕ} {g : Coded} {p : Pass} {F C A w : List ℕ} where
   pub record DefineView (x : Fit classes rs part at g (raw p F C A w)) : Type 0 where
@@ -82,7 +81,7 @@ module _ {classes rs part : List ℕ} {at : ℕ} {g : Coded} {p : Pass} {F C A w
         }
 
     module _ {says : Says} {p₁ : Pass} {F₁ w₁ q : List ℕ} {g₁ : Coded} (b : TellsBody classes rs (at + 2) says)
-        (o : BeforeDefine rs at (g .direct) says p F w p₁ F₁ w₁) (h : Handed g defineFlags g₁) (d : q ≡ drop (width * 2) part) where
+        (o : OpensDefine rs at (g .direct) says p F w p₁ F₁ w₁) (h : Handed g defineFlags g₁) (d : q ≡ drop (width * 2) part) where
       pub body-fits : Fit classes rs part at g (raw p F C A w) → Fit classes rs q (at + 2) g₁ (raw p₁ F₁ C A w₁)
       body-fits x =
           let v = view x e in
@@ -90,11 +89,11 @@ module _ {classes rs part : List ℕ} {at : ℕ} {g : Coded} {p : Pass} {F C A w
           record {
             t = v .b;
             f = defineFlags (x .f);
-            s = beforeDefine classes (x .f .direct) (isLambda (v .b)) (v .y) (v .b) (x .s);
+            s = openDefine classes (x .f .direct) (isLambda (v .b)) (v .y) (v .b) (x .s);
             is = part-on rs at 2 (x .is) d;
             stands = v .parts .body;
             flags = h .is (x .f) (x .flags);
-            tied = subst (λ (i : Bool). Tied (raw p₁ F₁ C A w₁) (beforeDefine classes i (isLambda (v .b)) (v .y) (v .b) (x .s))) (x .flags .direct)
+            tied = subst (λ (i : Bool). Tied (raw p₁ F₁ C A w₁) (openDefine classes i (isLambda (v .b)) (v .y) (v .b) (x .s))) (x .flags .direct)
                 (o .is classes C A (x .s) (v .n) (v .y) (v .b) (v .stands) (b .is (v .b) (v .parts .body)) (record { good = u .reliable .good; tied = x .tied }));
             fits = define-body small classes at (x .f) (x .s) (v .n) (v .y) (v .b) (v .fits);
           }
@@ -110,7 +109,7 @@ module _ {classes rs part : List ℕ} {at : ℕ} {g : Coded} {p : Pass} {F C A w
               names = length classes;
               captured = C₂;
               arguments = A₂;
-              s = visit classes (v .b) (defineFlags (x .f)) (beforeDefine classes (x .f .direct) (isLambda (v .b)) (v .y) (v .b) (x .s));
+              s = visit classes (v .b) (defineFlags (x .f)) (openDefine classes (x .f .direct) (isLambda (v .b)) (v .y) (v .b) (x .s));
               n = v .n;
               x = v .y;
               t = v .b;
@@ -119,7 +118,7 @@ module _ {classes rs part : List ℕ} {at : ℕ} {g : Coded} {p : Pass} {F C A w
               room = names-room y refl (u .room .live);
             }
 
-        pub define-done : {p₃ : Pass} {F₃ w₃ : List ℕ} → AfterDefine rs at (g .direct) (p .context) says p₂ F₂ w₂ p₃ F₃ w₃
+        pub define-done : {p₃ : Pass} {F₃ w₃ : List ℕ} → ClosesDefine rs at (g .direct) (p .context) says p₂ F₂ w₂ p₃ F₃ w₃
             → Done classes rs part at g (raw p F C A w) (2 + n₁) (raw p₃ F₃ C₂ A₂ w₃)
         unfolding size visit body-fits
         define-done {p₃} {F₃} {w₃} y = record {
@@ -130,11 +129,11 @@ module _ {classes rs part : List ℕ} {at : ℕ} {g : Coded} {p : Pass} {F C A w
           state = λ x.
               let v = view x e in
               let u = define-ends small classes at (x .f) (x .s) (v .n) (v .y) (v .b) (v .fits) in
-              let s = visit classes (v .b) (defineFlags (x .f)) (beforeDefine classes (x .f .direct) (isLambda (v .b)) (v .y) (v .b) (x .s)) in
+              let s = visit classes (v .b) (defineFlags (x .f)) (openDefine classes (x .f .direct) (isLambda (v .b)) (v .y) (v .b) (x .s)) in
               let c : p .context ≡ x .s .context = context-is (x .tied .works) in
               let z = y .is classes C₂ A₂ s (v .n) (v .y) (v .b) (v .stands) (b .is (v .b) (v .parts .body)) (record { good = u .reliable .good; tied = r .state (body-fits x) }) in
-              let t : Tied (raw p₃ F₃ C₂ A₂ w₃) (afterDefine classes (x .f .direct) (isLambda (v .b)) (p .context) (v .y) (v .b) s)
-              = subst (λ (i : Bool). Tied (raw p₃ F₃ C₂ A₂ w₃) (afterDefine classes i (isLambda (v .b)) (p .context) (v .y) (v .b) s)) (x .flags .direct) z in
+              let t : Tied (raw p₃ F₃ C₂ A₂ w₃) (closeDefine classes (x .f .direct) (isLambda (v .b)) (p .context) (v .y) (v .b) s)
+              = subst (λ (i : Bool). Tied (raw p₃ F₃ C₂ A₂ w₃) (closeDefine classes i (isLambda (v .b)) (p .context) (v .y) (v .b) s)) (x .flags .direct) z in
               subst (λ (i : Tree). Tied (raw p₃ F₃ C₂ A₂ w₃) (visit classes i (x .f) (x .s))) (sym (v .tree))
-              (subst (λ (k : ℕ). Tied (raw p₃ F₃ C₂ A₂ w₃) (afterDefine classes (x .f .direct) (isLambda (v .b)) k (v .y) (v .b) s)) c t);
+              (subst (λ (k : ℕ). Tied (raw p₃ F₃ C₂ A₂ w₃) (closeDefine classes (x .f .direct) (isLambda (v .b)) k (v .y) (v .b) s)) c t);
         }

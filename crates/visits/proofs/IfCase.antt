@@ -4,15 +4,14 @@ use mathlib.Core.List.{List}
 use mathlib.Core.Path.{_≡_, sym, subst}
 use native.Mathlib.Omega.{arith}
 use lib.ListN.{length, drop}
-use Rattle.tree.specs.Record.{width}
-use Rattle.tree.specs.RecordLaws.{nth}
+use Rattle.tree.specs.Record.{width, nth}
 use Rattle.tree.specs.Tree.{Node, Tree, if, size}
-use Rattle.tree.specs.TreeLaws.{size-pos}
-use Rattle.tree.specs.StandsParts.{IfParts}
-use Rattle.tree.specs.StandsForms.{if-of}
+use Rattle.tree.specs.Laws.Tree.{size-pos}
+use Rattle.tree.specs.Laws.Stands.Parts.{IfParts}
+use Rattle.tree.specs.Laws.Stands.Forms.{if-of}
 use Rattle.pass.specs.Visit.{notTail, sameTail, visit}
-use Rattle.pass.specs.Visitable.{Visitable}
-use Rattle.pass.specs.Laws.Visitable.Parts.{if-first, if-second, if-third}
+use Rattle.pass_laws.specs.Visitable.{Visitable}
+use Rattle.pass_laws.specs.Laws.Visitable.Parts.{if-first, if-second, if-third}
 use Rattle.work.specs.Known.{Known}
 use Rattle.work.specs.Tied.{Raw, Tied}
 use Rattle.flags.specs.Flags.{Handed}

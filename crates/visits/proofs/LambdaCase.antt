@@ -5,23 +5,23 @@ use mathlib.Core.Bool.{Bool}
 use mathlib.Core.Path.{_≡_, refl, ap, sym, subst, _∙_}
 use native.Mathlib.Omega.{arith}
 use lib.ListN.{length, drop}
-use Rattle.tree.specs.Record.{width}
-use Rattle.tree.specs.RecordLaws.{nth}
+use Rattle.tree.specs.Record.{width, nth}
 use Rattle.tree.specs.Tree.{Ident, Node, Tree, lambda, size}
-use Rattle.tree.specs.TreeLaws.{size-pos}
-use Rattle.tree.specs.StandsParts.{LambdaParts}
-use Rattle.tree.specs.StandsForms.{lambda-of}
-use Rattle.pass.specs.Lambda.{enterLambda, leaveLambda}
+use Rattle.tree.specs.Laws.Tree.{size-pos}
+use Rattle.tree.specs.Laws.Stands.Parts.{LambdaParts}
+use Rattle.tree.specs.Laws.Stands.Forms.{lambda-of}
+use Rattle.pass.specs.Lambda.{openLambda, closeLambda}
 use Rattle.pass.specs.Visit.{bodyFlags, visit}
-use Rattle.pass.specs.Visitable.{Visitable}
-use Rattle.pass.specs.Laws.Visitable.Parts.{lambda-body}
-use Rattle.pass.specs.Laws.Visitable.Leaves.{lambda-begins, lambda-ends}
+use Rattle.pass_laws.specs.Visitable.{Visitable}
+use Rattle.pass_laws.specs.Laws.Visitable.Parts.{lambda-body}
+use Rattle.pass_laws.specs.Laws.Visitable.Leaves.{lambda-begins, lambda-ends}
 use Rattle.work.specs.Known.{Known}
 use Rattle.work.specs.Tied.{raw, Tied}
 use Rattle.work.specs.declared.Pass.{Pass}
-use Rattle.lists.specs.Contract.{Told, HasBody}
+use Rattle.lists.specs.Contract.{Told}
+use Rattle.amending.specs.Contract.{HasBody}
 use Rattle.flags.specs.Flags.{FlagsAre, HandsBody}
-use Rattle.forms.specs.Contract.{Fits, EndFits, LambdaFits, EntersLambda, LambdaEnds, LeavesLambda}
+use Rattle.forms.specs.Contract.{Fits, EndFits, LambdaFits, OpensLambda, LambdaEnds, ClosesLambda}
 use Rattle.flags.specs.declared.Flags.{Flags as Coded}
 use Rattle.visits.specs.Contract.{Fit, Done}
 use Rattle.visits.proofs.Views.{part-on, small, stands-at, visitable-at, names-room, shallow, lists-fit, end-fits}
@@ -74,7 +74,7 @@ module _ {classes rs part : List ℕ} {at : ℕ} {g : Coded} {p : Pass} {F C A w
           lists = lists-fit (x .tied) i (b .lists);
         }
 
-    module _ {p₁ : Pass} {F₁ C₁ w₁ q : List ℕ} {g₁ : Coded} (o : EntersLambda rs at (record { first = at + 1; count = k }) p F C A w p₁ F₁ C₁ w₁)
+    module _ {p₁ : Pass} {F₁ C₁ w₁ q : List ℕ} {g₁ : Coded} (o : OpensLambda rs at (record { first = at + 1; count = k }) p F C A w p₁ F₁ C₁ w₁)
         (h : HandsBody g at (nth rs at .id) k g₁) (d : q ≡ drop (width * (1 + k)) part) where
       pub body-fits : Fit classes rs part at g (raw p F C A w) → Fit classes rs q (at + 1 + k) g₁ (raw p₁ F₁ C₁ A w₁)
       body-fits x =
@@ -87,7 +87,7 @@ module _ {classes rs part : List ℕ} {at : ℕ} {g : Coded} {p : Pass} {F C A w
           record {
             t = v .b;
             f = bodyFlags (v .n) (length (v .xs)) (x .f);
-            s = enterLambda (v .n) (v .xs) (x .s);
+            s = openLambda (v .n) (v .xs) (x .s);
             is = part-on rs at (1 + k) (x .is) d ∙ ap (λ (l : ℕ). drop (width * l) rs) m;
             stands = stands-at j (v .parts .body);
             flags = subst (λ (l : ℕ). FlagsAre g₁ (bodyFlags (v .n) l (x .f))) u
@@ -102,13 +102,13 @@ module _ {classes rs part : List ℕ} {at : ℕ} {g : Coded} {p : Pass} {F C A w
         unfolding body-fits
         body-stands x = record { many = length classes; stands = body-fits x .stands; ends = ap (λ (i : ℕ). at + 1 + k + i) (sym (r .used (body-fits x))) }
 
-        ends : (x : Fit classes rs part at g (raw p F C A w)) → EndFits p₂ (visit classes (view x e .b) (bodyFlags (view x e .n) (length (view x e .xs)) (x .f)) (enterLambda (view x e .n) (view x e .xs) (x .s))) at
+        ends : (x : Fit classes rs part at g (raw p F C A w)) → EndFits p₂ (visit classes (view x e .b) (bodyFlags (view x e .n) (length (view x e .xs)) (x .f)) (openLambda (view x e .n) (view x e .xs) (x .s))) at
         unfolding body-fits
         ends x =
             let v = view x e in
             end-fits (r .state (body-fits x)) (v .parts .node .here) (lambda-ends small classes at (x .f) (x .s) (v .n) (v .xs) (v .b) (v .fits))
 
-        fits : (x : Fit classes rs part at g (raw p F C A w)) → Fits rs (raw p₂ F₂ C₂ A₂ w₂) (visit classes (view x e .b) (bodyFlags (view x e .n) (length (view x e .xs)) (x .f)) (enterLambda (view x e .n) (view x e .xs) (x .s)))
+        fits : (x : Fit classes rs part at g (raw p F C A w)) → Fits rs (raw p₂ F₂ C₂ A₂ w₂) (visit classes (view x e .b) (bodyFlags (view x e .n) (length (view x e .xs)) (x .f)) (openLambda (view x e .n) (view x e .xs) (x .s)))
         unfolding body-fits
         fits x =
             let v = view x e in
@@ -123,7 +123,7 @@ module _ {classes rs part : List ℕ} {at : ℕ} {g : Coded} {p : Pass} {F C A w
             record { s = _; xs = v .xs; b = v .b; told = told x; body = body-stands x; fits = fits x; few = omega (arith, b .few); ends = ends x }
 
         pub lambda-done : {p₃ : Pass} {F₃ C₃ A₃ w₃ : List ℕ}
-            → LeavesLambda rs at (record { names = record { first = at + 1; count = k }; first = at + 1 + k; end = at + 1 + k + n₁ }) (g .escape)
+            → ClosesLambda rs at (record { names = record { first = at + 1; count = k }; first = at + 1 + k; end = at + 1 + k + n₁ }) (g .escape)
             p₂ F₂ C₂ A₂ w₂ p₃ F₃ C₃ A₃ w₃
             → Done classes rs part at g (raw p F C A w) (1 + k + n₁) (raw p₃ F₃ C₃ A₃ w₃)
         unfolding size visit body-fits
@@ -135,9 +135,9 @@ module _ {classes rs part : List ℕ} {at : ℕ} {g : Coded} {p : Pass} {F C A w
               rw (v .tree) (omega arith);
           state = λ x.
               let v = view x e in
-              let s = visit classes (v .b) (bodyFlags (v .n) (length (v .xs)) (x .f)) (enterLambda (v .n) (v .xs) (x .s)) in
-              let z : Tied (raw p₃ F₃ C₃ A₃ w₃) (leaveLambda (v .n) (v .xs) (v .b) (g .escape) s)
+              let s = visit classes (v .b) (bodyFlags (v .n) (length (v .xs)) (x .f)) (openLambda (v .n) (v .xs) (x .s)) in
+              let z : Tied (raw p₃ F₃ C₃ A₃ w₃) (closeLambda (v .n) (v .xs) (v .b) (g .escape) s)
               = y .is s (v .xs) (v .b) (v .n) (v .parts .node .here) (told x) (body-stands x) (fits x) (ends x) in
               subst (λ (i : Tree). Tied (raw p₃ F₃ C₃ A₃ w₃) (visit classes i (x .f) (x .s))) (sym (v .tree))
-              (subst (λ (b : Bool). Tied (raw p₃ F₃ C₃ A₃ w₃) (leaveLambda (v .n) (v .xs) (v .b) b s)) (x .flags .escape) z);
+              (subst (λ (b : Bool). Tied (raw p₃ F₃ C₃ A₃ w₃) (closeLambda (v .n) (v .xs) (v .b) b s)) (x .flags .escape) z);
         }

@@ -4,14 +4,14 @@ use mathlib.Core.List.{List}
 use mathlib.Core.Path.{_≡_, refl, sym, subst}
 use native.Mathlib.Omega.{arith}
 use lib.ListN.{length}
-use Rattle.tree.specs.RecordLaws.{nth}
+use Rattle.tree.specs.Record.{nth}
 use Rattle.tree.specs.Tree.{Tree, size}
 use Rattle.tree.specs.Stands.{Stands}
-use Rattle.tree.specs.StandsForms.{ident-of, const-of, form-range}
-use Rattle.pass.specs.Laws.Visitable.Leaves.{reliable}
+use Rattle.tree.specs.Laws.Stands.Forms.{ident-of, const-of, form-range}
+use Rattle.pass_laws.specs.Laws.Visitable.Leaves.{reliable}
 use Rattle.work.specs.Tied.{raw}
 use Rattle.work.specs.declared.Pass.{Pass}
-use Rattle.registers.specs.Contract.{AtomFits, VisitsAtom}
+use Rattle.steps.specs.Contract.{AtomFits, VisitsAtom}
 use Rattle.flags.specs.declared.Flags.{Flags as Coded}
 use Rattle.visits.specs.Contract.{Fit, Done}
 

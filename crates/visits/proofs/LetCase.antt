@@ -5,32 +5,31 @@ use mathlib.Core.Path.{_≡_, ap, sym, subst, _∙_}
 use native.Mathlib.Omega.{arith}
 use lib.ListN.{length, drop}
 use lib.Dec.{eqb}
-use Rattle.tree.specs.Record.{width}
-use Rattle.tree.specs.RecordLaws.{nth}
+use Rattle.tree.specs.Record.{width, nth}
 use Rattle.tree.specs.Tree.{Ident, Node, Tree, Trees, letin, many, size, sizes}
-use Rattle.tree.specs.TreeLaws.{size-pos}
-use Rattle.tree.specs.StandsParts.{LetParts}
-use Rattle.tree.specs.StandsForms.{let-of}
+use Rattle.tree.specs.Laws.Tree.{size-pos}
+use Rattle.tree.specs.Laws.Stands.Parts.{LetParts}
+use Rattle.tree.specs.Laws.Stands.Forms.{let-of}
 use Rattle.semantic.specs.Information.{NONE}
 use Rattle.pass.specs.State.{State, withContext, depth}
-use Rattle.pass.specs.Lambda.{enterLet, leaveLet}
+use Rattle.pass.specs.Lambda.{openLet, closeLet}
 use Rattle.pass.specs.Visit.{notTail, letBodyFlags, visit, visitArguments}
-use Rattle.pass.specs.Stage.{afterInitials}
-use Rattle.pass.specs.Visitable.{Visitable}
-use Rattle.pass.specs.Laws.Visitable.Parts.{let-initials, let-body}
-use Rattle.pass.specs.Laws.Visitable.Leaves.{let-begins, let-ends}
+use Rattle.pass_laws.specs.Stage.{afterInitials}
+use Rattle.pass_laws.specs.Visitable.{Visitable}
+use Rattle.pass_laws.specs.Laws.Visitable.Parts.{let-initials, let-body}
+use Rattle.pass_laws.specs.Laws.Visitable.Leaves.{let-begins, let-ends}
 use Rattle.work.specs.Known.{Known}
-use Rattle.work.specs.WorksLaws.{context-is}
+use Rattle.work.specs.Laws.Works.{context-is}
 use Rattle.work.specs.Passes.{inContext}
 use Rattle.work.specs.Tied.{raw, Tied}
 use Rattle.work.specs.declared.Pass.{Pass}
 use Rattle.lists.specs.Contract.{Told}
 use Rattle.flags.specs.Flags.{FlagsAre, Handed}
-use Rattle.forms.specs.Contract.{Fits, LetFits, EntersLet, LetEnds, LeavesLet}
+use Rattle.forms.specs.Contract.{Fits, LetFits, OpensLet, LetEnds, ClosesLet}
 use Rattle.flags.specs.declared.Flags.{Flags as Coded}
-use Rattle.visits.specs.Contract.{Fit, Done, FitAll, DoneAll}
+use Rattle.visits.specs.Contract.{Fit, Done, values, FitRow, DoneRow}
 use Rattle.visits.proofs.Views.{part-on, small, stands-at, stand-all-at, visitable-at, arguments-at, names-room, shallow, let-list, let-outer, let-blank}
-use Rattle.forms.specs.FitsLaws.{tied-context}
+use Rattle.forms.specs.Laws.Fits.{tied-context}
 
 module _ {classes rs part : List ℕ} {at : ℕ} {g : Coded} {p : Pass} {F C A w : List ℕ} where
   pub record LetView (x : Fit classes rs part at g (raw p F C A w)) : Type 0 where
@@ -60,12 +59,12 @@ module _ {classes rs part : List ℕ} {at : ℕ} {g : Coded} {p : Pass} {F C A w
   middle x v = afterInitials classes (v .es) (x .f) (x .s)
 
   inside : (x : Fit classes rs part at g (raw p F C A w)) → LetView x → State
-  inside x v = enterLet (v .n) (v .xs) (x .f .height) (x .f .function) (afterInitials classes (v .es) (x .f) (x .s))
+  inside x v = openLet (v .n) (v .xs) (x .f .height) (x .f .function) (afterInitials classes (v .es) (x .f) (x .s))
 
   after : (x : Fit classes rs part at g (raw p F C A w)) → LetView x → State
   after x v =
       visit classes (v .b) (letBodyFlags (many (v .es)) (x .f))
-      (enterLet (v .n) (v .xs) (x .f .height) (x .f .function) (afterInitials classes (v .es) (x .f) (x .s)))
+      (openLet (v .n) (v .xs) (x .f .height) (x .f .function) (afterInitials classes (v .es) (x .f) (x .s)))
 
   pub let-long : {k : ℕ} → nth rs at .form ≡ 4 → k ≡ nth rs at .count → (x : Fit classes rs part at g (raw p F C A w)) → k + 2 ≤ size (x .t)
   unfolding size
@@ -78,7 +77,7 @@ module _ {classes rs part : List ℕ} {at : ℕ} {g : Coded} {p : Pass} {F C A w
     told : (x : Fit classes rs part at g (raw p F C A w)) → Told rs (record { first = at + 1; count = k }) (view x e .xs)
     told x = record { many = length classes; stand = view x e .parts .names; count = sym (view x e .parts .count) ∙ sym c }
 
-    pub initials-fit : Fit classes rs part at g (raw p F C A w) → FitAll classes rs q k (at + 1 + k) g₁ (raw (inContext NONE p) F C A w)
+    pub initials-fit : Fit classes rs part at g (raw p F C A w) → FitRow values classes rs q k (at + 1 + k) g₁ (raw (inContext NONE p) F C A w)
     initials-fit x =
         let v = view x e in
         let u : k ≡ length (v .xs) = c ∙ v .parts .count in
@@ -96,7 +95,7 @@ module _ {classes rs part : List ℕ} {at : ℕ} {g : Coded} {p : Pass} {F C A w
           fits = arguments-at i (let-initials small classes at (x .f) (x .s) (v .n) (v .xs) (v .es) (v .b) (v .fits));
         }
 
-    module _ {n₁ : ℕ} {p₁ : Pass} {F₁ C₁ A₁ w₁ : List ℕ} (o : DoneAll classes rs q k (at + 1 + k) g₁ (raw (inContext NONE p) F C A w) n₁ (raw p₁ F₁ C₁ A₁ w₁)) where
+    module _ {n₁ : ℕ} {p₁ : Pass} {F₁ C₁ A₁ w₁ : List ℕ} (o : DoneRow values classes rs q k (at + 1 + k) g₁ (raw (inContext NONE p) F C A w) n₁ (raw p₁ F₁ C₁ A₁ w₁)) where
       pub body-long : (x : Fit classes rs part at g (raw p F C A w)) → k + n₁ + 2 ≤ size (x .t)
       unfolding size initials-fit
       body-long x =
@@ -136,7 +135,7 @@ module _ {classes rs part : List ℕ} {at : ℕ} {g : Coded} {p : Pass} {F C A w
             outer = let-outer (middle x v) (b .outer);
           }
 
-      module _ {p₂ : Pass} {F₂ w₂ r : List ℕ} {g₂ : Coded} (y : EntersLet rs at (record { first = at + 1; count = k }) (g .height) (g .function) (inContext (p .context) p₁) F₁ C₁ A₁ w₁ p₂ F₂ w₂)
+      module _ {p₂ : Pass} {F₂ w₂ r : List ℕ} {g₂ : Coded} (y : OpensLet rs at (record { first = at + 1; count = k }) (g .height) (g .function) (inContext (p .context) p₁) F₁ C₁ A₁ w₁ p₂ F₂ w₂)
           (j : Handed g (letBodyFlags k) g₂) (l : r ≡ drop (width * (1 + k + n₁)) part) where
         pub body-fits : Fit classes rs part at g (raw p F C A w) → Fit classes rs r (at + (1 + k + n₁)) g₂ (raw p₂ F₂ C₁ A₁ w₂)
         unfolding initials-fit middle inside
@@ -156,7 +155,7 @@ module _ {classes rs part : List ℕ} {at : ℕ} {g : Coded} {p : Pass} {F C A w
               is = part-on rs at (1 + k + n₁) (x .is) l;
               stands = stands-at i (v .parts .body);
               flags = subst (λ (t : ℕ). FlagsAre g₂ (letBodyFlags t (x .f))) (sym m) (j .is (x .f) (x .flags));
-              tied = subst (λ (t : ℕ). Tied (raw p₂ F₂ C₁ A₁ w₂) (enterLet (v .n) (v .xs) t (x .f .function) (middle x v))) (x .flags .height) z;
+              tied = subst (λ (t : ℕ). Tied (raw p₂ F₂ C₁ A₁ w₂) (openLet (v .n) (v .xs) t (x .f .function) (middle x v))) (x .flags .height) z;
               fits = visitable-at i (let-body small classes at (x .f) (x .s) (v .n) (v .xs) (v .es) (v .b) (v .fits));
             }
 
@@ -187,7 +186,7 @@ module _ {classes rs part : List ℕ} {at : ℕ} {g : Coded} {p : Pass} {F C A w
               }
 
           pub let-done : {p₄ : Pass} {F₄ A₄ w₄ : List ℕ}
-              → LeavesLet rs (eqb (p .scope .depth) 1) at (record { first = at + 1; count = k }) (g .height) (g .function) p₃ F₃ A₃ w₃ p₄ F₄ A₄ w₄
+              → ClosesLet rs (eqb (p .scope .depth) 1) at (record { first = at + 1; count = k }) (g .height) (g .function) p₃ F₃ A₃ w₃ p₄ F₄ A₄ w₄
               → Done classes rs part at g (raw p F C A w) (1 + k + n₁ + n₂) (raw p₄ F₄ C₃ A₄ w₄)
           unfolding size visit initials-fit body-fits after inside middle
           let-done {p₄} {F₄} {A₄} {w₄} m = record {
@@ -201,8 +200,8 @@ module _ {classes rs part : List ℕ} {at : ℕ} {g : Coded} {p : Pass} {F C A w
                 let v = view x e in
                 let z = m .is C₃ (after x v) (v .xs) (v .n) (x .f .function) (v .parts .node .here) (x .flags .function) (told x) (fits x) in
                 let h : p .scope .depth ≡ depth (x .s) = x .tied .works .names .depth in
-                let a : Tied (raw p₄ F₄ C₃ A₄ w₄) (leaveLet (eqb (p .scope .depth) 1) (v .n) (v .xs) (x .f .height) (x .f .function) (after x v))
-                = subst (λ (i : ℕ). Tied (raw p₄ F₄ C₃ A₄ w₄) (leaveLet (eqb (p .scope .depth) 1) (v .n) (v .xs) i (x .f .function) (after x v))) (x .flags .height) z in
+                let a : Tied (raw p₄ F₄ C₃ A₄ w₄) (closeLet (eqb (p .scope .depth) 1) (v .n) (v .xs) (x .f .height) (x .f .function) (after x v))
+                = subst (λ (i : ℕ). Tied (raw p₄ F₄ C₃ A₄ w₄) (closeLet (eqb (p .scope .depth) 1) (v .n) (v .xs) i (x .f .function) (after x v))) (x .flags .height) z in
                 subst (λ (i : Tree). Tied (raw p₄ F₄ C₃ A₄ w₄) (visit classes i (x .f) (x .s))) (sym (v .tree))
-                (subst (λ (i : ℕ). Tied (raw p₄ F₄ C₃ A₄ w₄) (leaveLet (eqb i 1) (v .n) (v .xs) (x .f .height) (x .f .function) (after x v))) h a);
+                (subst (λ (i : ℕ). Tied (raw p₄ F₄ C₃ A₄ w₄) (closeLet (eqb i 1) (v .n) (v .xs) (x .f .height) (x .f .function) (after x v))) h a);
           }

@@ -3,9 +3,8 @@ mod Bounds
 mod LeafCase
 mod IfCase
 mod SetCase
-mod ArgumentsCase
+mod RowCase
 mod CallCase
-mod ChildrenCase
 mod SequenceCase
 mod WhenCase
 mod LambdaCase

@@ -1,24 +1,22 @@
 -- Where ands of one child are stepped over: what holds of what stands there and of what the tree is.
 use Prim.Native.Nat.{ℕ, _≤_, _<_}
 use mathlib.Core.List.{List}
-use mathlib.Core.Bool.{false}
-use mathlib.Core.Path.{_≡_, refl, sym, _∙_}
+use mathlib.Core.Path.{_≡_, refl, _∙_}
 use native.Mathlib.Omega.{arith}
 use lib.ListN.{length}
-use Rattle.tree.specs.Record.{records}
-use Rattle.tree.specs.RecordLaws.{nth}
+use Rattle.tree.specs.Record.{records, nth}
 use Rattle.tree.specs.Tree.{Ident, Node, Tree, Trees, ident, const, if, letin, define, lambda, sequence, call, set!, nil, cons, begins, ands, whens, size, Num}
-use Rattle.tree.specs.CoreLaws.{Peeled, same, none, peeled, size-core}
+use Rattle.tree.specs.Laws.Core.{Peeled, same, none, peeled, size-core}
 use Rattle.tree.specs.Define.{topOf}
-use Rattle.tree.specs.Parts.{own}
+use Rattle.tree.specs.Laws.Parts.{own}
 use Rattle.tree.specs.Stands.{Stands}
-use Rattle.tree.specs.StandsLaws.{root, root-form}
-use Rattle.tree.specs.StandsForms.{BeginOf, begin-of}
+use Rattle.tree.specs.Laws.Stands.{root, root-form}
+use Rattle.tree.specs.Laws.Stands.Forms.{BeginOf, begin-of}
 use Rattle.pass.specs.State.{State}
 use Rattle.pass.specs.Visit.{Flags, visit, visitTop}
-use Rattle.pass.specs.Sound.{Holds}
-use Rattle.pass.specs.Stage.{Blocks}
-use Rattle.pass.specs.Visitable.{Visitable}
+use Rattle.pass_laws.specs.Sound.{Holds}
+use Rattle.pass_laws.specs.Stage.{Blocks}
+use Rattle.pass_laws.specs.Visitable.{Visitable}
 use Rattle.walk.specs.Contract.{SomeTree, Reaches}
 
 pub core-size : {c t : Tree} → Peeled c t → size c ≡ size t

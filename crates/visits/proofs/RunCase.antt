@@ -7,27 +7,28 @@ use lib.ListN.{length}
 use Rattle.tree.specs.Tree.{Trees, sizes}
 use Rattle.tree.specs.Define.{topLevel}
 use Rattle.tree.specs.Accepted.{Accepted}
-use Rattle.tree.specs.StandsLaws.{accepted-stand}
+use Rattle.tree.specs.Laws.Stands.{accepted-stand}
+use Rattle.semantic.specs.declared.IdentifierStatus.the-variants.{Global}
 use Rattle.pass.specs.State.{Facts, Noted}
-use Rattle.pass.specs.Visit.{enterTops}
-use Rattle.pass.specs.Run.{start, run, fresh, nineIn, tenIn, refusedFirst}
-use Rattle.pass.specs.Sound.{HoldsAll}
-use Rattle.pass.specs.Visitable.{Reliable, VisitableTops}
-use Rattle.pass.specs.Laws.Visitable.Runs.{start-enterable, first-reliable, first-visitable, second-reliable, second-visitable}
+use Rattle.pass.specs.Visit.{enterChildren}
+use Rattle.pass.specs.Run.{start, run, fresh, nineOr, tenAt, refusedFirst}
+use Rattle.pass_laws.specs.Sound.{HoldsAll}
+use Rattle.pass_laws.specs.Visitable.{Reliable, VisitableTops}
+use Rattle.pass_laws.specs.Laws.Visitable.Runs.{start-enterable, first-reliable, first-visitable, second-reliable, second-visitable}
 use Rattle.work.specs.Known.{Known}
 use Rattle.work.specs.Tied.{raw}
 use Rattle.work.specs.declared.Pass.{Pass}
-use Rattle.walk.specs.Identifiers.{trees-hold}
+use Rattle.walk.specs.Laws.Identifiers.{trees-hold}
 use Rattle.visits.specs.Runs.{Starts, anew, again, Ready, Runs}
 use Rattle.visits.specs.Tops.{TopsEnter, EntersTops, TopsFit, VisitsTops}
-use Rattle.work.specs.KnownLaws.{known-ident}
+use Rattle.work.specs.Laws.Known.{known-ident}
 use Rattle.visits.proofs.Views.{small}
 
 -- what is not refused has no refusal 10
 no-ten : (n : Noted) → refusedFirst n ≡ none → n .ten ≡ none
 no-ten n e = go (n .nine) (n .ten) e
   where
-    go : (a b : Option ℕ) → nineIn a (tenIn b) ≡ none → b ≡ none
+    go : (a b : Option ℕ) → nineOr a (tenAt b) ≡ none → b ≡ none
     go a none e = refl
     go none (some i) e = cc
     go (some j) (some i) e = cc
@@ -40,12 +41,12 @@ module _ {classes rs : List ℕ} {ts : Trees} (a : Accepted (length classes) rs 
   reliable (anew e) = subst (λ (f : Facts). Reliable (Known rs) (start f)) (sym e) (first-reliable small classes ts (a .num) (a .few) (all-known a))
   reliable (again r e) = subst (λ (f : Facts). Reliable (Known rs) (start f)) (sym e) (second-reliable small classes ts (a .num) (a .few) (all-known a))
 
-  visitable : {f : Facts} → Starts classes ts f → VisitableTops (Known rs) 0 (sizes ts) (topLevel ts) (enterTops classes (topLevel ts) (start f))
+  visitable : {f : Facts} → Starts classes ts f → VisitableTops (Known rs) 0 (sizes ts) (topLevel ts) (enterChildren classes Global (topLevel ts) (start f))
   visitable (anew e) =
-      subst (λ (f : Facts). VisitableTops (Known rs) 0 (sizes ts) (topLevel ts) (enterTops classes (topLevel ts) (start f))) (sym e)
+      subst (λ (f : Facts). VisitableTops (Known rs) 0 (sizes ts) (topLevel ts) (enterChildren classes Global (topLevel ts) (start f))) (sym e)
       (first-visitable small classes ts (a .num) (a .few) (all-known a))
   visitable (again r e) =
-      subst (λ (f : Facts). VisitableTops (Known rs) 0 (sizes ts) (topLevel ts) (enterTops classes (topLevel ts) (start f))) (sym e)
+      subst (λ (f : Facts). VisitableTops (Known rs) 0 (sizes ts) (topLevel ts) (enterChildren classes Global (topLevel ts) (start f))) (sym e)
       (second-visitable small classes ts (a .num) (a .few) (all-known a) (no-ten (fresh classes ts .noted) r))
 
 module _ {classes rs : List ℕ} {p : Pass} {F C A w : List ℕ} where
@@ -67,7 +68,7 @@ module _ {classes rs : List ℕ} {p : Pass} {F C A w : List ℕ} where
     unfolding tops-enter
     tops-fit x = record {
       ts = x .ts;
-      s = enterTops classes (topLevel (x .ts)) (start (x .facts));
+      s = enterChildren classes Global (topLevel (x .ts)) (start (x .facts));
       accepted = x .accepted;
       tied = o .is (tops-enter x);
       fits = visitable (x .accepted) (x .starts);

@@ -7,26 +7,24 @@ use native.Mathlib.Omega.{arith}
 use borrow.Author.Tests.{ne-eqb}
 use lib.ListN.{length, drop}
 use lib.Dec.{eqb}
-use Rattle.tree.specs.Record.{width}
-use Rattle.tree.specs.RecordLaws.{nth}
+use Rattle.tree.specs.Record.{width, nth}
 use Rattle.tree.specs.Tree.{Node, Tree, Trees, sequence, nil, cons, Sequence, begins, many, size, sizes}
-use Rattle.tree.specs.Core.{cores}
-use Rattle.tree.specs.StandsParts.{BeginParts}
-use Rattle.tree.specs.StandsForms.{BeginOf, begin-of, and-of}
+use Rattle.tree.specs.Laws.Stands.Parts.{BeginParts}
+use Rattle.tree.specs.Laws.Stands.Forms.{BeginOf, begin-of, and-of}
 use Rattle.semantic.specs.declared.IdentifierStatus.the-variants.{LocallyDefinedFunction}
 use Rattle.pass.specs.State.{State}
 use Rattle.pass.specs.Visit.{Flags, isAlone, inBegin, inAnd, visit}
-use Rattle.pass.specs.Visitable.{Visitable, VisitableChildren}
-use Rattle.pass.specs.Laws.Visitable.Parts.{begin-children, and-children}
-use Rattle.pass.specs.Laws.Visitable.Leaves.{begin-enters}
+use Rattle.pass_laws.specs.Visitable.{Visitable, VisitableChildren}
+use Rattle.pass_laws.specs.Laws.Visitable.Parts.{begin-children, and-children}
+use Rattle.pass_laws.specs.Laws.Visitable.Leaves.{begin-enters}
 use Rattle.work.specs.Known.{Known}
 use Rattle.work.specs.Tied.{Raw, raw, Tied}
 use Rattle.work.specs.declared.Pass.{Pass}
 use Rattle.flags.specs.Flags.{FlagsAre, Handed}
 use Rattle.forms.specs.Contract.{ChildrenFit, EntersChildren}
 use Rattle.flags.specs.declared.Flags.{Flags as Coded}
-use Rattle.visits.specs.Contract.{Fit, Done, FitChildren, DoneChildren}
-use Rattle.visits.proofs.Views.{part-on, small, names-room, entered-children}
+use Rattle.visits.specs.Contract.{Fit, Done, children, FitRow, DoneRow}
+use Rattle.visits.proofs.Views.{part-on, small, names-room}
 
 module _ {classes rs part : List ℕ} {at : ℕ} {g : Coded} {z : Raw} where
   pub record View (c : Node → Sequence) (x : Fit classes rs part at g z) : Type 0 where
@@ -48,7 +46,7 @@ module _ {classes rs part : List ℕ} {at : ℕ} {g : Coded} {z : Raw} where
   -- the children, with what they are handed and the state that is held before them
   abbrev row : {c : Node → Sequence} {x : Fit classes rs part at g z} {q : List ℕ} {k : ℕ} {g₁ : Coded} {z₁ : Raw} {f : Flags} {s : State} → (v : View c x)
       → q ≡ drop (width * 1) part → k ≡ nth rs at .count → FlagsAre g₁ f → Tied z₁ s → VisitableChildren (Known rs) (at + 1) (v .es) f s
-      → FitChildren classes rs q k (at + 1) g₁ z₁
+      → FitRow children classes rs q k (at + 1) g₁ z₁
   row {x = x} {f = f} {s} v d c a t w = record {
     ts = v .es;
     f = f;
@@ -80,16 +78,16 @@ module _ {classes rs part : List ℕ} {at k : ℕ} {g : Coded} {p : Pass} {F C A
 
   module _ {q : List ℕ} {g₁ : Coded} {p₁ : Pass} {F₁ w₁ : List ℕ} (y : EntersChildren classes rs (at + 1) k LocallyDefinedFunction p F w p₁ F₁ w₁)
       (h : Handed g inBegin g₁) (d : q ≡ drop (width * 1) part) where
-    pub begin-fits : Fit classes rs part at g (raw p F C A w) → FitChildren classes rs q k (at + 1) g₁ (raw p₁ F₁ C A w₁)
+    pub begin-fits : Fit classes rs part at g (raw p F C A w) → FitRow children classes rs q k (at + 1) g₁ (raw p₁ F₁ C A w₁)
     begin-fits x =
         let v = view x (begin-of (x .stands) e) in
         let b = begin-enters small classes at (x .f) (x .s) (begins (v .n)) (v .es) (v .fits) in
         let m : k ≡ many (v .es) = c ∙ v .parts .count in
         row v d c (h .is (x .f) (x .flags))
-        (entered-children classes (cores (v .es)) (x .s) (y .is C A (x .s) (v .es) (v .parts .children) m (record { good = b .reliable .good; tied = x .tied })))
+        (y .is C A (x .s) (v .es) (v .parts .children) m (record { good = b .reliable .good; tied = x .tied }))
         (begin-children small classes at (x .f) (x .s) (v .n) (v .es) (v .fits))
 
-    pub begin-done : {n₁ : ℕ} {z₁ : Raw} → DoneChildren classes rs q k (at + 1) g₁ (raw p₁ F₁ C A w₁) n₁ z₁
+    pub begin-done : {n₁ : ℕ} {z₁ : Raw} → DoneRow children classes rs q k (at + 1) g₁ (raw p₁ F₁ C A w₁) n₁ z₁
         → Done classes rs part at g (raw p F C A w) (1 + n₁) z₁
     unfolding size visit begin-fits
     begin-done {n₁} {z₁} o = record {
@@ -110,14 +108,14 @@ alone {k} (cons t (cons u us)) e = ne-eqb k 1 (λ i. omega arith)
 
 module _ {classes rs part : List ℕ} {at k : ℕ} {g : Coded} {z : Raw} {q : List ℕ} {g₁ : Coded} (e : nth rs at .form ≡ 10) (c : k ≡ nth rs at .count)
     (h : Handed g (inAnd (eqb k 1)) g₁) (d : q ≡ drop (width * 1) part) where
-  pub and-fits : Fit classes rs part at g z → FitChildren classes rs q k (at + 1) g₁ z
+  pub and-fits : Fit classes rs part at g z → FitRow children classes rs q k (at + 1) g₁ z
   and-fits x =
       let v = view x (and-of (x .stands) e) in
       let l = alone (v .es) (c ∙ v .parts .count) in
       row v d c (subst (λ (b : Bool). FlagsAre g₁ (inAnd b (x .f))) l (h .is (x .f) (x .flags))) (x .tied)
       (and-children small classes at (x .f) (x .s) (v .n) (v .es) (v .fits))
 
-  pub and-done : {n₁ : ℕ} {z₁ : Raw} → DoneChildren classes rs q k (at + 1) g₁ z n₁ z₁ → Done classes rs part at g z (1 + n₁) z₁
+  pub and-done : {n₁ : ℕ} {z₁ : Raw} → DoneRow children classes rs q k (at + 1) g₁ z n₁ z₁ → Done classes rs part at g z (1 + n₁) z₁
   unfolding size visit and-fits
   and-done {n₁} {z₁} o = record {
     used = λ x.

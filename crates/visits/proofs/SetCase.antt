@@ -4,28 +4,27 @@ use mathlib.Core.List.{List, [], _∷_}
 use mathlib.Core.Path.{_≡_, refl, sym, subst, _∙_}
 use native.Mathlib.Omega.{arith}
 use lib.ListN.{length, drop}
-use Rattle.tree.specs.Record.{width}
-use Rattle.tree.specs.RecordLaws.{nth}
+use Rattle.tree.specs.Record.{width, nth}
 use Rattle.tree.specs.Tree.{Ident, Node, Tree, ident, set!, named, flat, size, Num}
-use Rattle.tree.specs.TreeLaws.{size-pos}
-use Rattle.tree.specs.Parts.{own}
+use Rattle.tree.specs.Laws.Tree.{size-pos}
+use Rattle.tree.specs.Laws.Parts.{own}
 use Rattle.tree.specs.Stands.{Stands}
-use Rattle.tree.specs.WithinLaws.{front, later}
-use Rattle.tree.specs.StandsLaws.{root-form}
-use Rattle.tree.specs.StandsParts.{NamedParts}
-use Rattle.tree.specs.StandsForms.{set-of}
+use Rattle.tree.specs.Laws.Within.{front, later}
+use Rattle.tree.specs.Laws.Stands.{root-form}
+use Rattle.tree.specs.Laws.Stands.Parts.{NamedParts}
+use Rattle.tree.specs.Laws.Stands.Forms.{set-of}
 use Rattle.pass.specs.Read.{mutate}
 use Rattle.pass.specs.Visit.{notTail, clearContext, visit}
-use Rattle.pass.specs.Visitable.{Visitable}
-use Rattle.pass.specs.Laws.Visitable.Parts.{set-expression}
-use Rattle.pass.specs.Laws.Visitable.Leaves.{reliable, set-mutates, set-reads}
+use Rattle.pass_laws.specs.Visitable.{Visitable}
+use Rattle.pass_laws.specs.Laws.Visitable.Parts.{set-expression}
+use Rattle.pass_laws.specs.Laws.Visitable.Leaves.{reliable, set-mutates, set-reads}
 use Rattle.work.specs.Known.{Known}
 use Rattle.work.specs.Tied.{raw, Tied}
 use Rattle.work.specs.declared.Pass.{Pass}
 use Rattle.names.specs.Contract.{Settable, Mutates}
 use Rattle.flags.specs.Flags.{Handed}
 use Rattle.forms.specs.Contract.{Fits, ClearsContext}
-use Rattle.registers.specs.Contract.{AtomFits, VisitsAtom}
+use Rattle.steps.specs.Contract.{AtomFits, VisitsAtom}
 use Rattle.flags.specs.declared.Flags.{Flags as Coded}
 use Rattle.visits.specs.Contract.{Fit, Done}
 use Rattle.visits.proofs.Views.{part-on, small}

@@ -5,19 +5,19 @@ use mathlib.Core.Bool.{Bool, true, false}
 use mathlib.Core.Path.{_≡_, refl, ap, sym, subst, _∙_}
 use native.Mathlib.Omega.{arith}
 use lib.ListN.{length, drop, length-drop}
-use Rattle.tree.specs.Record.{Record, width, records}
-use Rattle.tree.specs.RecordLaws.{nth, length-records, records-drop}
+use Rattle.tree.specs.Record.{Record, width, records, nth}
+use Rattle.tree.specs.Laws.Record.{length-records, records-drop}
 use Rattle.tree.specs.Tree.{Ident, Node, Tree, ident, const, if, letin, define, lambda, sequence, call, set!, size}
-use Rattle.tree.specs.Parts.{own}
+use Rattle.tree.specs.Laws.Parts.{own}
 use Rattle.tree.specs.Stands.{Stands}
-use Rattle.tree.specs.StandsLaws.{root, root-form, tree-inside, tree-few}
-use Rattle.tree.specs.StandsParts.{NamedParts, define-parts}
-use Rattle.tree.specs.StandsForms.{define-of}
+use Rattle.tree.specs.Laws.Stands.{root, root-form, tree-inside, tree-few}
+use Rattle.tree.specs.Laws.Stands.Parts.{NamedParts, define-parts}
+use Rattle.tree.specs.Laws.Stands.Forms.{define-of}
 use Rattle.pass.specs.State.{State}
 use Rattle.pass.specs.Visit.{topFlags, isLambda, visit, visitTopDefine, visitTop}
-use Rattle.pass.specs.Visitable.{Visitable}
-use Rattle.pass.specs.Laws.Visitable.Leaves.{define-begins}
-use Rattle.pass.specs.Laws.Visitable.Tops.{top-lambda-body, top-value-body}
+use Rattle.pass_laws.specs.Visitable.{Visitable}
+use Rattle.pass_laws.specs.Laws.Visitable.Leaves.{define-begins}
+use Rattle.pass_laws.specs.Laws.Visitable.Tops.{top-lambda-body, top-value-body}
 use Rattle.work.specs.Known.{Known}
 use Rattle.work.specs.Tied.{Raw, raw, Tied, Here}
 use Rattle.work.specs.Passes.{inContext}
@@ -30,9 +30,9 @@ use Rattle.forms.specs.Contract.{Fits, DefineFits}
 use Rattle.flags.specs.declared.Flags.{Flags as Coded}
 use Rattle.visits.specs.Contract.{Fit, Done}
 use Rattle.visits.specs.Tops.{beforeTop, afterTop, BeforeTop, leavesTop, TopFits, VisitsTop}
-use Rattle.work.specs.KnownLaws.{known-ident}
+use Rattle.work.specs.Laws.Known.{known-ident}
 use Rattle.visits.proofs.Views.{part-on, own-record, small, names-room}
-use Rattle.forms.specs.FitsLaws.{tied-context}
+use Rattle.forms.specs.Laws.Fits.{tied-context}
 
 -- Before the body
 
@@ -114,7 +114,7 @@ module _ {classes rs part : List ℕ} {at : ℕ} {p : Pass} {F C A w : List ℕ}
         }
 
     -- the body stands two records on
-    pub long : TopFits classes rs part at (raw p F C A w) → 12 ≤ length part
+    pub long : TopFits classes rs part at (raw p F C A w) → width * 2 ≤ length part
     unfolding size
     long x =
         let v = view x in

@@ -4,26 +4,26 @@ use mathlib.Core.List.{List, []}
 use mathlib.Core.Path.{_≡_, refl, ap, sym, subst, _∙_}
 use native.Mathlib.Omega.{arith}
 use lib.ListN.{length, drop}
-use Rattle.tree.specs.Record.{width, records}
-use Rattle.tree.specs.RecordLaws.{nth, length-records}
+use Rattle.tree.specs.Record.{width, records, nth}
+use Rattle.tree.specs.Laws.Record.{length-records}
 use Rattle.tree.specs.Tree.{Tree, Trees, nil, cons, many, flat, flats, size, sizes, Num}
-use Rattle.tree.specs.TreeLaws.{size-pos}
+use Rattle.tree.specs.Laws.Tree.{size-pos}
 use Rattle.tree.specs.Core.{core, cores, peel}
 use Rattle.tree.specs.Define.{_⊕_, topOf, topLevel}
-use Rattle.tree.specs.Acceptance.{many-records}
+use Rattle.tree.specs.Laws.Acceptance.{many-records}
 use Rattle.tree.specs.Stands.{Stands, StandAll}
-use Rattle.tree.specs.WithinLaws.{front}
-use Rattle.tree.specs.StandsLaws.{first-tree, later-trees, accepted-stand}
+use Rattle.tree.specs.Laws.Within.{front}
+use Rattle.tree.specs.Laws.Stands.{first-tree, later-trees, accepted-stand}
 use Rattle.pass.specs.State.{State}
 use Rattle.pass.specs.Visit.{visitTop, visitTops}
-use Rattle.pass.specs.Visitable.{VisitableTops}
-use Rattle.pass.specs.Laws.Visitable.Tops.{first-top, next-tops}
+use Rattle.pass_laws.specs.Visitable.{VisitableTops}
+use Rattle.pass_laws.specs.Laws.Visitable.Tops.{first-top, next-tops}
 use Rattle.work.specs.Known.{Known}
 use Rattle.work.specs.Tied.{Raw, Tied}
 use Rattle.walk.specs.Contract.{SomeTree, SomeTreeOf, Reaches}
 use Rattle.visits.specs.Tops.{TopFits, VisitsTop, TopsFit, VisitsTops}
 use Rattle.visits.proofs.Views.{small, stands-at, stand-all-at}
-use Rattle.tree.specs.CoreLaws.{Peeled, peeled}
+use Rattle.tree.specs.Laws.Core.{Peeled, peeled}
 use Rattle.visits.proofs.Peeled.{begin-core, lone-core, core-num, core-size, core-visit, peel-visitable}
 
 -- none stands where others do

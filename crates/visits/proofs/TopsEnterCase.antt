@@ -4,32 +4,30 @@ use mathlib.Core.List.{List, append-nil}
 use mathlib.Core.Path.{_≡_, refl, ap, sym, subst, _∙_}
 use native.Mathlib.Omega.{arith}
 use lib.ListN.{length, getD, drop}
-use Rattle.tree.specs.Record.{records}
-use Rattle.tree.specs.RecordLaws.{nth}
-use Rattle.tree.specs.Tree.{Tree, Trees, ident, const, if, letin, define, lambda, sequence, call, set!, nil, cons, many, flat, flats, size, sizes, Nums}
-use Rattle.tree.specs.TreeLaws.{size-pos}
-use Rattle.tree.specs.Core.{core, cores, peel}
-use Rattle.tree.specs.CoreLaws.{many-cores, by-peel}
+use Rattle.tree.specs.Record.{records, nth}
+use Rattle.tree.specs.Tree.{Tree, Trees, nil, cons, many, flat, flats, size, sizes, Nums}
+use Rattle.tree.specs.Laws.Tree.{size-pos}
+use Rattle.tree.specs.Core.{core, peel}
+use Rattle.tree.specs.Laws.Core.{many-cores, by-peel, peeled, core-peel}
 use Rattle.tree.specs.Define.{topOf, topLevel}
-use Rattle.tree.specs.Parts.{own}
+use Rattle.tree.specs.Laws.Parts.{own}
 use Rattle.tree.specs.Starts.{starts, StartsWith, TellsStarts}
-use Rattle.tree.specs.Acceptance.{many-records}
+use Rattle.tree.specs.Laws.Acceptance.{many-records}
 use Rattle.tree.specs.Stands.{Within, Stands, StandAll}
-use Rattle.tree.specs.StandsLaws.{root-form, first-tree, later-trees, accepted-stand}
+use Rattle.tree.specs.Laws.Stands.{root-form, first-tree, later-trees, accepted-stand}
 use Rattle.semantic.specs.declared.IdentifierStatus.the-variants.{Global}
 use Rattle.pass.specs.State.{State}
-use Rattle.pass.specs.Visit.{enterTops}
-use Rattle.pass.specs.Visitable.{EnterableTops}
-use Rattle.pass.specs.Laws.Visitable.Runs.{enter-⊕, first-enter, next-enter}
+use Rattle.pass.specs.Visit.{enterChildren}
+use Rattle.pass_laws.specs.Visitable.{EnterableTops}
+use Rattle.pass_laws.specs.Laws.Visitable.Runs.{enter-⊕, first-enter, next-enter}
+use Rattle.pass_laws.specs.Laws.Cases.{by-child}
 use Rattle.work.specs.Known.{Known}
 use Rattle.work.specs.Tied.{raw, Tied}
 use Rattle.work.specs.declared.Pass.{Pass}
 use Rattle.walk.specs.Contract.{SomeTree, Reaches}
 use Rattle.forms.specs.Contract.{Fits, NamesRoom, ChildrenFit, EntersChildren}
-use Rattle.forms.specs.Defines.{tops-entered}
 use Rattle.visits.specs.Tops.{TopEnters, EntersTop, TopsEnter, EntersTops}
 use Rattle.visits.proofs.Views.{small, names-room}
-use Rattle.tree.specs.CoreLaws.{peeled, core-peel}
 use Rattle.visits.proofs.Peeled.{begin-core, lone-core}
 use Rattle.visits.proofs.TopStarts.{first-start, later-starts}
 
@@ -86,8 +84,7 @@ module _ {classes rs : List ℕ} {at top : ℕ} {p p′ : Pass} {F w F′ w′ :
     is = λ C A s t u f.
         let v = begin-core (peeled t) (r .is (length classes) t u) e in
         let i = o .is C A s (v .es) (v .parts .children) (c ∙ v .parts .count) f in
-        subst (λ (b : Tree). Tied (raw p′ F′ C A w′) (enterTops classes (topOf b) s)) (sym (v .is))
-        (subst (Tied (raw p′ F′ C A w′)) (tops-entered classes (cores (v .es)) s) i);
+        subst (λ (b : Tree). Tied (raw p′ F′ C A w′) (enterChildren classes Global (topOf b) s)) (sym (v .is)) i;
   }
 
   pub child-enters : (nth rs top .form ≡ 7 → ⊥) → EntersChildren classes rs top 1 Global p F w p′ F′ w′ → EntersTop classes rs at p F w p′ F′ w′
@@ -96,31 +93,23 @@ module _ {classes rs : List ℕ} {at top : ℕ} {p p′ : Pass} {F w F′ w′ :
         let v = r .is (length classes) t u in
         let e : cons (core (peel t)) nil ≡ topOf (core t) = ap (λ (b : Tree). cons b nil) (core-peel t) ∙ sym (lone-core (peeled t) v h) in
         let i = o .is C A s (cons (peel t) nil) (lone-stands v) refl f in
-        subst (Tied (raw p′ F′ C A w′)) (tops-entered classes (cons (core (peel t)) nil) s ∙ ap (λ (us : Trees). enterTops classes us s) e) i;
+        subst (Tied (raw p′ F′ C A w′)) (ap (λ (us : Trees). enterChildren classes Global us s) e) i;
   }
 
 -- no define is in it
 
-no-name : (classes : List ℕ) (t : Tree) (s : State) → (own t .form ≡ 5 → ⊥) → enterTops classes (cons t nil) s ≡ s
-unfolding own enterTops
-no-name classes (ident x) s h = refl
-no-name classes (const n q) s h = refl
-no-name classes (if n a b c) s h = refl
-no-name classes (letin n xs es b) s h = refl
-no-name classes (define n x b) s h = absurd (h refl)
-no-name classes (lambda n xs b) s h = refl
-no-name classes (sequence n es) s h = refl
-no-name classes (call n f es) s h = refl
-no-name classes (set! n x e) s h = refl
+no-name : (classes : List ℕ) (t : Tree) (s : State) → (own t .form ≡ 5 → ⊥) → enterChildren classes Global (cons t nil) s ≡ s
+unfolding own enterChildren
+no-name classes t s h = by-child classes (λ u g. (own u .form ≡ 5 → ⊥) → g s ≡ s) Global (λ u h. refl) (λ n x b l h. absurd (h refl)) t h
 
 pub none-enters : {classes rs : List ℕ} {at top : ℕ} {p : Pass} {F w : List ℕ} → Reaches rs at top → (nth rs top .form ≡ 7 → ⊥) → (nth rs top .form ≡ 5 → ⊥)
     → EntersTop classes rs at p F w p F w
-unfolding enterTops
+unfolding enterChildren
 none-enters {classes} {p = p} {F} {w} r h d = record {
   is = λ C A s t u f.
       let v = r .is (length classes) t u in
-      let e = by-peel (λ (b : Tree). enterTops classes (cons b nil) s) (λ n. refl) t ∙ no-name classes (peel t) s (λ i. d (root-form v ∙ i)) in
-      subst (Tied (raw p F C A w)) (sym (ap (λ (us : Trees). enterTops classes us s) (lone-core (peeled t) v h) ∙ e)) (f .tied);
+      let e = by-peel (λ (b : Tree). enterChildren classes Global (cons b nil) s) (λ n. refl) t ∙ no-name classes (peel t) s (λ i. d (root-form v ∙ i)) in
+      subst (Tied (raw p F C A w)) (sym (ap (λ (us : Trees). enterChildren classes Global us s) (lone-core (peeled t) v h) ∙ e)) (f .tied);
 }
 
 -- Of all trees
@@ -135,7 +124,7 @@ module _ {classes rs : List ℕ} {p : Pass} {F w : List ℕ} where
     pub stand : StandAll (length classes) rs at us
     pub tied : Tied (raw p′ F′ (x .captured) (x .arguments) w′) s
     pub fits : EnterableTops (Known rs) (topLevel us) s
-    pub state : enterTops classes (topLevel us) s ≡ enterTops classes (topLevel (x .ts)) (x .s)
+    pub state : enterChildren classes Global (topLevel us) s ≡ enterChildren classes Global (topLevel (x .ts)) (x .s)
 
   pub all-left : {tops : List ℕ} → TellsStarts (length classes) rs tops → (x : TopsEnter classes rs p F w) → Left x tops 0 0 p F w
   all-left d x = record {
@@ -167,7 +156,7 @@ module _ {classes rs : List ℕ} {p : Pass} {F w : List ℕ} where
     pub stand : StandAll (length classes) rs at (cons t rest)
     pub tied : Tied (raw p′ F′ (x .captured) (x .arguments) w′) s
     pub fits : EnterableTops (Known rs) (topLevel (cons t rest)) s
-    pub state : enterTops classes (topLevel (cons t rest)) s ≡ enterTops classes (topLevel (x .ts)) (x .s)
+    pub state : enterChildren classes Global (topLevel (cons t rest)) s ≡ enterChildren classes Global (topLevel (x .ts)) (x .s)
 
   pub next : {x : TopsEnter classes rs p F w} {tops : List ℕ} {i at : ℕ} {p′ : Pass} {F′ w′ : List ℕ} → Left x tops i at p′ F′ w′
       → at < length (records rs) → Next x tops i at p′ F′ w′
@@ -176,7 +165,7 @@ module _ {classes rs : List ℕ} {p : Pass} {F w : List ℕ} where
     where
       go : (us : Trees) → StartsWith (drop i tops) (starts at us) → at + sizes us ≡ length (records rs) → StandAll (length classes) rs at us
           → EnterableTops (Known rs) (topLevel us) (l .s)
-          → enterTops classes (topLevel us) (l .s) ≡ enterTops classes (topLevel (x .ts)) (x .s) → Next x tops i at p′ F′ w′
+          → enterChildren classes Global (topLevel us) (l .s) ≡ enterChildren classes Global (topLevel (x .ts)) (x .s) → Next x tops i at p′ F′ w′
       go nil d e u f q = absurd (omega arith)
       go (cons t us) d e u f q = record { t = t; rest = us; s = l .s; told = d; span = e; stand = u; tied = l .tied; fits = f; state = q }
 
@@ -206,7 +195,7 @@ module _ {classes rs : List ℕ} {p : Pass} {F w : List ℕ} where
     unfolding size topLevel
     one-less o = record {
       us = n .rest;
-      s = enterTops classes (topOf (core (n .t))) (n .s);
+      s = enterChildren classes Global (topOf (core (n .t))) (n .s);
       told = later-starts tops i at (n .t) (n .rest) (n .told);
       span = omega (arith, n .span);
       stand = later-trees (n .stand);
@@ -217,12 +206,12 @@ module _ {classes rs : List ℕ} {p : Pass} {F w : List ℕ} where
 
   -- none is left
   finished : {x : TopsEnter classes rs p F w} {tops : List ℕ} {i at : ℕ} {p′ : Pass} {F′ w′ : List ℕ} → Left x tops i at p′ F′ w′ → length (records rs) ≤ at
-      → Tied (raw p′ F′ (x .captured) (x .arguments) w′) (enterTops classes (topLevel (x .ts)) (x .s))
-  unfolding size topLevel enterTops
+      → Tied (raw p′ F′ (x .captured) (x .arguments) w′) (enterChildren classes Global (topLevel (x .ts)) (x .s))
+  unfolding size topLevel enterChildren
   finished {x} {at = at} {p′} {F′} {w′} l h = go (l .us) (l .span) (l .state)
     where
-      go : (us : Trees) → at + sizes us ≡ length (records rs) → enterTops classes (topLevel us) (l .s) ≡ enterTops classes (topLevel (x .ts)) (x .s)
-          → Tied (raw p′ F′ (x .captured) (x .arguments) w′) (enterTops classes (topLevel (x .ts)) (x .s))
+      go : (us : Trees) → at + sizes us ≡ length (records rs) → enterChildren classes Global (topLevel us) (l .s) ≡ enterChildren classes Global (topLevel (x .ts)) (x .s)
+          → Tied (raw p′ F′ (x .captured) (x .arguments) w′) (enterChildren classes Global (topLevel (x .ts)) (x .s))
       go nil e q = subst (Tied (raw p′ F′ (x .captured) (x .arguments) w′)) q (l .tied)
       go (cons t us) e q = absurd (omega (arith, size-pos t))
 

@@ -1,36 +1,33 @@
 -- What is known where a visit begins: the part of a child, the state, and the identifiers of the tree.
-use Prim.Native.Nat.{ℕ, _+_, _-_, _*_, _≤_, _<_}
+use Prim.Native.Nat.{ℕ, _+_, _*_, _≤_, _<_}
 use mathlib.Core.List.{List}
 use mathlib.Core.Option.{Option, some}
 use mathlib.Core.Path.{_≡_, ap, subst, _∙_}
 use native.Mathlib.Omega.{arith}
-use lib.ListN.{length, getD, take, drop}
+use lib.ListN.{length, getD, drop}
 use lib.Seq.{getD-drop}
-use Rattle.table.specs.Part.{part-is}
-use Rattle.tree.specs.Record.{Record, width, records}
-use Rattle.tree.specs.RecordLaws.{blank, nth, records-drop}
+use Rattle.tree.specs.Record.{Record, width, records, blank, nth}
+use Rattle.tree.specs.Laws.Record.{records-drop}
 use Rattle.tree.specs.Tree.{Ident, Node, Tree, Trees}
-use Rattle.tree.specs.WithinLaws.{drop-records}
+use Rattle.tree.specs.Laws.Within.{drop-records}
 use Rattle.tree.specs.Stands.{Stands, StandAll}
-use Rattle.scope_map.specs.MapLaws.{map-length}
-use Rattle.semantic.specs.declared.IdentifierStatus.the-variants.{LocallyDefinedFunction}
+use Rattle.scope_map.specs.Laws.Map.{map-length}
 use Rattle.semantic.specs.Rows.{Blank}
 use Rattle.semantic.specs.Kinds.{functionIn, letIn}
 use Rattle.semantic.specs.declared.FunctionInformation.{FunctionInformation}
 use Rattle.semantic.specs.declared.LetInformation.{LetInformation}
 use Rattle.pass.specs.State.{State, rowAt}
-use Rattle.pass.specs.Visit.{Flags, enterChildren}
-use Rattle.pass.specs.Run.{rowsMost, itemsMost}
-use Rattle.pass.specs.Stage.{endOf}
-use Rattle.pass.specs.Visitable.{Room, Visitable, VisitableArguments, VisitableChildren}
-use Rattle.pass.specs.Visitable as pass
+use Rattle.pass.specs.Visit.{Flags}
+use Rattle.pass.specs.Run.{rowsMost, listEntriesMost}
+use Rattle.pass_laws.specs.Stage.{endOf}
+use Rattle.pass_laws.specs.Visitable.{Room, Visitable, VisitableArguments, VisitableChildren}
+use Rattle.pass_laws.specs.Visitable as pass
 use Rattle.work.specs.Known.{Known}
 use Rattle.work.specs.Works.{recordAt, rowOf}
-use Rattle.work.specs.WorksLaws.{captured-top}
+use Rattle.work.specs.Laws.Works.{captured-top}
 use Rattle.work.specs.Tied.{Raw, Tied}
-use Rattle.lists.specs.Contract.{Inside}
+use Rattle.amending.specs.Contract.{Inside}
 use Rattle.flags.specs.declared.Flags.{Flags as Coded}
-use Rattle.forms.specs.Defines.{enterEach, children-entered}
 use Rattle.forms.specs.Contract.{NamesRoom, Shallow, ListsFit, EndFits}
 use Rattle.visits.specs.Contract.{Fit}
 
@@ -55,12 +52,6 @@ module _ {classes rs part : List ℕ} {at : ℕ} {g : Coded} {z : Raw} (x : Fit 
 
   pub next-field : n ≡ field (nth part 1) → n ≡ field (nth rs (at + 1))
   next-field e = e ∙ ap field (part-record rs at (x .is) 1)
-
--- the part after a record and k more, as a call is lent it
-pub part-after : (l : List ℕ) (k : ℕ) → take (length l - (6 + 6 * k)) (drop (6 + 6 * k) l) ≡ drop (width * (1 + k)) l
-part-after l k =
-    let e : 6 + 6 * k ≡ width * (1 + k) = omega arith in
-    part-is l e
 
 pub small : {rs : List ℕ} (x : Ident) → Known rs x → x .at < rowsMost
 small x k = k .few
@@ -88,11 +79,6 @@ names-room {z} {s} {k} {m} t e h =
     let l : z .pass .scope .length ≡ length (s .scope .names .live) = t .works .names .many ∙ map-length recordAt (s .scope .names .live) in
     omega arith
 
--- the lambda defines of an inner begin
-
-pub entered-children : (classes : List ℕ) (es : Trees) (s : State) {z : Raw} → Tied z (enterEach classes LocallyDefinedFunction es s) → Tied z (enterChildren classes es s)
-entered-children classes es s {z} t = subst (Tied z) (children-entered classes es s) t
-
 -- both maps can open a layer
 pub shallow : {z : Raw} {s : State} {k : ℕ} → Tied z s → Room k s → Shallow (z .pass)
 shallow t r = record { scope = omega (arith, t .works .names .depth, r .layers); captures = omega (arith, t .works .captures .depth, r .captureLayers) }
@@ -112,7 +98,7 @@ end-fits {s = s} t e b =
 
 -- a let that begins, and one that ends
 
-pub let-list : (s : State) {i j : ℕ} → i ≡ j → ((v : LetInformation) → letIn (rowAt s i) ≡ some v → endOf (v .arguments) ≤ itemsMost)
+pub let-list : (s : State) {i j : ℕ} → i ≡ j → ((v : LetInformation) → letIn (rowAt s i) ≡ some v → endOf (v .arguments) ≤ listEntriesMost)
     → (v : LetInformation) → letIn (rowAt s j) ≡ some v → Inside (v .arguments)
 let-list s e h v f = h v (ap (λ (k : ℕ). letIn (rowAt s k)) e ∙ f)
 
@@ -120,6 +106,6 @@ pub let-outer : (s : State) {o : Option Node} → ((m : Node) → o ≡ some m �
     → (m : Node) → o ≡ some m → (m .at < rowsMost) × ((v : FunctionInformation) → functionIn (rowAt s (m .at)) ≡ some v → Inside (v .«captured_vars»))
 let-outer s h m e = (h m e .0, λ v f. h m e .1 v f)
 
-pub let-blank : (s : State) {i j k m : ℕ} → i ≡ j → k ≡ m → (rowAt s i ≡ Blank → s .facts .argumentsTop + m ≤ itemsMost)
-    → rowAt s j ≡ Blank → s .facts .argumentsTop + k ≤ itemsMost
+pub let-blank : (s : State) {i j k m : ℕ} → i ≡ j → k ≡ m → (rowAt s i ≡ Blank → s .facts .argumentsTop + m ≤ listEntriesMost)
+    → rowAt s j ≡ Blank → s .facts .argumentsTop + k ≤ listEntriesMost
 let-blank s {k = k} {m = m} e u h f = let b = h (ap (rowAt s) e ∙ f) in omega arith

@@ -7,28 +7,27 @@ use native.Mathlib.Omega.{arith}
 use borrow.Author.Tests.{eqb-true, eqb-false}
 use lib.ListN.{length, drop}
 use lib.Dec.{eqb}
-use Rattle.tree.specs.Record.{width}
-use Rattle.tree.specs.RecordLaws.{nth}
+use Rattle.tree.specs.Record.{width, nth}
 use Rattle.tree.specs.Tree.{Node, Tree, Trees, sequence, nil, cons, whens, many, size, sizes}
-use Rattle.tree.specs.TreeLaws.{size-pos, many-sizes}
+use Rattle.tree.specs.Laws.Tree.{size-pos, many-sizes}
 use Rattle.tree.specs.Core.{cores}
 use Rattle.tree.specs.Stands.{StandAll}
-use Rattle.tree.specs.StandsLaws.{first-tree, later-trees}
-use Rattle.tree.specs.StandsForms.{when-of, unless-of}
+use Rattle.tree.specs.Laws.Stands.{first-tree, later-trees}
+use Rattle.tree.specs.Laws.Stands.Forms.{when-of, unless-of}
 use Rattle.semantic.specs.declared.IdentifierStatus.the-variants.{LocallyDefinedFunction}
 use Rattle.pass.specs.Visit.{notTail, inBegin, enterChildren, visit}
-use Rattle.pass.specs.Visitable.{Visitable}
-use Rattle.pass.specs.Laws.Visitable.Parts.{when-test, when-children}
-use Rattle.pass.specs.Laws.Visitable.Visited.{visited-live}
-use Rattle.pass.specs.Laws.Visitable.Leaves.{visited-reliable}
+use Rattle.pass_laws.specs.Visitable.{Visitable}
+use Rattle.pass_laws.specs.Laws.Visitable.Parts.{when-test, when-children}
+use Rattle.pass_laws.specs.Laws.Visitable.Visited.{visited-live}
+use Rattle.pass_laws.specs.Laws.Visitable.Leaves.{visited-reliable}
 use Rattle.work.specs.Known.{Known}
 use Rattle.work.specs.Tied.{Raw, raw, Tied}
 use Rattle.work.specs.declared.Pass.{Pass}
 use Rattle.flags.specs.Flags.{Handed}
 use Rattle.forms.specs.Contract.{Fits, ChildrenFit, EntersChildren}
 use Rattle.flags.specs.declared.Flags.{Flags as Coded}
-use Rattle.visits.specs.Contract.{Fit, Done, FitChildren, DoneChildren, IsWhen}
-use Rattle.visits.proofs.Views.{part-on, small, stand-all-at, children-at, names-room, entered-children}
+use Rattle.visits.specs.Contract.{Fit, Done, children, FitRow, DoneRow, IsWhen}
+use Rattle.visits.proofs.Views.{part-on, small, stand-all-at, children-at, names-room}
 use Rattle.visits.proofs.SequenceCase as row
 
 up : (f k : ℕ) → k ≤ f → (f ≡ k → ⊥) → suc k ≤ f
@@ -136,7 +135,7 @@ module _ {classes rs part : List ℕ} {at : ℕ} {g : Coded} {z : Raw} {p : List
 
   module _ {q : List ℕ} {g₂ : Coded} {p₂ : Pass} {F₂ w₂ : List ℕ} (y : EntersChildren classes rs (at + 1 + n₁) k LocallyDefinedFunction p₁ F w p₂ F₂ w₂)
       (b : Handed g inBegin g₂) (l : q ≡ drop (width * (1 + n₁)) part) where
-    pub follow-fits : Fit classes rs part at g z → FitChildren classes rs q k (at + 1 + n₁) g₂ (raw p₂ F₂ C A w₂)
+    pub follow-fits : Fit classes rs part at g z → FitRow children classes rs q k (at + 1 + n₁) g₂ (raw p₂ F₂ C A w₂)
     follow-fits x =
         let v = view x e in
         let s = visit classes (v .t) (notTail (x .f)) (x .s) in
@@ -145,16 +144,16 @@ module _ {classes rs part : List ℕ} {at : ℕ} {g : Coded} {z : Raw} {p : List
         record {
           ts = v .ts;
           f = inBegin (x .f);
-          s = enterChildren classes (cores (v .ts)) s;
+          s = enterChildren classes LocallyDefinedFunction (cores (v .ts)) s;
           is = part-on rs at (1 + n₁) (x .is) l ∙ ap (λ (j : ℕ). drop (width * j) rs) i;
           stand = u;
           count = sym (many-follow x);
           flags = b .is (x .f) (x .flags);
-          tied = entered-children classes (cores (v .ts)) s (y .is C A s (v .ts) u (many-follow x) (held x));
+          tied = y .is C A s (v .ts) u (many-follow x) (held x);
           fits = children-at (follows x) (when-children small classes at (x .f) (x .s) (v .b) (v .n) (v .t) (v .ts) (v .fits));
         }
 
-    pub when-done : {n₂ : ℕ} {z₃ : Raw} → DoneChildren classes rs q k (at + 1 + n₁) g₂ (raw p₂ F₂ C A w₂) n₂ z₃
+    pub when-done : {n₂ : ℕ} {z₃ : Raw} → DoneRow children classes rs q k (at + 1 + n₁) g₂ (raw p₂ F₂ C A w₂) n₂ z₃
         → Done classes rs part at g z (1 + n₁ + n₂) z₃
     unfolding size visit test-fits follow-fits
     when-done {n₂} {z₃} r = record {

@@ -1,3 +1,4 @@
 pub mod Contract
+pub mod Lent
 pub mod Runs
 pub mod Tops

@@ -1,16 +1,20 @@
-// `run_with_scope`: a run over the top level.
+// `run_with_scope`: a run over the top level. The visits have the tables by references to references (docs/SPEED.md, 45).
 use crate::visit::visit;
 use crate::visit::visit_body;
 use flags::Flags;
-use registers::REGISTERS;
-use registers::load;
-use registers::steps::enter_defines;
-use registers::steps::enter_value;
-use registers::steps::set_context;
-use registers::store;
 use semantic::IdentifierStatus;
 use semantic::NONE;
+use steps::enter_defines;
+use steps::enter_top_level_value;
+use steps::registers::REGISTERS;
+use steps::registers::load;
+use steps::registers::store;
+use steps::set_context;
+use table::index;
 use table::wide;
+use tree::form::BEGIN;
+use tree::form::DEFINE;
+use tree::record::part_at;
 use walk::body::Body;
 use walk::body::body_at;
 use walk::body::core_at;
@@ -19,13 +23,12 @@ ghost use mathlib.Core.Path.{_≡_};
 ghost use Prim.Native.Nat.{_-_, _<_};
 ghost use lib.ListN.{length, getD};
 ghost use Rattle.tree.specs.Starts.{TellsStarts};
-ghost use Rattle.tree.specs.RecordLaws.{nth};
 ghost use Rattle.work.specs.Tied.{raw};
 ghost use Rattle.forms.specs.Contract.{DefineFits};
-ghost use Rattle.registers.specs.Registers.{passIn, held};
-ghost use Rattle.visits.specs.Contract.{tables};
-ghost use Rattle.visits.specs.Runs.{Ready, Runs};
-ghost use Rattle.visits.specs.Tops.{TopEnters, EntersTop, TopsEnter, EntersTops, BeforeTop, leavesTop, TopFits, VisitsTop, TopsFit, VisitsTops};
+ghost use Rattle.steps.specs.Registers.{passIn};
+ghost use Rattle.visits.specs.Lent.{lentOf, lent, loanOf, loan, inner, handed, formAt};
+ghost use Rattle.visits.specs.Runs.{Ready, Runs, MayRun, HasRun};
+ghost use Rattle.visits.specs.Tops.{leavesTop, MayEnterTop, HasEnteredTop, MayEnterTops, HasEnteredTops, HasBegunTop, MayVisitTop, HasVisitedTop, MayVisitTops, HasVisitedTops};
 
 // The lambda defines at top level enter first, also those directly in a top-level begin.
 fn enter_top(
@@ -36,12 +39,12 @@ fn enter_top(
     facts: &mut [u32],
     work: &mut [u32],
 )
-    requires { ⌜ TopEnters (length (now classes)) (now all) at (passIn (now r)) (now facts) (now work) ⌝ }
-    ensures { λ _. ⌜ EntersTop (now (classes .entry)) (now (all .entry)) at (passIn (now (r .entry))) (now (facts .entry)) (now (work .entry)) (passIn (now (r .exit))) (now (facts .exit)) (now (work .exit)) ⌝ }
+    requires { ⌜ MayEnterTop classes all at r facts work ⌝ }
+    ensures { λ _. ⌜ HasEnteredTop classes all at r facts work ⌝ }
 {
     let top = core_at(all, at);
     let form = tree::record::form(all, top);
-    if form == 7 {
+    if form == BEGIN {
         let count = wide(tree::record::count(all, top));
         enter_defines(
             classes,
@@ -55,7 +58,7 @@ fn enter_top(
         );
         return;
     }
-    if form == 5 {
+    if form == DEFINE {
         enter_defines(
             classes,
             all,
@@ -69,19 +72,12 @@ fn enter_top(
     }
 }
 
-// A number of the table, as an index.
-fn place(x: u16) -> usize
-    ensures { λ r. ⌜ r ≡ x ⌝ }
-{
-    x as usize
-}
-
 // The record at which tree i starts.
 fn start(tops: &[u16], i: usize) -> usize
     requires { ⌜ i < length (now tops) ⌝ }
     ensures { λ r. ⌜ r ≡ getD (now (tops .entry)) i 0 ⌝ }
 {
-    place(tops[i])
+    index(tops[i])
 }
 
 fn enter_tops(
@@ -92,9 +88,8 @@ fn enter_tops(
     facts: &mut [u32],
     work: &mut [u32],
 )
-    requires { ⌜ TellsStarts (length (now classes)) (now all) (now tops) ⌝ }
-    requires { ⌜ TopsEnter (now classes) (now all) (passIn (now r)) (now facts) (now work) ⌝ }
-    ensures { λ _. ⌜ EntersTops (now (classes .entry)) (now (all .entry)) (passIn (now (r .entry))) (now (facts .entry)) (now (work .entry)) (passIn (now (r .exit))) (now (facts .exit)) (now (work .exit)) ⌝ }
+    requires { ⌜ MayEnterTops tops classes all r facts work ⌝ }
+    ensures { λ _. ⌜ HasEnteredTops classes all r facts work ⌝ }
 {
     let n = tree::record::len(all);
     let mut i = 0;
@@ -116,13 +111,13 @@ fn before_top_define(
     work: &mut [u32],
 )
     requires { ⌜ DefineFits (now all) at (passIn (now r)) (now facts) (now work) ⌝ }
-    ensures { λ _. ⌜ BeforeTop (now (all .entry)) at b (passIn (now (r .entry))) (now (facts .entry)) (now (work .entry)) (passIn (now (r .exit))) (now (facts .exit)) (now (work .exit)) ⌝ }
+    ensures { λ _. ⌜ HasBegunTop all at b r facts work ⌝ }
 {
     if b.lambda {
         set_context(r, tree::record::id(all, at + 1));
         return;
     }
-    enter_value(all, at + 1, b, r, facts, work);
+    enter_top_level_value(all, at + 1, b, r, facts, work);
 }
 
 fn after_top_define(lambda: bool, r: &mut [usize; REGISTERS])
@@ -144,24 +139,15 @@ fn visit_top_define(
     arguments: &mut &mut [u32],
     work: &mut &mut [u32],
 ) -> usize
-    requires { ⌜ TopFits (now (now classes)) (now (now all)) (now rs) at (held (now r) (now (now facts)) (now (now captured)) (now (now arguments)) (now (now work))) × (nth (now (now all)) at .form ≡ 5) ⌝ }
-    ensures { λ n. ⌜ VisitsTop (now (now (classes .entry))) (now (now (all .entry))) (now (rs .entry)) at (held (now (r .entry)) (now (now (facts .entry))) (now (now (captured .entry))) (now (now (arguments .entry))) (now (now (work .entry)))) n (held (now (r .exit)) (now (now (facts .exit))) (now (now (captured .exit))) (now (now (arguments .exit))) (now (now (work .exit)))) ⌝ }
-    ensures { λ _. ⌜ tables (now (facts .exit)) (now (captured .exit)) (now (arguments .exit)) (now (work .exit)) ≡ tables (now (facts .entry)) (now (captured .entry)) (now (arguments .entry)) (now (work .entry)) ⌝ }
+    requires { ⌜ MayVisitTop (lent classes all r facts captured arguments work) rs at × (formAt all at ≡ 5) ⌝ }
+    ensures { λ n. ⌜ HasVisitedTop (loan classes all r facts captured arguments work) rs at n ⌝ }
 {
     let b = body_at(*classes, *all, at + 2);
     before_top_define(*all, at, b, r, *facts, *work);
-    let o = visit_body(
-        classes,
-        all,
-        &rs[12..],
-        at + 2,
-        Flags::top(),
-        r,
-        facts,
-        captured,
-        arguments,
-        work,
-    );
+    let p = part_at(rs, 2);
+    let n = at + 2;
+    let f = Flags::top();
+    let o = visit_body(classes, all, p, n, f, r, facts, captured, arguments, work);
     after_top_define(b.lambda, r);
     2 + o
 }
@@ -177,25 +163,14 @@ fn visit_top(
     arguments: &mut &mut [u32],
     work: &mut &mut [u32],
 ) -> usize
-    requires { ⌜ TopFits (now (now classes)) (now (now all)) (now rs) at (held (now r) (now (now facts)) (now (now captured)) (now (now arguments)) (now (now work))) ⌝ }
-    ensures { λ n. ⌜ VisitsTop (now (now (classes .entry))) (now (now (all .entry))) (now (rs .entry)) at (held (now (r .entry)) (now (now (facts .entry))) (now (now (captured .entry))) (now (now (arguments .entry))) (now (now (work .entry)))) n (held (now (r .exit)) (now (now (facts .exit))) (now (now (captured .exit))) (now (now (arguments .exit))) (now (now (work .exit)))) ⌝ }
-    ensures { λ _. ⌜ tables (now (facts .exit)) (now (captured .exit)) (now (arguments .exit)) (now (work .exit)) ≡ tables (now (facts .entry)) (now (captured .entry)) (now (arguments .entry)) (now (work .entry)) ⌝ }
+    requires { ⌜ MayVisitTop (lent classes all r facts captured arguments work) rs at ⌝ }
+    ensures { λ n. ⌜ HasVisitedTop (loan classes all r facts captured arguments work) rs at n ⌝ }
 {
-    if tree::record::form(rs, 0) == 5 {
+    if tree::record::form(rs, 0) == DEFINE {
         return visit_top_define(classes, all, rs, at, r, facts, captured, arguments, work);
     }
-    visit(
-        classes,
-        all,
-        rs,
-        at,
-        Flags::top(),
-        r,
-        facts,
-        captured,
-        arguments,
-        work,
-    )
+    let f = Flags::top();
+    visit(classes, all, rs, at, f, r, facts, captured, arguments, work)
 }
 
 fn one_less(k: usize) -> usize
@@ -217,9 +192,8 @@ fn visit_tops(
     arguments: &mut &mut [u32],
     work: &mut &mut [u32],
 )
-    requires { ⌜ TopsFit (now (now classes)) (now (now all)) (held (now r) (now (now facts)) (now (now captured)) (now (now arguments)) (now (now work))) ⌝ }
-    ensures { λ _. ⌜ VisitsTops (now (now (classes .entry))) (now (now (all .entry))) (held (now (r .entry)) (now (now (facts .entry))) (now (now (captured .entry))) (now (now (arguments .entry))) (now (now (work .entry)))) (held (now (r .exit)) (now (now (facts .exit))) (now (now (captured .exit))) (now (now (arguments .exit))) (now (now (work .exit)))) ⌝ }
-    ensures { λ _. ⌜ tables (now (facts .exit)) (now (captured .exit)) (now (arguments .exit)) (now (work .exit)) ≡ tables (now (facts .entry)) (now (captured .entry)) (now (arguments .entry)) (now (work .entry)) ⌝ }
+    requires { ⌜ MayVisitTops (lent classes all r facts captured arguments work) ⌝ }
+    ensures { λ _. ⌜ HasVisitedTops (loan classes all r facts captured arguments work) ⌝ }
 {
     let rs = *all;
     let n = tree::record::len(rs);
@@ -227,23 +201,13 @@ fn visit_tops(
     let mut inside = 0;
     while at < n {
         let top = core_at(rs, at);
-        if inside == 0 && tree::record::form(rs, top) == 7 {
+        if inside == 0 && tree::record::form(rs, top) == BEGIN {
             inside = wide(tree::record::count(rs, top));
             at = top + 1;
             continue;
         }
-        let start = 6 * top;
-        let used = visit_top(
-            classes,
-            all,
-            &rs[start..],
-            top,
-            r,
-            facts,
-            captured,
-            arguments,
-            work,
-        );
+        let p = part_at(rs, top);
+        let used = visit_top(classes, all, p, top, r, facts, captured, arguments, work);
         at = top + used;
         inside = one_less(inside);
     }
@@ -260,17 +224,15 @@ fn run_lent(
     arguments: &mut &mut [u32],
     work: &mut &mut [u32],
 )
-    requires { ⌜ TellsStarts (length (now (now classes))) (now (now all)) (now tops) ⌝ }
-    requires { ⌜ Ready (now (now classes)) (now (now all)) (held (now r) (now (now facts)) (now (now captured)) (now (now arguments)) (now (now work))) ⌝ }
-    ensures { λ _. ⌜ Runs (now (now (classes .entry))) (now (now (all .entry))) (held (now (r .entry)) (now (now (facts .entry))) (now (now (captured .entry))) (now (now (arguments .entry))) (now (now (work .entry)))) (held (now (r .exit)) (now (now (facts .exit))) (now (now (captured .exit))) (now (now (arguments .exit))) (now (now (work .exit)))) ⌝ }
-    ensures { λ _. ⌜ tables (now (facts .exit)) (now (captured .exit)) (now (arguments .exit)) (now (work .exit)) ≡ tables (now (facts .entry)) (now (captured .entry)) (now (arguments .entry)) (now (work .entry)) ⌝ }
+    requires { ⌜ MayRun tops (lent classes all r facts captured arguments work) ⌝ }
+    ensures { λ _. ⌜ HasRun (loan classes all r facts captured arguments work) ⌝ }
 {
     enter_tops(tops, *classes, *all, r, *facts, *work);
     visit_tops(classes, all, r, facts, captured, arguments, work);
 }
 
-// Each of these lends a table by a reference to its reference, as the visits want it, and hands the table back. The local is moved first: a loan of it would be another
-// reference than the one that was lent.
+// Each of these lends a table by a reference to its reference, as the visits want it (docs/SPEED.md, 45), and hands the table back. The local is moved
+// first: a loan of it would be another reference than the one that was lent.
 
 fn lend_work<'a>(
     tops: &[u16],
@@ -282,10 +244,8 @@ fn lend_work<'a>(
     arguments: &mut &mut [u32],
     work: &'a mut [u32],
 ) -> &'a mut [u32]
-    requires { ⌜ TellsStarts (length (now (now classes))) (now (now all)) (now tops) ⌝ }
-    requires { ⌜ Ready (now (now classes)) (now (now all)) (held (now r) (now (now facts)) (now (now captured)) (now (now arguments)) (now work)) ⌝ }
-    ensures { λ back. ⌜ Runs (now (now (classes .entry))) (now (now (all .entry))) (held (now (r .entry)) (now (now (facts .entry))) (now (now (captured .entry))) (now (now (arguments .entry))) (now (work .entry))) (held (now (r .exit)) (now (now (facts .exit))) (now (now (captured .exit))) (now (now (arguments .exit))) (now back)) ⌝ }
-    ensures { λ back. ⌜ tables (now (facts .exit)) (now (captured .exit)) (now (arguments .exit)) back ≡ tables (now (facts .entry)) (now (captured .entry)) (now (arguments .entry)) (work .entry) ⌝ }
+    requires { ⌜ MayRun tops (lentOf classes all r (now facts) (now captured) (now arguments) work) ⌝ }
+    ensures { λ back. ⌜ HasRun (loanOf classes all r (inner facts) (inner captured) (inner arguments) (handed work back)) ⌝ }
 {
     let mut lent = work;
     run_lent(tops, classes, all, r, facts, captured, arguments, &mut lent);
@@ -303,10 +263,8 @@ fn lend_arguments<'a>(
     arguments: &'a mut [u32],
     work: &mut [u32],
 ) -> &'a mut [u32]
-    requires { ⌜ TellsStarts (length (now (now classes))) (now (now all)) (now tops) ⌝ }
-    requires { ⌜ Ready (now (now classes)) (now (now all)) (held (now r) (now (now facts)) (now (now captured)) (now arguments) (now work)) ⌝ }
-    ensures { λ back. ⌜ Runs (now (now (classes .entry))) (now (now (all .entry))) (held (now (r .entry)) (now (now (facts .entry))) (now (now (captured .entry))) (now (arguments .entry)) (now (work .entry))) (held (now (r .exit)) (now (now (facts .exit))) (now (now (captured .exit))) (now back) (now (work .exit))) ⌝ }
-    ensures { λ back. ⌜ tables (now (facts .exit)) (now (captured .exit)) back (work .exit) ≡ tables (now (facts .entry)) (now (captured .entry)) (arguments .entry) (work .entry) ⌝ }
+    requires { ⌜ MayRun tops (lentOf classes all r (now facts) (now captured) arguments work) ⌝ }
+    ensures { λ back. ⌜ HasRun (loanOf classes all r (inner facts) (inner captured) (handed arguments back) work) ⌝ }
 {
     let mut lent = arguments;
     lend_work(tops, classes, all, r, facts, captured, &mut lent, work);
@@ -324,10 +282,8 @@ fn lend_captured<'a>(
     arguments: &mut [u32],
     work: &mut [u32],
 ) -> &'a mut [u32]
-    requires { ⌜ TellsStarts (length (now (now classes))) (now (now all)) (now tops) ⌝ }
-    requires { ⌜ Ready (now (now classes)) (now (now all)) (held (now r) (now (now facts)) (now captured) (now arguments) (now work)) ⌝ }
-    ensures { λ back. ⌜ Runs (now (now (classes .entry))) (now (now (all .entry))) (held (now (r .entry)) (now (now (facts .entry))) (now (captured .entry)) (now (arguments .entry)) (now (work .entry))) (held (now (r .exit)) (now (now (facts .exit))) (now back) (now (arguments .exit)) (now (work .exit))) ⌝ }
-    ensures { λ back. ⌜ tables (now (facts .exit)) back (arguments .exit) (work .exit) ≡ tables (now (facts .entry)) (captured .entry) (arguments .entry) (work .entry) ⌝ }
+    requires { ⌜ MayRun tops (lentOf classes all r (now facts) captured arguments work) ⌝ }
+    ensures { λ back. ⌜ HasRun (loanOf classes all r (inner facts) (handed captured back) arguments work) ⌝ }
 {
     let mut lent = captured;
     lend_arguments(tops, classes, all, r, facts, &mut lent, arguments, work);
@@ -345,10 +301,8 @@ fn lend_facts<'a>(
     arguments: &mut [u32],
     work: &mut [u32],
 ) -> &'a mut [u32]
-    requires { ⌜ TellsStarts (length (now (now classes))) (now (now all)) (now tops) ⌝ }
-    requires { ⌜ Ready (now (now classes)) (now (now all)) (held (now r) (now facts) (now captured) (now arguments) (now work)) ⌝ }
-    ensures { λ back. ⌜ Runs (now (now (classes .entry))) (now (now (all .entry))) (held (now (r .entry)) (now (facts .entry)) (now (captured .entry)) (now (arguments .entry)) (now (work .entry))) (held (now (r .exit)) (now back) (now (captured .exit)) (now (arguments .exit)) (now (work .exit))) ⌝ }
-    ensures { λ back. ⌜ tables back (captured .exit) (arguments .exit) (work .exit) ≡ tables (facts .entry) (captured .entry) (arguments .entry) (work .entry) ⌝ }
+    requires { ⌜ MayRun tops (lentOf classes all r facts captured arguments work) ⌝ }
+    ensures { λ back. ⌜ HasRun (loanOf classes all r (handed facts back) captured arguments work) ⌝ }
 {
     let mut lent = facts;
     lend_captured(tops, classes, all, r, &mut lent, captured, arguments, work);

@@ -1,6 +1,7 @@
-// The visits. Each is given the part of the records that starts at its expression, reads its own record there, and tells how many records it used. What it does beside
-// visiting parts goes by the number of the record among `all`. The pass's own numbers stand in the table r: by value every visit would copy them. The other tables are
-// lent by a reference to their reference, one word that a visit hands on as it is; one that is only read is first lent to a local.
+// The visits. Each is given the part of the records that starts at its expression, reads its own record there, and tells how many records it used. What
+// it does beside visiting parts goes by the number of the record among `all`. The pass's own numbers stand in the table r: by value every visit would
+// copy them (docs/SPEED.md, 42). The other tables are lent by a reference to their reference, one word that a visit hands on as it is; one that is only
+// read is first lent to a local (docs/SPEED.md, 45). A child that is visited next has the number n, and p is the part that starts at it.
 
 // A short name: the prover keeps what it checked of the cycle in files named after all of its functions, and a name has 255 bytes at most.
 mod seq;
@@ -8,37 +9,28 @@ mod seq;
 use crate::visit::seq::visit_and;
 use crate::visit::seq::visit_begin;
 use crate::visit::seq::visit_when;
+use amending::amend::Lambda;
 use flags::Flags;
 use flags::Part;
 use flags::by_value::part;
 use flags::by_value::parts;
-use lists::amend::Lambda;
-use registers::REGISTERS;
-use registers::steps::close_call;
-use registers::steps::close_define;
-use registers::steps::close_lambda;
-use registers::steps::close_let;
-use registers::steps::close_set;
-use registers::steps::context;
-use registers::steps::depth;
-use registers::steps::open_define;
-use registers::steps::open_lambda;
-use registers::steps::open_let;
-use registers::steps::open_set;
-use registers::steps::set_context;
-use registers::steps::visit_atom;
 use semantic::NONE;
+use steps::registers::REGISTERS;
 use table::wide;
+use tree::form::CONSTANT;
+use tree::form::IDENTIFIER;
+use tree::form::LAMBDA;
+use tree::record::part_at;
 use walk::body::body_at;
 use walk::body::core_at;
 use walk::extent::extent_at;
 use walk::uses::Names;
 use work::narrow;
 ghost use mathlib.Core.Path.{_≡_};
-ghost use Rattle.tree.specs.RecordLaws.{nth};
-ghost use Rattle.registers.specs.Registers.{held};
-ghost use Rattle.visits.specs.Contract.{Fit, Done, FitAll, DoneAll, tables};
+ghost use Rattle.visits.specs.Lent.{lent, loan, formAt};
+ghost use Rattle.visits.specs.Contract.{MayVisit, HasVisited, values, MayVisitRow, HasVisitedRow};
 
+// A lambda's visit is handed a copy of the reference to the part (docs/SPEED.md, 49).
 pub fn visit(
     classes: &&[u8],
     all: &&[u32],
@@ -51,32 +43,23 @@ pub fn visit(
     arguments: &mut &mut [u32],
     work: &mut &mut [u32],
 ) -> usize
-    requires { ⌜ Fit (now (now classes)) (now (now all)) (now rs) at f (held (now r) (now (now facts)) (now (now captured)) (now (now arguments)) (now (now work))) ⌝ }
-    ensures { λ n. ⌜ Done (now (now (classes .entry))) (now (now (all .entry))) (now (rs .entry)) at f (held (now (r .entry)) (now (now (facts .entry))) (now (now (captured .entry))) (now (now (arguments .entry))) (now (now (work .entry)))) n (held (now (r .exit)) (now (now (facts .exit))) (now (now (captured .exit))) (now (now (arguments .exit))) (now (now (work .exit)))) ⌝ }
-    ensures { λ _. ⌜ tables (now (facts .exit)) (now (captured .exit)) (now (arguments .exit)) (now (work .exit)) ≡ tables (now (facts .entry)) (now (captured .entry)) (now (arguments .entry)) (now (work .entry)) ⌝ }
+    requires { ⌜ MayVisit (lent classes all r facts captured arguments work) rs at f ⌝ }
+    ensures { λ n. ⌜ HasVisited (loan classes all r facts captured arguments work) rs at f n ⌝ }
 {
     let form = tree::record::form(rs, 0);
     match form {
         1..=2 => {
             let lent = &mut **captured;
-            visit_atom(*classes, *all, form, at, r, *facts, lent, *work);
+            steps::visit_atom(*classes, *all, form, at, r, *facts, lent, *work);
             1
         }
         3 => visit_if(classes, all, rs, at, f, r, facts, captured, arguments, work),
         4 => visit_let(classes, all, rs, at, f, r, facts, captured, arguments, work),
         5 => visit_define(classes, all, rs, at, f, r, facts, captured, arguments, work),
-        6 => visit_lambda_function(
-            classes,
-            all,
-            &*rs,
-            at,
-            f,
-            r,
-            facts,
-            captured,
-            arguments,
-            work,
-        ),
+        6 => {
+            let p = &*rs;
+            visit_lambda_function(classes, all, p, at, f, r, facts, captured, arguments, work)
+        }
         7 => visit_begin(classes, all, rs, at, f, r, facts, captured, arguments, work),
         8 => visit_list(classes, all, rs, at, f, r, facts, captured, arguments, work),
         9 => visit_set(classes, all, rs, at, f, r, facts, captured, arguments, work),
@@ -86,8 +69,8 @@ pub fn visit(
     }
 }
 
-// A part of an expression. Many parts are identifiers and constants: they need no call of `visit`, and flags are stored for that call alone, as
-// it is handed a copy.
+// A part of an expression. Many parts are identifiers and constants: they need no call of `visit` (docs/SPEED.md, 44), and flags are stored for that
+// call alone, as it is handed a copy (46), also of the reference to the part (49).
 pub fn visit_part(
     classes: &&[u8],
     all: &&[u32],
@@ -100,29 +83,18 @@ pub fn visit_part(
     arguments: &mut &mut [u32],
     work: &mut &mut [u32],
 ) -> usize
-    requires { ⌜ Fit (now (now classes)) (now (now all)) (now rs) at f (held (now r) (now (now facts)) (now (now captured)) (now (now arguments)) (now (now work))) ⌝ }
-    ensures { λ n. ⌜ Done (now (now (classes .entry))) (now (now (all .entry))) (now (rs .entry)) at f (held (now (r .entry)) (now (now (facts .entry))) (now (now (captured .entry))) (now (now (arguments .entry))) (now (now (work .entry)))) n (held (now (r .exit)) (now (now (facts .exit))) (now (now (captured .exit))) (now (now (arguments .exit))) (now (now (work .exit)))) ⌝ }
-    ensures { λ _. ⌜ tables (now (facts .exit)) (now (captured .exit)) (now (arguments .exit)) (now (work .exit)) ≡ tables (now (facts .entry)) (now (captured .entry)) (now (arguments .entry)) (now (work .entry)) ⌝ }
+    requires { ⌜ MayVisit (lent classes all r facts captured arguments work) rs at f ⌝ }
+    ensures { λ n. ⌜ HasVisited (loan classes all r facts captured arguments work) rs at f n ⌝ }
 {
     let form = tree::record::form(rs, 0);
-    if form <= 2 {
+    if form <= CONSTANT {
         let lent = &mut **captured;
-        visit_atom(*classes, *all, form, at, r, *facts, lent, *work);
+        steps::visit_atom(*classes, *all, form, at, r, *facts, lent, *work);
         return 1;
     }
     let g = f;
-    visit(
-        classes,
-        all,
-        &*rs,
-        at,
-        g,
-        r,
-        facts,
-        captured,
-        arguments,
-        work,
-    )
+    let p = &*rs;
+    visit(classes, all, p, at, g, r, facts, captured, arguments, work)
 }
 
 fn visit_if(
@@ -137,51 +109,22 @@ fn visit_if(
     arguments: &mut &mut [u32],
     work: &mut &mut [u32],
 ) -> usize
-    requires { ⌜ Fit (now (now classes)) (now (now all)) (now rs) at f (held (now r) (now (now facts)) (now (now captured)) (now (now arguments)) (now (now work))) × (nth (now (now all)) at .form ≡ 3) ⌝ }
-    ensures { λ n. ⌜ Done (now (now (classes .entry))) (now (now (all .entry))) (now (rs .entry)) at f (held (now (r .entry)) (now (now (facts .entry))) (now (now (captured .entry))) (now (now (arguments .entry))) (now (now (work .entry)))) n (held (now (r .exit)) (now (now (facts .exit))) (now (now (captured .exit))) (now (now (arguments .exit))) (now (now (work .exit)))) ⌝ }
-    ensures { λ _. ⌜ tables (now (facts .exit)) (now (captured .exit)) (now (arguments .exit)) (now (work .exit)) ≡ tables (now (facts .entry)) (now (captured .entry)) (now (arguments .entry)) (now (work .entry)) ⌝ }
+    requires { ⌜ MayVisit (lent classes all r facts captured arguments work) rs at f × (formAt all at ≡ 3) ⌝ }
+    ensures { λ n. ⌜ HasVisited (loan classes all r facts captured arguments work) rs at f n ⌝ }
 {
     let g = part(f, Part::SameTail);
-    let a = visit_part(
-        classes,
-        all,
-        &rs[6..],
-        at + 1,
-        part(f, Part::NotTail),
-        r,
-        facts,
-        captured,
-        arguments,
-        work,
-    );
+    let h = part(f, Part::NotTail);
+    let p = part_at(rs, 1);
+    let n = at + 1;
+    let a = visit_part(classes, all, p, n, h, r, facts, captured, arguments, work);
     let i = 1 + a;
-    let start = 6 * i;
-    let b = visit_part(
-        classes,
-        all,
-        &rs[start..],
-        at + i,
-        g,
-        r,
-        facts,
-        captured,
-        arguments,
-        work,
-    );
+    let p = part_at(rs, i);
+    let n = at + i;
+    let b = visit_part(classes, all, p, n, g, r, facts, captured, arguments, work);
     let j = i + b;
-    let next = 6 * j;
-    let c = visit_part(
-        classes,
-        all,
-        &rs[next..],
-        at + j,
-        g,
-        r,
-        facts,
-        captured,
-        arguments,
-        work,
-    );
+    let p = part_at(rs, j);
+    let n = at + j;
+    let c = visit_part(classes, all, p, n, g, r, facts, captured, arguments, work);
     j + c
 }
 
@@ -199,27 +142,16 @@ fn visit_arguments(
     arguments: &mut &mut [u32],
     work: &mut &mut [u32],
 ) -> usize
-    requires { ⌜ FitAll (now (now classes)) (now (now all)) (now rs) k at f (held (now r) (now (now facts)) (now (now captured)) (now (now arguments)) (now (now work))) ⌝ }
-    ensures { λ n. ⌜ DoneAll (now (now (classes .entry))) (now (now (all .entry))) (now (rs .entry)) k at f (held (now (r .entry)) (now (now (facts .entry))) (now (now (captured .entry))) (now (now (arguments .entry))) (now (now (work .entry)))) n (held (now (r .exit)) (now (now (facts .exit))) (now (now (captured .exit))) (now (now (arguments .exit))) (now (now (work .exit)))) ⌝ }
-    ensures { λ _. ⌜ tables (now (facts .exit)) (now (captured .exit)) (now (arguments .exit)) (now (work .exit)) ≡ tables (now (facts .entry)) (now (captured .entry)) (now (arguments .entry)) (now (work .entry)) ⌝ }
+    requires { ⌜ MayVisitRow values (lent classes all r facts captured arguments work) rs k at f ⌝ }
+    ensures { λ n. ⌜ HasVisitedRow values (loan classes all r facts captured arguments work) rs k at f n ⌝ }
 {
     let mut g = f;
     let mut used = 0;
     let mut i = 0;
     while i < k {
-        let start = 6 * used;
-        used += visit_part(
-            classes,
-            all,
-            &rs[start..],
-            at + used,
-            g,
-            r,
-            facts,
-            captured,
-            arguments,
-            work,
-        );
+        let p = part_at(rs, used);
+        let n = at + used;
+        used += visit_part(classes, all, p, n, g, r, facts, captured, arguments, work);
         g = part(g, Part::Next);
         i += 1;
     }
@@ -238,26 +170,22 @@ fn visit_let(
     arguments: &mut &mut [u32],
     work: &mut &mut [u32],
 ) -> usize
-    requires { ⌜ Fit (now (now classes)) (now (now all)) (now rs) at f (held (now r) (now (now facts)) (now (now captured)) (now (now arguments)) (now (now work))) × (nth (now (now all)) at .form ≡ 4) ⌝ }
-    ensures { λ n. ⌜ Done (now (now (classes .entry))) (now (now (all .entry))) (now (rs .entry)) at f (held (now (r .entry)) (now (now (facts .entry))) (now (now (captured .entry))) (now (now (arguments .entry))) (now (now (work .entry)))) n (held (now (r .exit)) (now (now (facts .exit))) (now (now (captured .exit))) (now (now (arguments .exit))) (now (now (work .exit)))) ⌝ }
-    ensures { λ _. ⌜ tables (now (facts .exit)) (now (captured .exit)) (now (arguments .exit)) (now (work .exit)) ≡ tables (now (facts .entry)) (now (captured .entry)) (now (arguments .entry)) (now (work .entry)) ⌝ }
+    requires { ⌜ MayVisit (lent classes all r facts captured arguments work) rs at f × (formAt all at ≡ 4) ⌝ }
+    ensures { λ n. ⌜ HasVisited (loan classes all r facts captured arguments work) rs at f n ⌝ }
 {
     let many = tree::record::count(rs, 0);
     let count = wide(many);
-    let names = Names {
-        first: at + 1,
-        count,
-    };
-    let opened = depth(r) == 1;
+    let first = at + 1;
+    let names = Names { first, count };
+    let opened = steps::depth(r) == 1;
     let around = f.function;
-    let outer = context(r);
+    let outer = steps::context(r);
     let g = parts(f, Part::NotTail, Part::LetBody(many));
-    let start = 6 + 6 * count;
-    set_context(r, NONE);
+    steps::set_context(r, NONE);
     let a = visit_arguments(
         classes,
         all,
-        &rs[start..],
+        part_at(rs, 1 + count),
         count,
         at + 1 + count,
         g.first,
@@ -267,10 +195,10 @@ fn visit_let(
         arguments,
         work,
     );
-    set_context(r, outer);
+    steps::set_context(r, outer);
     let lent = &mut **captured;
     let passed = &mut **arguments;
-    open_let(
+    steps::open_let(
         *all,
         at,
         names,
@@ -283,20 +211,11 @@ fn visit_let(
         *work,
     );
     let i = 1 + count + a;
-    let next = 6 * i;
-    let b = visit_part(
-        classes,
-        all,
-        &rs[next..],
-        at + i,
-        g.second,
-        r,
-        facts,
-        captured,
-        arguments,
-        work,
-    );
-    close_let(
+    let p = part_at(rs, i);
+    let n = at + i;
+    let h = g.second;
+    let b = visit_part(classes, all, p, n, h, r, facts, captured, arguments, work);
+    steps::close_let(
         *all,
         opened,
         at,
@@ -323,31 +242,22 @@ fn visit_define(
     arguments: &mut &mut [u32],
     work: &mut &mut [u32],
 ) -> usize
-    requires { ⌜ Fit (now (now classes)) (now (now all)) (now rs) at f (held (now r) (now (now facts)) (now (now captured)) (now (now arguments)) (now (now work))) × (nth (now (now all)) at .form ≡ 5) ⌝ }
-    ensures { λ n. ⌜ Done (now (now (classes .entry))) (now (now (all .entry))) (now (rs .entry)) at f (held (now (r .entry)) (now (now (facts .entry))) (now (now (captured .entry))) (now (now (arguments .entry))) (now (now (work .entry)))) n (held (now (r .exit)) (now (now (facts .exit))) (now (now (captured .exit))) (now (now (arguments .exit))) (now (now (work .exit)))) ⌝ }
-    ensures { λ _. ⌜ tables (now (facts .exit)) (now (captured .exit)) (now (arguments .exit)) (now (work .exit)) ≡ tables (now (facts .entry)) (now (captured .entry)) (now (arguments .entry)) (now (work .entry)) ⌝ }
+    requires { ⌜ MayVisit (lent classes all r facts captured arguments work) rs at f × (formAt all at ≡ 5) ⌝ }
+    ensures { λ n. ⌜ HasVisited (loan classes all r facts captured arguments work) rs at f n ⌝ }
 {
     let b = body_at(*classes, *all, at + 2);
-    let outer = context(r);
-    open_define(*all, at, f.direct, b, r, *facts, *work);
-    let o = visit_body(
-        classes,
-        all,
-        &rs[12..],
-        at + 2,
-        part(f, Part::DefineBody),
-        r,
-        facts,
-        captured,
-        arguments,
-        work,
-    );
-    close_define(*all, at, f.direct, outer, b, r, *facts, *work);
+    let outer = steps::context(r);
+    steps::open_define(*all, at, f.direct, b, r, *facts, *work);
+    let p = part_at(rs, 2);
+    let n = at + 2;
+    let g = part(f, Part::DefineBody);
+    let o = visit_body(classes, all, p, n, g, r, facts, captured, arguments, work);
+    steps::close_define(*all, at, f.direct, outer, b, r, *facts, *work);
     2 + o
 }
 
-// The body of a lambda or of a define: it is often a lambda, and then needs no call of `visit`. `visit_lambda_function` calls itself through this one: so the compiler
-// keeps the arrays of a lambda's end out of the frames of the visits.
+// The body of a lambda or of a define: it is often a lambda, and then needs no call of `visit`. `visit_lambda_function` calls itself through this one:
+// so the compiler keeps the arrays of a lambda's end out of the frames of the visits (docs/SPEED.md, 44).
 pub fn visit_body(
     classes: &&[u8],
     all: &&[u32],
@@ -360,11 +270,10 @@ pub fn visit_body(
     arguments: &mut &mut [u32],
     work: &mut &mut [u32],
 ) -> usize
-    requires { ⌜ Fit (now (now classes)) (now (now all)) (now rs) at f (held (now r) (now (now facts)) (now (now captured)) (now (now arguments)) (now (now work))) ⌝ }
-    ensures { λ n. ⌜ Done (now (now (classes .entry))) (now (now (all .entry))) (now (rs .entry)) at f (held (now (r .entry)) (now (now (facts .entry))) (now (now (captured .entry))) (now (now (arguments .entry))) (now (now (work .entry)))) n (held (now (r .exit)) (now (now (facts .exit))) (now (now (captured .exit))) (now (now (arguments .exit))) (now (now (work .exit)))) ⌝ }
-    ensures { λ _. ⌜ tables (now (facts .exit)) (now (captured .exit)) (now (arguments .exit)) (now (work .exit)) ≡ tables (now (facts .entry)) (now (captured .entry)) (now (arguments .entry)) (now (work .entry)) ⌝ }
+    requires { ⌜ MayVisit (lent classes all r facts captured arguments work) rs at f ⌝ }
+    ensures { λ n. ⌜ HasVisited (loan classes all r facts captured arguments work) rs at f n ⌝ }
 {
-    if tree::record::form(rs, 0) == 6 {
+    if tree::record::form(rs, 0) == LAMBDA {
         return visit_lambda_function(classes, all, rs, at, f, r, facts, captured, arguments, work);
     }
     visit_part(classes, all, rs, at, f, r, facts, captured, arguments, work)
@@ -382,45 +291,24 @@ fn visit_lambda_function(
     arguments: &mut &mut [u32],
     work: &mut &mut [u32],
 ) -> usize
-    requires { ⌜ Fit (now (now classes)) (now (now all)) (now rs) at f (held (now r) (now (now facts)) (now (now captured)) (now (now arguments)) (now (now work))) × (nth (now (now all)) at .form ≡ 6) ⌝ }
-    ensures { λ n. ⌜ Done (now (now (classes .entry))) (now (now (all .entry))) (now (rs .entry)) at f (held (now (r .entry)) (now (now (facts .entry))) (now (now (captured .entry))) (now (now (arguments .entry))) (now (now (work .entry)))) n (held (now (r .exit)) (now (now (facts .exit))) (now (now (captured .exit))) (now (now (arguments .exit))) (now (now (work .exit)))) ⌝ }
-    ensures { λ _. ⌜ tables (now (facts .exit)) (now (captured .exit)) (now (arguments .exit)) (now (work .exit)) ≡ tables (now (facts .entry)) (now (captured .entry)) (now (arguments .entry)) (now (work .entry)) ⌝ }
+    requires { ⌜ MayVisit (lent classes all r facts captured arguments work) rs at f × (formAt all at ≡ 6) ⌝ }
+    ensures { λ n. ⌜ HasVisited (loan classes all r facts captured arguments work) rs at f n ⌝ }
 {
     let many = tree::record::count(rs, 0);
     let count = wide(many);
-    let names = Names {
-        first: at + 1,
-        count,
-    };
+    let first = at + 1;
+    let names = Names { first, count };
     let lent = &mut **arguments;
-    open_lambda(*all, at, names, r, *facts, *captured, lent, *work);
-    let start = 6 + 6 * count;
-    let first = at + 1 + count;
-    let o = visit_body(
-        classes,
-        all,
-        &rs[start..],
-        first,
-        part(f, Part::Body(at, tree::record::id(rs, 0), many)),
-        r,
-        facts,
-        captured,
-        arguments,
-        work,
-    );
-    let end = first + o;
+    steps::open_lambda(*all, at, names, r, *facts, *captured, lent, *work);
+    let p = part_at(rs, 1 + count);
+    let n = at + 1 + count;
+    let g = part(f, Part::Body(at, tree::record::id(rs, 0), many));
+    let o = visit_body(classes, all, p, n, g, r, facts, captured, arguments, work);
+    let first = n;
+    let end = n + o;
     let d = Lambda { names, first, end };
-    close_lambda(
-        *all,
-        at,
-        d,
-        f.escape,
-        r,
-        *facts,
-        *captured,
-        *arguments,
-        *work,
-    );
+    let escape = f.escape;
+    steps::close_lambda(*all, at, d, escape, r, *facts, *captured, *arguments, *work);
     1 + count + o
 }
 
@@ -436,19 +324,17 @@ fn visit_list(
     arguments: &mut &mut [u32],
     work: &mut &mut [u32],
 ) -> usize
-    requires { ⌜ Fit (now (now classes)) (now (now all)) (now rs) at f (held (now r) (now (now facts)) (now (now captured)) (now (now arguments)) (now (now work))) × (nth (now (now all)) at .form ≡ 8) ⌝ }
-    ensures { λ n. ⌜ Done (now (now (classes .entry))) (now (now (all .entry))) (now (rs .entry)) at f (held (now (r .entry)) (now (now (facts .entry))) (now (now (captured .entry))) (now (now (arguments .entry))) (now (now (work .entry)))) n (held (now (r .exit)) (now (now (facts .exit))) (now (now (captured .exit))) (now (now (arguments .exit))) (now (now (work .exit)))) ⌝ }
-    ensures { λ _. ⌜ tables (now (facts .exit)) (now (captured .exit)) (now (arguments .exit)) (now (work .exit)) ≡ tables (now (facts .entry)) (now (captured .entry)) (now (arguments .entry)) (now (work .entry)) ⌝ }
+    requires { ⌜ MayVisit (lent classes all r facts captured arguments work) rs at f × (formAt all at ≡ 8) ⌝ }
+    ensures { λ n. ⌜ HasVisited (loan classes all r facts captured arguments work) rs at f n ⌝ }
 {
     let k = wide(tree::record::count(rs, 0)) - 1;
     let head = extent_at(*all, at + 1);
     let first = at + 1 + head;
-    let lambda = tree::record::form(*all, core_at(*all, at + 1)) == 6;
-    let start = 6 + 6 * head;
+    let lambda = tree::record::form(*all, core_at(*all, at + 1)) == LAMBDA;
     let a = visit_arguments(
         classes,
         all,
-        &rs[start..],
+        part_at(rs, 1 + head),
         k,
         first,
         part(f, Part::Argument),
@@ -458,20 +344,12 @@ fn visit_list(
         arguments,
         work,
     );
-    visit_part(
-        classes,
-        all,
-        &rs[6..],
-        at + 1,
-        part(f, Part::Head(lambda, narrow(k))),
-        r,
-        facts,
-        captured,
-        arguments,
-        work,
-    );
+    let p = part_at(rs, 1);
+    let n = at + 1;
+    let g = part(f, Part::Head(lambda, narrow(k)));
+    visit_part(classes, all, p, n, g, r, facts, captured, arguments, work);
     let lent = &mut **work;
-    close_call(*all, at, first, k, f.tail, f.counter, r, *facts, lent);
+    steps::close_call(*all, at, first, k, f.tail, f.counter, r, *facts, lent);
     1 + head + a
 }
 
@@ -487,26 +365,17 @@ fn visit_set(
     arguments: &mut &mut [u32],
     work: &mut &mut [u32],
 ) -> usize
-    requires { ⌜ Fit (now (now classes)) (now (now all)) (now rs) at f (held (now r) (now (now facts)) (now (now captured)) (now (now arguments)) (now (now work))) × (nth (now (now all)) at .form ≡ 9) ⌝ }
-    ensures { λ n. ⌜ Done (now (now (classes .entry))) (now (now (all .entry))) (now (rs .entry)) at f (held (now (r .entry)) (now (now (facts .entry))) (now (now (captured .entry))) (now (now (arguments .entry))) (now (now (work .entry)))) n (held (now (r .exit)) (now (now (facts .exit))) (now (now (captured .exit))) (now (now (arguments .exit))) (now (now (work .exit)))) ⌝ }
-    ensures { λ _. ⌜ tables (now (facts .exit)) (now (captured .exit)) (now (arguments .exit)) (now (work .exit)) ≡ tables (now (facts .entry)) (now (captured .entry)) (now (arguments .entry)) (now (work .entry)) ⌝ }
+    requires { ⌜ MayVisit (lent classes all r facts captured arguments work) rs at f × (formAt all at ≡ 9) ⌝ }
+    ensures { λ n. ⌜ HasVisited (loan classes all r facts captured arguments work) rs at f n ⌝ }
 {
     let noted = &mut **facts;
-    open_set(at + 1, r, noted);
-    let o = visit_part(
-        classes,
-        all,
-        &rs[12..],
-        at + 2,
-        part(f, Part::NotTail),
-        r,
-        facts,
-        captured,
-        arguments,
-        work,
-    );
-    close_set(tree::record::name(rs, 1), r, *facts, *work);
+    steps::open_set(at + 1, r, noted);
+    let p = part_at(rs, 2);
+    let n = at + 2;
+    let g = part(f, Part::NotTail);
+    let o = visit_part(classes, all, p, n, g, r, facts, captured, arguments, work);
+    steps::close_set(tree::record::name(rs, 1), r, *facts, *work);
     let lent = &mut **captured;
-    visit_atom(*classes, *all, 1, at + 1, r, *facts, lent, *work);
+    steps::visit_atom(*classes, *all, IDENTIFIER, at + 1, r, *facts, lent, *work);
     2 + o
 }

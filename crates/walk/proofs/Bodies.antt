@@ -5,15 +5,14 @@ use mathlib.Core.Bool.{Bool, true, false, _&&_, and-false, false≢true}
 use mathlib.Core.Path.{_≡_, refl, ap, ap₂, sym, subst, _∙_}
 use native.Mathlib.Omega.{arith}
 use lib.ListN.{length, getD}
-use Rattle.tree.specs.Record.{Record}
-use Rattle.tree.specs.RecordLaws.{nth}
+use Rattle.tree.specs.Record.{Record, nth}
 use Rattle.tree.specs.Tree.{Tree, Trees, ident, const, if, letin, define, lambda, sequence, call, set!, nil, cons, many, size}
 use Rattle.tree.specs.Core.{core, peel}
-use Rattle.tree.specs.CoreLaws.{by-peel}
-use Rattle.tree.specs.Parts.{own}
+use Rattle.tree.specs.Laws.Core.{by-peel}
+use Rattle.tree.specs.Laws.Parts.{own}
 use Rattle.tree.specs.Stands.{Stands, StandAll}
-use Rattle.tree.specs.StandsLaws.{root-form, ident-name, first-tree}
-use Rattle.tree.specs.StandsForms.{ident-of, CallOf, call-of, lambda-of}
+use Rattle.tree.specs.Laws.Stands.{root-form, ident-name, first-tree}
+use Rattle.tree.specs.Laws.Stands.Forms.{ident-of, CallOf, call-of, lambda-of}
 use Rattle.semantic.specs.Information.{NONE}
 use Rattle.pass.specs.Read.{isClass, isIdentOf, firstIsIdentOf, isBuiltin, alias}
 use Rattle.walk.specs.Contract.{SomeTree, SomeTreeOf, Reaches, TellsIdent, TellsBuiltin, bodyForm, TellsForm, TellsBody}

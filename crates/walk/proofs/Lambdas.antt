@@ -6,8 +6,7 @@ use mathlib.Core.Path.{_≡_, refl, ap, ap₂, sym, _∙_}
 use native.Mathlib.Omega.{arith}
 use borrow.Author.Tests.{eq-eqb, ne-eqb}
 use lib.Dec.{eqb}
-use Rattle.tree.specs.Record.{Record}
-use Rattle.tree.specs.RecordLaws.{nth}
+use Rattle.tree.specs.Record.{Record, nth}
 use Rattle.tree.specs.Tree.{Ident, Tree, Trees, ident, const, if, letin, define, lambda, sequence, call, set!, nil, cons, named, flat, flats, begins, ands, whens}
 use Rattle.pass.specs.Lambda.{holdsLambda, holdsLambdaIn}
 use Rattle.walk.specs.Contract.{SomeBody, HoldsLambda}

@@ -8,8 +8,7 @@ use borrow.Author.Tests.{eqb-true, eqb-false, eq-eqb, ne-eqb}
 use lib.ListN.{length, set}
 use lib.Seq.{getD-set-same, getD-set-other}
 use lib.Dec.{eqb}
-use Rattle.tree.specs.Record.{Record}
-use Rattle.tree.specs.RecordLaws.{nth}
+use Rattle.tree.specs.Record.{Record, nth}
 use Rattle.walk.specs.Bound.{isNamed, boundBy}
 use Rattle.walk.specs.Contract.{SomeBody, UsesName}
 use Rattle.walk.specs.Marks.{isMarked, Unmarked, MarksName, MarksNamed, MarksRecord, MarksUses}

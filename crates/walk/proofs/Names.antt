@@ -7,11 +7,10 @@ use native.Mathlib.Omega.{arith}
 use borrow.Author.Tests.{eq-eqb, ne-eqb}
 use lib.ListN.{length-map}
 use lib.Dec.{eqb}
-use Rattle.tree.specs.Record.{Record}
-use Rattle.tree.specs.RecordLaws.{nth}
+use Rattle.tree.specs.Record.{Record, nth}
 use Rattle.tree.specs.Tree.{Ident, named}
 use Rattle.tree.specs.Check.{member}
-use Rattle.tree.specs.StandsLaws.{names-inside}
+use Rattle.tree.specs.Laws.Stands.{names-inside}
 use Rattle.pass.specs.Lambda.{nameIn}
 use Rattle.walk.specs.Contract.{SomeNames, HoldsName}
 use Rattle.walk.specs.declared.uses.Names.{Names}

@@ -7,14 +7,13 @@ use native.Mathlib.Omega.{arith}
 use borrow.Author.Tests.{eqb-true, eq-eqb}
 use lib.Dec.{eqb}
 use lib.ListN.{length}
-use Rattle.tree.specs.Record.{Record, records}
-use Rattle.tree.specs.RecordLaws.{nth}
+use Rattle.tree.specs.Record.{Record, records, nth}
 use Rattle.tree.specs.Tree.{Tree, Trees, ident, const, if, letin, define, lambda, sequence, call, set!, nil, cons, begins, ands, whens, many, size}
 use Rattle.tree.specs.Core.{peel}
-use Rattle.tree.specs.Parts.{own}
+use Rattle.tree.specs.Laws.Parts.{own}
 use Rattle.tree.specs.Stands.{Stands, StandAll}
-use Rattle.tree.specs.StandsLaws.{root, first-tree}
-use Rattle.tree.specs.StandsForms.{and-of}
+use Rattle.tree.specs.Laws.Stands.{root, first-tree}
+use Rattle.tree.specs.Laws.Stands.Forms.{and-of}
 use Rattle.walk.specs.Contract.{SomeTree, Reaches}
 
 abbrev pub isAndOfOne : Record → Bool

@@ -5,9 +5,8 @@ use mathlib.Core.Bool.{Bool, true, false, _||_}
 use mathlib.Core.Path.{_≡_, refl, ap, ap₂, sym, _∙_}
 use native.Mathlib.Omega.{arith}
 use lib.ListN.{length}
-use Rattle.tree.specs.Record.{Record, records}
-use Rattle.tree.specs.RecordLaws.{nth}
-use Rattle.tree.specs.StandsLaws.{tree-inside}
+use Rattle.tree.specs.Record.{Record, records, nth}
+use Rattle.tree.specs.Laws.Stands.{tree-inside}
 use Rattle.walk.specs.Contract.{SomeBody}
 use Rattle.walk.proofs.Slice.{slice, slice-next}
 

@@ -6,12 +6,11 @@ use native.Mathlib.Omega.{arith}
 use native.Mathlib.Numerals.{add-one}
 use lib.ListN.{length, take, drop}
 use lib.Seq.{drop-cons, take-at}
-use Rattle.tree.specs.Record.{Record, records}
-use Rattle.tree.specs.RecordLaws.{blank, nth}
+use Rattle.tree.specs.Record.{Record, records, blank, nth}
 use Rattle.tree.specs.Tree.{Tree, flat, size}
-use Rattle.tree.specs.TreeLaws.{length-flat}
+use Rattle.tree.specs.Laws.Tree.{length-flat}
 use Rattle.tree.specs.Stands.{Within, Stands}
-use Rattle.tree.specs.WithinLaws.{records-at}
+use Rattle.tree.specs.Laws.Within.{records-at}
 
 abbrev pub slice : List ℕ → ℕ → ℕ → List Record
 slice rs p n = take n (drop p (records rs))

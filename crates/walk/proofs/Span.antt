@@ -9,16 +9,15 @@ use native.Mathlib.Nat.{zero-add, suc-add}
 use native.Mathlib.Numerals.{add-one}
 use lib.ListN.{length, drop, drop-of-length-le}
 use lib.Seq.{drop-cons}
-use Rattle.tree.specs.Record.{Record, records}
-use Rattle.tree.specs.RecordLaws.{blank, nth}
-use Rattle.tree.specs.Form.{formOf, namesOf, othersOf, childrenOf}
-use Rattle.tree.specs.Field.{isForm, fits-known}
+use Rattle.tree.specs.Record.{Record, records, blank, nth}
+use Rattle.tree.specs.Form.{formOf, namesOf, othersOf, childrenOf, isForm}
+use Rattle.tree.specs.Laws.Form.{fits-known}
 use Rattle.tree.specs.Tree.{Ident, Tree, Trees, nil, cons, many, named, flat, flats, size, sizes, Num, Nums}
-use Rattle.tree.specs.TreeLaws.{length-flat}
-use Rattle.tree.specs.Parts.{own, names, others, flat-with, size-own, num-own, Each, induct}
+use Rattle.tree.specs.Laws.Tree.{length-flat}
+use Rattle.tree.specs.Laws.Parts.{own, names, others, flat-with, size-own, num-own, Each, induct}
 use Rattle.tree.specs.Stands.{Stands}
-use Rattle.tree.specs.StandsLaws.{tree-inside, tree-few}
-use Rattle.tree.specs.WithinLaws.{records-at, fit-at}
+use Rattle.tree.specs.Laws.Stands.{tree-inside, tree-few}
+use Rattle.tree.specs.Laws.Within.{records-at, fit-at}
 use Rattle.walk.specs.Contract.{SomeTree, Extends}
 
 -- how many records are passed, k children being to come; a child that does not come counts as one

@@ -6,8 +6,7 @@ use mathlib.Core.Path.{_≡_, refl, ap, sym, subst, _∙_}
 use native.Mathlib.Omega.{arith}
 use lib.ListN.{length}
 use lib.Dec.{eqb}
-use Rattle.tree.specs.Record.{Record}
-use Rattle.tree.specs.RecordLaws.{nth}
+use Rattle.tree.specs.Record.{Record, nth}
 use Rattle.tree.specs.Form.{formOf, namesOf}
 use Rattle.tree.specs.Tree.{Ident, Tree, Trees, ident, const, if, letin, define, lambda, sequence, call, set!, nil, cons, named, flat, flats, begins, ands, whens}
 use Rattle.tree.specs.Check.{member}

@@ -1,4 +1,4 @@
 pub mod Bound
 pub mod Contract
 pub mod Marks
-pub mod Identifiers
+pub mod Laws

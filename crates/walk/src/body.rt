@@ -11,9 +11,8 @@ ghost use mathlib.Core.Bool.{false, _&&_};
 ghost use Prim.Native.Nat.{ℕ, _<_};
 ghost use lib.ListN.{length, getD};
 ghost use lib.Dec.{eqb};
-ghost use Rattle.tree.specs.Record.{records};
+ghost use Rattle.tree.specs.Record.{records, nth};
 ghost use Rattle.pass.specs.Read.{isClass};
-ghost use Rattle.tree.specs.RecordLaws.{nth};
 ghost use Rattle.walk.specs.Contract.{SomeTree, SomeTreeOf, Reaches, TellsIdent, TellsBuiltin, TellsForm, TellsBody};
 
 pub struct Body {

@@ -16,7 +16,7 @@ pub fn extent_at(all: &[u32], at: usize) -> usize
     i - at
 }
 
-// How far on the next tree starts, where so many are to come. Where none is, no record of this one is passed.
+// How far on the next tree starts, where so many are to come. Where none is, no record of this one is passed (docs/SPEED.md, 47).
 pub fn step_over(all: &[u32], at: usize, left: usize) -> usize
     requires { ⌜ SomeTree (now all) at ⌝ }
     ensures { λ r. ⌜ StepsOver (now (all .entry)) at left r ⌝ }

@@ -8,16 +8,16 @@ use lib.Seq.{getD-take, getD-drop}
 use Rattle.table.specs.Layout.{layout, set-layout}
 use Rattle.table.specs.Leaves.{tells-first}
 use Rattle.table.specs.Region.{region}
-use Rattle.table.specs.RegionLaws.{set-region, set-elsewhere}
-use Rattle.semantic.specs.Rows.{noItem}
-use Rattle.pass.specs.Run.{itemsMost}
+use Rattle.table.specs.Laws.Region.{set-region, set-elsewhere}
+use Rattle.semantic.specs.Rows.{noListEntry}
+use Rattle.pass.specs.Run.{listEntriesMost}
 use Rattle.work.specs.Coded.{putBinder}
 use Rattle.work.specs.Works.{workLong, bindersFirst, bindersLength}
-use Rattle.work.specs.WorksLaws.{captured-many}
+use Rattle.work.specs.Laws.Works.{captured-many}
 use Rattle.work.specs.Captures.{TellsBinder, StoresBinder}
 use Rattle.work.proofs.Changes.{binders-changed}
 
-module _ (w : List ℕ) (r : ℕ) (h : r < itemsMost) where
+module _ (w : List ℕ) (r : ℕ) (h : r < listEntriesMost) where
   pub tells-binder : {b : ℕ} → b ≡ getD w (bindersFirst + r) 0 → TellsBinder w r b
   tells-binder e = record {
     is = λ p s k.
@@ -27,7 +27,7 @@ module _ (w : List ℕ) (r : ℕ) (h : r < itemsMost) where
         ∙ sym (getD-drop bindersFirst w r 0)
         ∙ sym (getD-take bindersLength (drop bindersFirst w) r 0 (omega arith))
         ∙ ap (λ (j : ℕ). getD t j 0) z
-        ∙ tells-first 1 putBinder (λ i. refl) noItem t r (omega arith) .is (s .facts .captured) (k .binders) (omega (arith, captured-many k));
+        ∙ tells-first 1 putBinder (λ i. refl) noListEntry t r (omega arith) .is (s .facts .captured) (k .binders) (omega (arith, captured-many k));
   }
 
   pub stores-binder : {b v : ℕ} → length w ≡ workLong → v ≡ b → StoresBinder w r b (set w (bindersFirst + r) v)
@@ -40,6 +40,6 @@ module _ (w : List ℕ) (r : ℕ) (h : r < itemsMost) where
             (set-region w bindersFirst bindersLength i r v h
             ∙ ap (λ (m : List ℕ). set m r v) (k .binders)
             ∙ ap (λ (j : ℕ). set (layout putBinder (s .facts .captured)) j v) z
-            ∙ set-layout 1 putBinder (λ i. refl) (s .facts .captured) r 0 v x noItem (omega (arith, captured-many k)) (omega arith)
+            ∙ set-layout 1 putBinder (λ i. refl) (s .facts .captured) r 0 v x noListEntry (omega (arith, captured-many k)) (omega arith)
             (ap (λ (n : ℕ). n ∷ []) (q ∙ sym e)));
       }

@@ -9,18 +9,18 @@ use borrow.Author.Tests.{ltb-true, ltb-false}
 use lib.ListN.{length}
 use lib.Dec.{eqb, ltb}
 use Rattle.table.specs.Region.{region}
-use Rattle.table.specs.RegionLaws.{Elsewhere}
+use Rattle.table.specs.Laws.Region.{Elsewhere}
 use Rattle.scope_map.specs.ScopeMap.{ScopeMap, Live, isAt, replaceIn, belowLayer, getIn, popLayer, hasAtTop, define}
-use Rattle.scope_map.specs.SizeLaws.{replace-size}
-use Rattle.scope_map.specs.MapLaws.{mapValue, mapLive, map-length}
-use Rattle.scope_map.specs.RowLaws.{place-below}
+use Rattle.scope_map.specs.Laws.Size.{replace-size}
+use Rattle.scope_map.specs.Laws.Map.{mapValue, mapLive, map-length}
+use Rattle.scope_map.specs.Laws.Rows.{place-below}
 use Rattle.scope_map.specs.Held.{foundIn, placeIn}
 use Rattle.scope_map.specs.declared.Found.the-variants.{At}
 use Rattle.pass.specs.State.{Capture}
 use Rattle.pass.specs.Read.{usedCapture, useIn}
-use Rattle.work.specs.Coded.{takenWidth}
-use Rattle.work.specs.Works.{rowOf, TakenAt, TakenIn}
-use Rattle.work.specs.CapturesLaws.{found-below}
+use Rattle.work.specs.Coded.{captureWidth}
+use Rattle.work.specs.Works.{rowOf, CaptureAt, TakenIn}
+use Rattle.work.specs.Laws.Captures.{found-below}
 
 -- The newest layer goes
 
@@ -42,15 +42,15 @@ taken-pop t m h = pick (ltb 1 (m .depth))
 
 -- Row i is written
 
-module _ (t t′ : List ℕ) (i : ℕ) (e : Elsewhere (takenWidth * i) takenWidth t t′) where
-  under : (j : ℕ) → j < i → region t′ (takenWidth * j) takenWidth ≡ region t (takenWidth * j) takenWidth
-  under j h = e .before (takenWidth * j) takenWidth (omega arith)
+module _ (t t′ : List ℕ) (i : ℕ) (e : Elsewhere (captureWidth * i) captureWidth t t′) where
+  under : (j : ℕ) → j < i → region t′ (captureWidth * j) captureWidth ≡ region t (captureWidth * j) captureWidth
+  under j h = e .before (captureWidth * j) captureWidth (omega arith)
 
-  over : (j : ℕ) → i < j → region t′ (takenWidth * j) takenWidth ≡ region t (takenWidth * j) takenWidth
-  over j h = e .after (takenWidth * j) takenWidth (omega arith)
+  over : (j : ℕ) → i < j → region t′ (captureWidth * j) captureWidth ≡ region t (captureWidth * j) captureWidth
+  over j h = e .after (captureWidth * j) captureWidth (omega arith)
 
-  moved : {j k : ℕ} {c : Capture} → j ≡ k → region t′ (takenWidth * k) takenWidth ≡ region t (takenWidth * k) takenWidth → TakenAt t k c → TakenAt t′ j c
-  moved z q h = record { row = ap (λ (j : ℕ). region t′ (takenWidth * j) takenWidth) z ∙ q ∙ h .row; small = h .small }
+  moved : {j k : ℕ} {c : Capture} → j ≡ k → region t′ (captureWidth * k) captureWidth ≡ region t (captureWidth * k) captureWidth → CaptureAt t k c → CaptureAt t′ j c
+  moved z q h = record { row = ap (λ (j : ℕ). region t′ (captureWidth * j) captureWidth) z ∙ q ∙ h .row; small = h .small }
 
   -- captures in the rows before it
   taken-older : (l : List (Live Capture)) → length l ≤ i → TakenIn t l → TakenIn t′ l
@@ -58,10 +58,10 @@ module _ (t t′ : List ℕ) (i : ℕ) (e : Elsewhere (takenWidth * i) takenWidt
   taken-older [] h k = k
   taken-older (c ∷ l) h k = (moved refl (under (length l) (omega arith)) (k .0), taken-older l (omega arith) (k .1))
 
-  module _ (d x : ℕ) (c : Capture) (r : TakenAt t′ i c) where
+  module _ (d x : ℕ) (c : Capture) (r : CaptureAt t′ i c) where
     taken-new : (l : List (Live Capture)) → length l ≡ i → TakenIn t l → TakenIn t′ (record { name = x; layer = d; value = c } ∷ l)
     unfolding TakenIn
-    taken-new l z k = (subst (λ (j : ℕ). TakenAt t′ j c) (sym z) r, taken-older l (omega arith) k)
+    taken-new l z k = (subst (λ (j : ℕ). CaptureAt t′ j c) (sym z) r, taken-older l (omega arith) k)
 
     taken-replace : (n : ℕ) (l : List (Live Capture)) → placeIn d x n (mapLive rowOf l) ≡ i → i < n → TakenIn t l → TakenIn t′ (replaceIn d x c l)
     unfolding TakenIn replaceIn placeIn mapLive
@@ -108,23 +108,23 @@ use-rows x (e ∷ l) = pick (eqb (e .name) x) (use-rows x l)
     pick true r = refl
     pick false r = ap (λ (k : List (Live ℕ)). mapValue rowOf e ∷ k) r
 
-module _ (t t′ : List ℕ) (i x : ℕ) (e : Elsewhere (takenWidth * i) takenWidth t t′) where
+module _ (t t′ : List ℕ) (i x : ℕ) (e : Elsewhere (captureWidth * i) captureWidth t t′) where
   pub taken-use : (l : List (Live Capture)) {d v : ℕ} → foundIn (mapLive rowOf l) x ≡ At i d v
-      → ((c : Live Capture) → getIn l x ≡ some c → TakenAt t′ i (usedCapture (c .value)))
+      → ((c : Live Capture) → getIn l x ≡ some c → CaptureAt t′ i (usedCapture (c .value)))
       → TakenIn t l → TakenIn t′ (useIn x l)
   unfolding TakenIn useIn foundIn getIn mapLive
   taken-use [] q r k = k
   taken-use (a ∷ l) {d} {v} q r k = pick (eqb (a .name) x) q r (λ q r. taken-use l q r (k .1))
     where
       pick : (b : Bool) → cond b (At (length (mapLive rowOf l)) (a .layer) (a .value .row)) (foundIn (mapLive rowOf l) x) ≡ At i d v
-          → ((c : Live Capture) → cond b (some a) (getIn l x) ≡ some c → TakenAt t′ i (usedCapture (c .value)))
+          → ((c : Live Capture) → cond b (some a) (getIn l x) ≡ some c → CaptureAt t′ i (usedCapture (c .value)))
           → (foundIn (mapLive rowOf l) x ≡ At i d v
-          → ((c : Live Capture) → getIn l x ≡ some c → TakenAt t′ i (usedCapture (c .value)))
+          → ((c : Live Capture) → getIn l x ≡ some c → CaptureAt t′ i (usedCapture (c .value)))
           → TakenIn t′ (useIn x l))
           → TakenIn t′ (cond b (record { name = a .name; layer = a .layer; value = usedCapture (a .value) } ∷ l) (a ∷ useIn x l))
       pick true q r f =
           let z : length l ≡ i = sym (map-length rowOf l) ∙ cc in
-          (subst (λ (j : ℕ). TakenAt t′ j (usedCapture (a .value))) (sym z) (r a refl), taken-older t t′ i e l (omega arith) (k .1))
+          (subst (λ (j : ℕ). CaptureAt t′ j (usedCapture (a .value))) (sym z) (r a refl), taken-older t t′ i e l (omega arith) (k .1))
       pick false q r f =
           let s = found-below l x q in
           (moved t t′ i e (use-size x l) (over t t′ i e (length l) s) (k .0), f q r)

@@ -9,7 +9,7 @@ use Rattle.pass.specs.State.{State, orKept, noteNine, noteTen, noteSecond}
 use Rattle.pass.specs.Read.{noteLive}
 use Rattle.work.specs.Coded.{placeIn, notedOf, refusalAt, numberedIn, secondOf}
 use Rattle.work.specs.Works.{Beside, besidePass, Works}
-use Rattle.work.specs.WorksKept.{noting, works-as, second-kept}
+use Rattle.work.specs.Laws.Kept.{noting, works-as, second-kept}
 use Rattle.work.specs.Passes.{withNotes}
 use Rattle.work.specs.Leaves.{Becomes}
 use Rattle.work.specs.declared.Pass.{Pass}

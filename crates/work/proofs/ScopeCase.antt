@@ -9,15 +9,14 @@ use lib.ListN.{length, getD, take, drop}
 use lib.Seq.{drop-cons, take-suc}
 use lib.Dec.{eqb, ltb}
 use Rattle.table.specs.Region.{region, replaced}
-use Rattle.table.specs.RegionLaws.{Elsewhere, replaced-region, replaced-elsewhere}
-use Rattle.tree.specs.Record.{Record, records}
-use Rattle.tree.specs.RecordLaws.{nth}
+use Rattle.table.specs.Laws.Region.{Elsewhere, replaced-region, replaced-elsewhere}
+use Rattle.tree.specs.Record.{Record, records, nth}
 use Rattle.tree.specs.Tree.{Ident}
 use Rattle.scope_map.specs.ScopeMap.{ScopeMap, Live, layerIn, belowLayer, get, hasAtTop, define}
-use Rattle.scope_map.specs.SizeLaws.{below-size}
-use Rattle.scope_map.specs.MapLaws.{mapValue, mapValues, map-length, map-getD, map-get, map-hasAtTop, map-define, map-belowLayer}
+use Rattle.scope_map.specs.Laws.Size.{below-size}
+use Rattle.scope_map.specs.Laws.Map.{mapValue, mapValues, map-length, map-getD, map-get, map-hasAtTop, map-define, map-belowLayer}
 use Rattle.scope_map.specs.Rows.{rowAt, liveOf}
-use Rattle.scope_map.specs.RowLaws.{length-liveIn, live-row}
+use Rattle.scope_map.specs.Laws.Rows.{length-liveIn, live-row}
 use Rattle.scope_map.specs.Hints.{Roomy}
 use Rattle.scope_map.specs.Held.{entryOf, Gets, Places, DefinesAt, Starts}
 use Rattle.scope_map.specs.Held as map
@@ -26,15 +25,15 @@ use Rattle.scope_map.specs.declared.Found.{Found}
 use Rattle.scope_map.specs.declared.Found.the-variants as found
 use Rattle.scope_map.specs.declared.Row.{Row}
 use Rattle.semantic.specs.Information.{NONE}
-use Rattle.semantic.specs.Rows.{noItem}
+use Rattle.semantic.specs.Rows.{noListEntry}
 use Rattle.pass.specs.State.{State, withNames, idOf, binderIn, newest, depth}
 use Rattle.work.specs.Coded.{recordIn, recordOf}
 use Rattle.work.specs.Works.{scopeLength, recordAt, Works, Spacious}
-use Rattle.work.specs.WorksLaws.{part-length, names-many, depth-is}
+use Rattle.work.specs.Laws.Works.{part-length, names-many, depth-is}
 use Rattle.work.specs.Passes.{inScope}
 use Rattle.work.specs.Leaves.{Becomes, Tells}
 use Rattle.work.specs.Scope.{BindersKnown, KnownHere, TellsId, isLiveRow, Defines, since, LiveRow, TellsLive, StartsLayer}
-use Rattle.work.specs.ScopeLaws.{KnownAt, newest-known}
+use Rattle.work.specs.Laws.Scope.{KnownAt, newest-known}
 use Rattle.work.specs.declared.Pass.{Pass}
 use Rattle.work.specs.declared.scope.Binder.{Binder}
 use Rattle.work.specs.declared.scope.Binder.the-variants as binder
@@ -158,7 +157,7 @@ module _ {p : Pass} {w : List ℕ} where
 -- The live name in a row
 
 anyone : Live Ident
-anyone = record { name = 0; layer = 0; value = noItem .binder }
+anyone = record { name = 0; layer = 0; value = noListEntry .binder }
 
 live-at : (l : List (Live Ident)) (i : ℕ) (r : Row) → i < length l → liveOf r ≡ mapValue recordAt (getD l (length l - suc i) anyone) → LiveRow l i r
 live-at l i r h e =

@@ -6,11 +6,11 @@ use mathlib.Core.Path.{_≡_, refl}
 use lib.ListN.{length}
 use Rattle.tree.specs.Tree.{Ident, bit}
 use Rattle.tree.specs.Check.{Refusal}
-use Rattle.semantic.specs.Rows.{Item}
+use Rattle.semantic.specs.Rows.{ListEntry}
 use Rattle.pass.specs.State.{Entry, Capture}
 use Rattle.pass.specs.Run.{rowsMost}
 use Rattle.work.specs.declared.entries.Entry.{Entry as Coded}
-use Rattle.work.specs.declared.captures.Taken.{Taken}
+use Rattle.work.specs.declared.captures.Capture.{Capture as CodedCapture}
 use Rattle.work.specs.declared.Noted.{Noted}
 use Rattle.work.specs.declared.Second.{Second}
 use Rattle.work.specs.declared.scope.Binder.{Binder}
@@ -45,22 +45,22 @@ pub entry-long : (e : Entry) → length (putEntryRow e) ≡ entryWidth
 unfolding putCoded
 entry-long e = refl
 
-abbrev pub takenOf : Capture → Taken
-takenOf c = record { binder = c .binder .at; id = c .binder .id; uses = c .usageCount; enclosing = c .fromEnclosing }
+abbrev pub captureOf : Capture → CodedCapture
+captureOf c = record { binder = c .binder .at; id = c .binder .id; uses = c .usageCount; enclosing = c .fromEnclosing }
 
-abbrev pub takenWidth : ℕ
-takenWidth = 2
+abbrev pub captureWidth : ℕ
+captureWidth = 2
 
-unfoldable pub putTaken : Taken → List ℕ
-putTaken t = t .id ∷ (t .binder + rowsMost * (2 * t .uses + bit (t .enclosing))) ∷ []
+unfoldable pub putCapture : CodedCapture → List ℕ
+putCapture t = t .id ∷ (t .binder + rowsMost * (2 * t .uses + bit (t .enclosing))) ∷ []
 
 -- all but the id have room in one number
-pub record Packable (t : Taken) : Type 0 where
+pub record Packable (t : CodedCapture) : Type 0 where
   pub binder : t .binder < rowsMost
   pub uses : t .uses < 524288
 
 -- of a captured entry, its binder's record
-abbrev pub putBinder : Item → List ℕ
+abbrev pub putBinder : ListEntry → List ℕ
 putBinder i = i .binder .at ∷ []
 
 -- Options

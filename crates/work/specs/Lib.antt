@@ -1,5 +1,4 @@
 pub mod Known
-pub mod KnownLaws
 pub mod Coded
 pub mod Works
 pub mod Passes
@@ -7,10 +6,5 @@ pub mod Entries
 pub mod Leaves
 pub mod Scope
 pub mod Captures
-pub mod WorksLaws
-pub mod ScopeLaws
-pub mod WorksKept
-pub mod CapturesLaws
 pub mod Tied
-pub mod TiedLaws
-pub mod GoodLaws
+pub mod Laws

@@ -4,9 +4,9 @@ use mathlib.Core.List.{List}
 use mathlib.Core.Path.{_≡_}
 use Rattle.table.specs.Layout.{layout}
 use Rattle.tree.specs.Tree.{Ident}
-use Rattle.semantic.specs.Rows.{putRow, putItem}
+use Rattle.semantic.specs.Rows.{putRow, putListEntry}
 use Rattle.pass.specs.State.{State}
-use Rattle.pass.specs.Visitable as visitable
+use Rattle.pass_laws.specs.Visitable as visitable
 use Rattle.work.specs.Known.{Known}
 use Rattle.work.specs.Works.{Works}
 use Rattle.work.specs.declared.Pass.{Pass}
@@ -24,8 +24,8 @@ raw p f c a w = record { pass = p; facts = f; captured = c; arguments = a; work 
 
 pub record Tied (z : Raw) (s : State) : Type 0 where
   pub facts : z .facts ≡ layout putRow (s .facts .rows)
-  pub captured : z .captured ≡ layout putItem (s .facts .captured)
-  pub arguments : z .arguments ≡ layout putItem (s .facts .arguments)
+  pub captured : z .captured ≡ layout putListEntry (s .facts .captured)
+  pub arguments : z .arguments ≡ layout putListEntry (s .facts .arguments)
   pub works : Works (z .pass) (z .work) s
 
 -- the identifiers are the tree's

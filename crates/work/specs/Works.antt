@@ -9,12 +9,12 @@ use Rattle.table.specs.Region.{region}
 use Rattle.tree.specs.Tree.{Ident}
 use Rattle.tree.specs.Check.{Refusal}
 use Rattle.scope_map.specs.ScopeMap.{Live}
-use Rattle.scope_map.specs.MapLaws.{mapValues}
+use Rattle.scope_map.specs.Laws.Map.{mapValues}
 use Rattle.scope_map.specs.Hints.{rowsLength, mapLength}
 use Rattle.scope_map.specs.Held.{Held}
 use Rattle.pass.specs.State.{State, Capture}
 use Rattle.pass.specs.Run.{rowsMost}
-use Rattle.work.specs.Coded.{putEntryRow, takenOf, takenWidth, putTaken, putBinder, notedOf, secondOf}
+use Rattle.work.specs.Coded.{putEntryRow, captureOf, captureWidth, putCapture, putBinder, notedOf, secondOf}
 use Rattle.work.specs.declared.Pass.{Pass}
 
 -- Which numbers of the work table are what: the first of each part, and how many
@@ -34,11 +34,11 @@ capturesFirst = 33792
 abbrev pub capturesLength : ℕ
 capturesLength = mapLength
 
-abbrev pub takenFirst : ℕ
-takenFirst = 47104
+abbrev pub captureDataFirst : ℕ
+captureDataFirst = 47104
 
-abbrev pub takenLength : ℕ
-takenLength = 8192
+abbrev pub captureDataLength : ℕ
+captureDataLength = 8192
 
 abbrev pub bindersFirst : ℕ
 bindersFirst = 55296
@@ -56,14 +56,14 @@ abbrev pub rowOf : Capture → ℕ
 rowOf c = c .row
 
 -- what is known of a capture stands in row i, from which it can be read back
-pub record TakenAt (t : List ℕ) (i : ℕ) (c : Capture) : Type 0 where
-  pub row : region t (takenWidth * i) takenWidth ≡ putTaken (takenOf c)
+pub record CaptureAt (t : List ℕ) (i : ℕ) (c : Capture) : Type 0 where
+  pub row : region t (captureWidth * i) captureWidth ≡ putCapture (captureOf c)
   pub small : c .binder .at < rowsMost
 
 -- the captures stand in rows, the oldest first
 unfoldable pub TakenIn : List ℕ → List (Live Capture) → Type 0
 TakenIn t [] = Unit {0}
-TakenIn t (c ∷ l) = TakenAt t (length l) (c .value) × TakenIn t l
+TakenIn t (c ∷ l) = CaptureAt t (length l) (c .value) × TakenIn t l
 
 -- what is threaded beside the table, by the code and by the state
 pub record Beside : Type 0 where
@@ -99,7 +99,7 @@ pub record Works (p : Pass) (w : List ℕ) (s : State) : Type 0 where
   pub names : Held (p .scope) (region w 0 scopeLength) (mapValues recordAt (s .scope .names))
   pub entries : region w entriesFirst entriesLength ≡ layout putEntryRow (s .scope .entries)
   pub captures : Held (p .captures) (region w capturesFirst capturesLength) (mapValues rowOf (s .captures))
-  pub taken : TakenIn (region w takenFirst takenLength) (s .captures .live)
+  pub taken : TakenIn (region w captureDataFirst captureDataLength) (s .captures .live)
   pub binders : region w bindersFirst bindersLength ≡ layout putBinder (s .facts .captured)
   pub beside : besidePass p ≡ besideState s
 

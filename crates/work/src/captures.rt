@@ -14,45 +14,26 @@ ghost use lib.ListN.{length, getD};
 ghost use Rattle.table.specs.Region.{region};
 ghost use Rattle.scope_map.specs.Hints.{rowsLength};
 ghost use Rattle.scope_map.specs.Held.{Places};
-ghost use Rattle.pass.specs.Run.{itemsMost};
+ghost use Rattle.pass.specs.Run.{listEntriesMost};
 ghost use Rattle.pass.specs.Lambda.{closeCaptures};
-ghost use Rattle.work.specs.Coded.{Packable, putTaken};
-ghost use Rattle.work.specs.Works.{Spacious, workLong, capturesFirst, capturesLength, takenFirst};
+ghost use Rattle.work.specs.Coded.{Packable};
+ghost use Rattle.work.specs.Works.{Spacious, workLong, capturesFirst, capturesLength, captureDataFirst};
 ghost use Rattle.work.specs.Leaves.{Becomes};
-ghost use Rattle.work.specs.Captures.{takenIn, opened, GetsCapture, LoadsTaken, UsesCapture, DefinesRow, takenPut, DefinesCapture, TellsBinder, StoresBinder};
+ghost use Rattle.work.specs.Captures.{opened, GetsCapture, LoadsCapture, UsesCapture, DefinesRow, capturePut, DefinesCapture, TellsBinder, StoresBinder};
 
 // A record's number is below this.
 const RECORDS: u32 = 4096;
 
+// What is known of a capture is so many numbers.
+const TAKEN_ROW: usize = 2;
+
 // What is known of a capture beside the row that it stands for: the record and the id of its binder, its uses, and whether the lambda
 // around takes the name too.
-pub struct Taken {
+pub struct Capture {
     pub binder: u32,
     pub id: u32,
     pub uses: u32,
     pub enclosing: bool,
-}
-
-// All but the id are one number.
-fn taken_row(t: Taken) -> [u32; 2]
-    requires { ⌜ Packable t ⌝ }
-    ensures { λ r. ⌜ r ≡ putTaken t ⌝ }
-{
-    let rest = 2 * t.uses + t.enclosing as u32;
-    [t.id, t.binder + RECORDS * rest]
-}
-
-fn taken_of(row: [u32; 2]) -> Taken
-    ensures { λ r. ⌜ r ≡ takenIn row ⌝ }
-{
-    let last = row[1];
-    let rest = last / RECORDS;
-    Taken {
-        binder: last % RECORDS,
-        id: row[0],
-        uses: rest / 2,
-        enclosing: rest % 2 == 1,
-    }
 }
 
 // The newest capture of the name: its place, its layer, and its row of the captured entries.
@@ -66,24 +47,28 @@ pub fn newest_capture(p: Pass, work: &[u32], name: u32) -> Found
     captures.get(&work[start..end], name)
 }
 
-pub fn load_taken(work: &[u32], place: usize) -> Taken
-    requires { ⌜ (length (now work) ≡ workLong) × (place < itemsMost) ⌝ }
-    ensures { λ r. ⌜ LoadsTaken (now (work .entry)) place r ⌝ }
+pub fn load_capture(work: &[u32], place: usize) -> Capture
+    requires { ⌜ (length (now work) ≡ workLong) × (place < listEntriesMost) ⌝ }
+    ensures { λ r. ⌜ LoadsCapture (now (work .entry)) place r ⌝ }
 {
-    let start = TAKEN;
-    let end = BINDERS;
-    let part = &work[start..end];
-    let mut row = [0; 2];
-    table::get(part, 2 * place, &mut row);
-    taken_of(row)
+    let mut row = [0; TAKEN_ROW];
+    table::get(work, TAKEN + TAKEN_ROW * place, &mut row);
+    let last = row[1];
+    let rest = last / RECORDS;
+    Capture {
+        binder: last % RECORDS,
+        id: row[0],
+        uses: rest / 2,
+        enclosing: rest % 2 == 1,
+    }
 }
 
 // One use more of the capture at the place.
 pub fn use_capture(work: &mut [u32], place: usize)
-    requires { ⌜ (length (now work) ≡ workLong) × (place < itemsMost) × (getD (now work) (takenFirst + 2 * place + 1) 0 < 4294959104) ⌝ }
+    requires { ⌜ (length (now work) ≡ workLong) × (place < listEntriesMost) × (getD (now work) (captureDataFirst + 2 * place + 1) 0 < 4294959104) ⌝ }
     ensures { λ _. ⌜ UsesCapture (now (work .entry)) place (now (work .exit)) ⌝ }
 {
-    let i = TAKEN + 2 * place + 1;
+    let i = TAKEN + TAKEN_ROW * place + 1;
     work[i] = work[i] + 2 * RECORDS;
 }
 
@@ -100,7 +85,7 @@ fn capture_place(p: Pass, work: &[u32], name: u32) -> usize
 
 // The map alone: what is known of the capture is not written yet.
 fn define_row(p: Pass, work: &mut [u32], name: u32, r: usize) -> Pass
-    requires { ⌜ Spacious p (now work) × (3 * p .captures .length + 3 ≤ rowsLength) × (r < itemsMost) ⌝ }
+    requires { ⌜ Spacious p (now work) × (3 * p .captures .length + 3 ≤ rowsLength) × (r < listEntriesMost) ⌝ }
     ensures { λ q. ⌜ DefinesRow p (now (work .entry)) name r q (now (work .exit)) ⌝ }
 {
     let captures = p.captures;
@@ -113,24 +98,24 @@ fn define_row(p: Pass, work: &mut [u32], name: u32, r: usize) -> Pass
     q
 }
 
-fn put_taken(work: &mut [u32], place: usize, t: Taken)
-    requires { ⌜ (length (now work) ≡ workLong) × (place < itemsMost) × Packable t ⌝ }
-    ensures { λ _. ⌜ now (work .exit) ≡ takenPut (now (work .entry)) place t ⌝ }
+// All but the id are one number.
+fn put_capture(work: &mut [u32], place: usize, t: Capture)
+    requires { ⌜ (length (now work) ≡ workLong) × (place < listEntriesMost) × Packable t ⌝ }
+    ensures { λ _. ⌜ now (work .exit) ≡ capturePut (now (work .entry)) place t ⌝ }
 {
-    let row = taken_row(t);
-    let start = TAKEN;
-    let end = BINDERS;
-    table::put(&mut work[start..end], 2 * place, &row);
+    let rest = 2 * t.uses + t.enclosing as u32;
+    let row = [t.id, t.binder + RECORDS * rest];
+    table::put(work, TAKEN + TAKEN_ROW * place, &row);
 }
 
 // The captured entry in row r is the name's newest capture.
-pub fn define_capture(p: Pass, work: &mut [u32], name: u32, r: usize, t: Taken) -> Pass
-    requires { ⌜ Spacious p (now work) × (3 * p .captures .length + 3 ≤ rowsLength) × (r < itemsMost) × Packable t ⌝ }
+pub fn define_capture(p: Pass, work: &mut [u32], name: u32, r: usize, t: Capture) -> Pass
+    requires { ⌜ Spacious p (now work) × (3 * p .captures .length + 3 ≤ rowsLength) × (r < listEntriesMost) × Packable t ⌝ }
     ensures { λ q. ⌜ DefinesCapture p (now (work .entry)) name r t q (now (work .exit)) ⌝ }
 {
     let place = capture_place(p, work, name);
     let q = define_row(p, work, name, r);
-    put_taken(work, place, t);
+    put_capture(work, place, t);
     q
 }
 
@@ -160,14 +145,14 @@ pub fn close_captures(p: Pass, work: &mut [u32]) -> Pass
 
 // The binder's record of the captured entry in row r.
 pub fn binder_at(work: &[u32], r: usize) -> usize
-    requires { ⌜ (length (now work) ≡ workLong) × (r < itemsMost) ⌝ }
+    requires { ⌜ (length (now work) ≡ workLong) × (r < listEntriesMost) ⌝ }
     ensures { λ b. ⌜ TellsBinder (now (work .entry)) r b ⌝ }
 {
     wide(work[BINDERS + r])
 }
 
 pub fn set_binder(work: &mut [u32], r: usize, b: usize)
-    requires { ⌜ (length (now work) ≡ workLong) × (r < itemsMost) × (b < 4294967296) ⌝ }
+    requires { ⌜ (length (now work) ≡ workLong) × (r < listEntriesMost) × (b < 4294967296) ⌝ }
     ensures { λ _. ⌜ StoresBinder (now (work .entry)) r b (now (work .exit)) ⌝ }
 {
     let value = narrow(b);

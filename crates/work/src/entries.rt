@@ -1,5 +1,4 @@
 // What is known of live names, by the binder's record.
-use crate::CAPTURES;
 use crate::ENTRIES;
 use crate::ENTRY;
 use crate::narrow;
@@ -9,9 +8,9 @@ ghost use Prim.Native.Nat.{_<_};
 ghost use lib.ListN.{length};
 ghost use Rattle.pass.specs.State.{topLevelEntry, localEntry, heapEntry};
 ghost use Rattle.pass.specs.Run.{rowsMost};
-ghost use Rattle.work.specs.Coded.{coded, putCoded};
+ghost use Rattle.work.specs.Coded.{coded};
 ghost use Rattle.work.specs.Works.{workLong};
-ghost use Rattle.work.specs.Entries.{entryOf, usedMore, usedLast, nowCaptured, nowMutated};
+ghost use Rattle.work.specs.Entries.{usedMore, usedLast, nowCaptured, nowMutated};
 ghost use Rattle.work.specs.Leaves.{LoadsEntry, StoresEntry};
 
 pub struct Entry {
@@ -101,22 +100,12 @@ impl Entry {
     }
 }
 
-fn entry_row(e: Entry) -> [u32; ENTRY]
-    requires { ⌜ e .uses < 536870912 ⌝ }
-    ensures { λ r. ⌜ r ≡ putCoded e ⌝ }
+pub fn load_entry(work: &[u32], at: usize) -> Entry
+    requires { ⌜ (length (now work) ≡ workLong) × (at < rowsMost) ⌝ }
+    ensures { λ r. ⌜ LoadsEntry (now (work .entry)) at r ⌝ }
 {
-    [
-        e.captured as u32 + 2 * (e.mutated as u32) + 4 * e.uses,
-        e.last,
-        e.slot,
-        e.heap,
-        e.depth,
-    ]
-}
-
-fn entry_of(row: [u32; ENTRY]) -> Entry
-    ensures { λ r. ⌜ r ≡ entryOf row ⌝ }
-{
+    let mut row = [0; ENTRY];
+    table::get(work, ENTRIES + ENTRY * at, &mut row);
     let first = row[0];
     Entry {
         captured: first % 2 == 1,
@@ -129,24 +118,16 @@ fn entry_of(row: [u32; ENTRY]) -> Entry
     }
 }
 
-pub fn load_entry(work: &[u32], at: usize) -> Entry
-    requires { ⌜ (length (now work) ≡ workLong) × (at < rowsMost) ⌝ }
-    ensures { λ r. ⌜ LoadsEntry (now (work .entry)) at r ⌝ }
-{
-    let start = ENTRIES;
-    let end = CAPTURES;
-    let part = &work[start..end];
-    let mut row = [0; ENTRY];
-    table::get(part, ENTRY * at, &mut row);
-    entry_of(row)
-}
-
 pub fn store_entry(work: &mut [u32], at: usize, e: Entry)
     requires { ⌜ (length (now work) ≡ workLong) × (at < rowsMost) × (e .uses < 536870912) ⌝ }
     ensures { λ _. ⌜ StoresEntry (now (work .entry)) at e (now (work .exit)) ⌝ }
 {
-    let row = entry_row(e);
-    let start = ENTRIES;
-    let end = CAPTURES;
-    table::put(&mut work[start..end], ENTRY * at, &row);
+    let row = [
+        e.captured as u32 + 2 * (e.mutated as u32) + 4 * e.uses,
+        e.last,
+        e.slot,
+        e.heap,
+        e.depth,
+    ];
+    table::put(work, ENTRIES + ENTRY * at, &row);
 }

@@ -31,7 +31,7 @@ pub const BINDERS: usize = 55296;
 
 pub const WORK: usize = 59392;
 
-// The record of a refusal's first place, counted from 1; 0 where nothing is noted.
+// The record of a refusal's first place, counted from 1; 0 where nothing is noted. No enum, here and in the next (docs/SPEED.md, 24).
 pub struct Noted {
     pub code: usize,
 }

@@ -1,6 +1,6 @@
 -- `answer_of`: each check's number and record.
 use mathlib.Core.Path.{ap, sym}
-use Rattle.tree.specs.Answer.{refusalOf}
+use Rattle.checks.specs.Answer.{refusalOf}
 use borrow.Author.Needs.{needs}
 use Rattle.analysis.proofs.answer_of.Statement.{statement}
 use Rattle.analysis.proofs.answer_of.Tie as tie

@@ -4,7 +4,7 @@ use mathlib.Core.Path.{ap, _∙_}
 use Prim.Native.Nat.{ℕ, _-_}
 use native.Mathlib.Omega.{arith}
 use lib.ListN.{replicate, take, drop}
-use Rattle.table.specs.RegionLaws.{region-length}
+use Rattle.table.specs.Laws.Region.{region-length}
 use borrow.Author.Needs.{needs}
 use Rattle.analysis.proofs.clear_part.Statement.{statement}
 use Rattle.analysis.proofs.clear_part.Tie as tie

@@ -1,17 +1,17 @@
-// Children that stand in a row: those of a begin, of an and, and of a when or an unless.
+// Children that stand in a row: those of a begin, of an and, and of a when or an unless. The tables are lent as in `visit.rt` (docs/SPEED.md, 45).
 use crate::visit::visit_part;
 use flags::Flags;
 use flags::Part;
 use flags::by_value::part;
 use flags::by_value::parts;
-use registers::REGISTERS;
-use registers::steps::enter_defines;
 use semantic::IdentifierStatus;
+use steps::enter_defines;
+use steps::registers::REGISTERS;
 use table::wide;
+use tree::record::part_at;
 ghost use mathlib.Core.Path.{_≡_};
-ghost use Rattle.tree.specs.RecordLaws.{nth};
-ghost use Rattle.registers.specs.Registers.{held};
-ghost use Rattle.visits.specs.Contract.{Fit, Done, FitChildren, DoneChildren, IsWhen, tables};
+ghost use Rattle.visits.specs.Lent.{lent, loan, formAt};
+ghost use Rattle.visits.specs.Contract.{MayVisit, HasVisited, children, MayVisitRow, HasVisitedRow, IsWhen};
 
 // k children in a row: the last stands in tail position where the whole does.
 fn visit_children(
@@ -27,27 +27,17 @@ fn visit_children(
     arguments: &mut &mut [u32],
     work: &mut &mut [u32],
 ) -> usize
-    requires { ⌜ FitChildren (now (now classes)) (now (now all)) (now rs) k at f (held (now r) (now (now facts)) (now (now captured)) (now (now arguments)) (now (now work))) ⌝ }
-    ensures { λ n. ⌜ DoneChildren (now (now (classes .entry))) (now (now (all .entry))) (now (rs .entry)) k at f (held (now (r .entry)) (now (now (facts .entry))) (now (now (captured .entry))) (now (now (arguments .entry))) (now (now (work .entry)))) n (held (now (r .exit)) (now (now (facts .exit))) (now (now (captured .exit))) (now (now (arguments .exit))) (now (now (work .exit)))) ⌝ }
-    ensures { λ _. ⌜ tables (now (facts .exit)) (now (captured .exit)) (now (arguments .exit)) (now (work .exit)) ≡ tables (now (facts .entry)) (now (captured .entry)) (now (arguments .entry)) (now (work .entry)) ⌝ }
+    requires { ⌜ MayVisitRow children (lent classes all r facts captured arguments work) rs k at f ⌝ }
+    ensures { λ n. ⌜ HasVisitedRow children (loan classes all r facts captured arguments work) rs k at f n ⌝ }
 {
     let mut used = 0;
     let mut i = 0;
     while i < k {
-        let start = 6 * used;
+        let p = part_at(rs, used);
+        let n = at + used;
         let last = i + 1 == k;
-        used += visit_part(
-            classes,
-            all,
-            &rs[start..],
-            at + used,
-            part(f, Part::Child(last)),
-            r,
-            facts,
-            captured,
-            arguments,
-            work,
-        );
+        let g = part(f, Part::Child(last));
+        used += visit_part(classes, all, p, n, g, r, facts, captured, arguments, work);
         i += 1;
     }
     used
@@ -65,9 +55,8 @@ pub fn visit_begin(
     arguments: &mut &mut [u32],
     work: &mut &mut [u32],
 ) -> usize
-    requires { ⌜ Fit (now (now classes)) (now (now all)) (now rs) at f (held (now r) (now (now facts)) (now (now captured)) (now (now arguments)) (now (now work))) × (nth (now (now all)) at .form ≡ 7) ⌝ }
-    ensures { λ n. ⌜ Done (now (now (classes .entry))) (now (now (all .entry))) (now (rs .entry)) at f (held (now (r .entry)) (now (now (facts .entry))) (now (now (captured .entry))) (now (now (arguments .entry))) (now (now (work .entry)))) n (held (now (r .exit)) (now (now (facts .exit))) (now (now (captured .exit))) (now (now (arguments .exit))) (now (now (work .exit)))) ⌝ }
-    ensures { λ _. ⌜ tables (now (facts .exit)) (now (captured .exit)) (now (arguments .exit)) (now (work .exit)) ≡ tables (now (facts .entry)) (now (captured .entry)) (now (arguments .entry)) (now (work .entry)) ⌝ }
+    requires { ⌜ MayVisit (lent classes all r facts captured arguments work) rs at f × (formAt all at ≡ 7) ⌝ }
+    ensures { λ n. ⌜ HasVisited (loan classes all r facts captured arguments work) rs at f n ⌝ }
 {
     let count = wide(tree::record::count(rs, 0));
     enter_defines(
@@ -83,7 +72,7 @@ pub fn visit_begin(
     let a = visit_children(
         classes,
         all,
-        &rs[6..],
+        part_at(rs, 1),
         count,
         at + 1,
         part(f, Part::InBegin),
@@ -109,15 +98,14 @@ pub fn visit_and(
     arguments: &mut &mut [u32],
     work: &mut &mut [u32],
 ) -> usize
-    requires { ⌜ Fit (now (now classes)) (now (now all)) (now rs) at f (held (now r) (now (now facts)) (now (now captured)) (now (now arguments)) (now (now work))) × (nth (now (now all)) at .form ≡ 10) ⌝ }
-    ensures { λ n. ⌜ Done (now (now (classes .entry))) (now (now (all .entry))) (now (rs .entry)) at f (held (now (r .entry)) (now (now (facts .entry))) (now (now (captured .entry))) (now (now (arguments .entry))) (now (now (work .entry)))) n (held (now (r .exit)) (now (now (facts .exit))) (now (now (captured .exit))) (now (now (arguments .exit))) (now (now (work .exit)))) ⌝ }
-    ensures { λ _. ⌜ tables (now (facts .exit)) (now (captured .exit)) (now (arguments .exit)) (now (work .exit)) ≡ tables (now (facts .entry)) (now (captured .entry)) (now (arguments .entry)) (now (work .entry)) ⌝ }
+    requires { ⌜ MayVisit (lent classes all r facts captured arguments work) rs at f × (formAt all at ≡ 10) ⌝ }
+    ensures { λ n. ⌜ HasVisited (loan classes all r facts captured arguments work) rs at f n ⌝ }
 {
     let count = wide(tree::record::count(rs, 0));
     let a = visit_children(
         classes,
         all,
-        &rs[6..],
+        part_at(rs, 1),
         count,
         at + 1,
         part(f, Part::InAnd(count == 1)),
@@ -143,24 +131,15 @@ pub fn visit_when(
     arguments: &mut &mut [u32],
     work: &mut &mut [u32],
 ) -> usize
-    requires { ⌜ Fit (now (now classes)) (now (now all)) (now rs) at f (held (now r) (now (now facts)) (now (now captured)) (now (now arguments)) (now (now work))) × IsWhen (nth (now (now all)) at .form) ⌝ }
-    ensures { λ n. ⌜ Done (now (now (classes .entry))) (now (now (all .entry))) (now (rs .entry)) at f (held (now (r .entry)) (now (now (facts .entry))) (now (now (captured .entry))) (now (now (arguments .entry))) (now (now (work .entry)))) n (held (now (r .exit)) (now (now (facts .exit))) (now (now (captured .exit))) (now (now (arguments .exit))) (now (now (work .exit)))) ⌝ }
-    ensures { λ _. ⌜ tables (now (facts .exit)) (now (captured .exit)) (now (arguments .exit)) (now (work .exit)) ≡ tables (now (facts .entry)) (now (captured .entry)) (now (arguments .entry)) (now (work .entry)) ⌝ }
+    requires { ⌜ MayVisit (lent classes all r facts captured arguments work) rs at f × IsWhen (formAt all at) ⌝ }
+    ensures { λ n. ⌜ HasVisited (loan classes all r facts captured arguments work) rs at f n ⌝ }
 {
     let k = wide(tree::record::count(rs, 0)) - 1;
     let g = parts(f, Part::NotTail, Part::InBegin);
-    let a = visit_part(
-        classes,
-        all,
-        &rs[6..],
-        at + 1,
-        g.first,
-        r,
-        facts,
-        captured,
-        arguments,
-        work,
-    );
+    let p = part_at(rs, 1);
+    let n = at + 1;
+    let h = g.first;
+    let a = visit_part(classes, all, p, n, h, r, facts, captured, arguments, work);
     let first = at + 1 + a;
     enter_defines(
         *classes,
@@ -172,11 +151,10 @@ pub fn visit_when(
         *facts,
         *work,
     );
-    let start = 6 + 6 * a;
     let b = visit_children(
         classes,
         all,
-        &rs[start..],
+        part_at(rs, 1 + a),
         k,
         first,
         g.second,

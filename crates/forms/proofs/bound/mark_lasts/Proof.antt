@@ -4,7 +4,7 @@ use mathlib.Core.Path.{_≡_, refl}
 use native.Mathlib.Omega.{arith}
 use lib.ListN.{length}
 use borrow.Author.Needs.{needs}
-use Rattle.work.specs.WorksLaws.{spacious}
+use Rattle.work.specs.Laws.Works.{spacious}
 use Rattle.forms.proofs.EndsCase.{Lasting, lasting-starts, lasting-ends, lasting-goes, lasting-binder, lasting-last, lasting-facts}
 use Rattle.forms.proofs.bound.mark_lasts.Statement.{statement}
 use Rattle.forms.proofs.bound.mark_lasts.Tie as tie

@@ -8,7 +8,7 @@ returns : tie.Need-returns
 returns c = notes-none _ (c .if1 .taken)
 
 returns-2 : tie.Need-returns-2
-returns-2 c = notes-alone _ (c .before .before .before .if1 .left) (c .before .if2 .taken) (c .note-second .ensures)
+returns-2 c = notes-alone _ (c .before .before .before .if1 .left) (c .before .if2 .taken) (c .first-second .ensures)
 
 returns-3 : tie.Need-returns-3
 returns-3 c = notes-around _ (c .if2 .left)

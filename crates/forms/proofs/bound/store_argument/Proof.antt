@@ -14,7 +14,7 @@ info-of-requires : tie.Need-info-of-requires
 info-of-requires c κs = binder-info (c .before .before .before .before .before .before .pre .0) (c .before .before .load-entry .ensures)
 
 returns : tie.Need-returns
-returns c = argument-stored (c .before .before .before .before .before .before .load-entry .ensures) (c .before .before .before .before .name .ensures) (c .before .before .before .info-of .ensures) (c .before .before .store-item .ensures)
+returns c = argument-stored (c .before .before .before .before .before .before .load-entry .ensures) (c .before .before .before .before .name .ensures) (c .before .before .before .info-of .ensures) (c .before .before .store-list-entry .ensures)
 
 pub store-argument-spec : {M : Type 1} → statement M
 store-argument-spec =

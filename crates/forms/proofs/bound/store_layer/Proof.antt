@@ -4,7 +4,7 @@ use mathlib.Core.Path.{_≡_, refl}
 use native.Mathlib.Omega.{arith}
 use lib.ListN.{length}
 use borrow.Author.Needs.{needs}
-use Rattle.work.specs.WorksLaws.{spacious}
+use Rattle.work.specs.Laws.Works.{spacious}
 use Rattle.forms.proofs.ArgumentsCase.{Layering, layering-starts, layering-ends, layering-goes, layering-room, layering-binder, layering-table}
 use Rattle.forms.proofs.bound.store_layer.Statement.{statement}
 use Rattle.forms.proofs.bound.store_layer.Tie as tie

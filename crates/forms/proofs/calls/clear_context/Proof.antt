@@ -5,11 +5,11 @@ use Rattle.forms.proofs.calls.clear_context.Statement.{statement}
 use Rattle.forms.proofs.calls.clear_context.Tie as tie
 
 returns : tie.Need-returns
-returns c = cleared _ _ _ (c .before .before .is-self .ensures) (c .before .if1 .taken) (c .with-context .ensures)
+returns c = cleared _ _ _ (c .before .is-self .ensures) (c .if1 .taken)
 
 returns-2 : tie.Need-returns-2
 returns-2 c = uncleared _ _ _ (c .before .is-self .ensures) (c .if1 .left)
 
 pub clear-context-spec : {M : Type 1} → statement M
 clear-context-spec =
-    tie.close (tie.spec (λ c κs. search needs) (λ c κs. search needs) returns returns-2)
+    tie.close (tie.spec (λ c κs. search needs) returns returns-2)

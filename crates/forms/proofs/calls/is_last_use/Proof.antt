@@ -1,6 +1,6 @@
 -- `is_last_use`: the ids of the last use and of the identifier are compared.
 use borrow.Author.Needs.{needs}
-use Rattle.work.specs.WorksLaws.{spacious}
+use Rattle.work.specs.Laws.Works.{spacious}
 use Rattle.forms.proofs.CallsCase.{not-found, binder-few, never-used, last-inside, is-last}
 use Rattle.forms.proofs.calls.is_last_use.Statement.{statement}
 use Rattle.forms.proofs.calls.is_last_use.Tie as tie

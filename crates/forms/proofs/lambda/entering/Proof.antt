@@ -8,7 +8,7 @@ use Rattle.forms.proofs.lambda.entering.Statement.{statement}
 use Rattle.forms.proofs.lambda.entering.Tie as tie
 
 returns : tie.Need-returns
-returns c = enters-first (c .before .enum-told .given .1) (c .no-entries .ensures)
+returns c = enters-first (c .before .enum-told .given .1) (c .no-list .ensures)
 
 heap-count-requires : tie.Need-heap-count-requires
 heap-count-requires c κs = (c .before .before .before .before .before .before .pre .0 _ (ap functionFound (c .before .before .before .v .given .1)) .0, c .before .before .before .before .before .before .pre .1)

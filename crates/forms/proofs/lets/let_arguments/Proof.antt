@@ -8,7 +8,7 @@ let-at-requires : tie.Need-let-at-requires
 let-at-requires c κs = let-fact (c .before .pre)
 
 returns : tie.Need-returns
-returns c = no-let (c .before .before .before .before .before .pre) (c .before .before .before .let-at .result) (c .before .before .before .let-at .ensures) (c .before .enum-told .given .1) (c .no-entries .ensures)
+returns c = no-let (c .before .before .before .before .before .pre) (c .before .before .before .let-at .result) (c .before .before .before .let-at .ensures) (c .before .enum-told .given .1) (c .no-list .ensures)
 
 returns-2 : tie.Need-returns-2
 returns-2 c = let-list (c .before .before .before .before .before .before .pre) (c .before .before .before .before .let-at .result) (c .before .before .before .before .let-at .ensures) (c .before .before .found .given .1)

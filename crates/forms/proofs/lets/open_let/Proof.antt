@@ -1,15 +1,19 @@
--- `open_let`, by the depth.
+-- `open_let`: a layer at the bottom, and the names.
 use borrow.Author.Needs.{needs}
-use Rattle.forms.proofs.LetsCase.{layer-opens, layer-stays}
+use Rattle.forms.proofs.LetsCase.{around-fits, let-names, let-opens}
 use Rattle.forms.proofs.lets.open_let.Statement.{statement}
 use Rattle.forms.proofs.lets.open_let.Tie as tie
 
-returns : tie.Need-returns
-returns c = layer-opens (c .before .before .depth .ensures) (c .before .if1 .taken) (c .open-scope .ensures)
+heaps-around-requires : tie.Need-heaps-around-requires
+heaps-around-requires c κs = around-fits (c .before .before .before .before .before .before .pre)
 
-returns-2 : tie.Need-returns-2
-returns-2 c = layer-stays (c .before .depth .ensures) (c .if1 .left)
+enter-names-requires : tie.Need-enter-names-requires
+enter-names-requires c κs = let-names (c .before .before .open-layer .ensures) (c .before .before .before .before .before .heaps-around .ensures) (c .before .before .before .let-arguments .ensures) (c .before .before .before .before .before .before .before .before .before .before .before .before .pre)
+
+returns : tie.Need-returns
+returns c = rw (c .with-names .ensures) (let-opens (c .before .before .before .before .before .before .before .before .open-layer .ensures) (c .before .before .before .before .before .before .before .before .before .before .before .heaps-around .ensures) (c .before .before .before .before .before .before .before .before .before .let-arguments .ensures) (c .before .before .before .before .before .enter-names .ensures))
 
 pub open-let-spec : {M : Type 1} → statement M
 open-let-spec =
-    tie.close (tie.spec (λ c κs. search needs) (λ c κs. search needs) returns returns-2)
+    tie.close (tie.spec heaps-around-requires (λ c κs. search needs) (λ c κs. search needs) enter-names-requires (λ c κs. search needs)
+    (λ c. search needs) (λ c. search needs) returns)

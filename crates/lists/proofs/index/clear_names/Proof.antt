@@ -4,7 +4,7 @@ use Prim.Native.Nat.{_-_, _≤_}
 use mathlib.Core.Path.{_∙_}
 use lib.ListN.{length-map}
 use Rattle.tree.specs.Tree.{named}
-use Rattle.tree.specs.StandsLaws.{names-inside}
+use Rattle.tree.specs.Laws.Stands.{names-inside}
 use Rattle.lists.proofs.IndexCase.{ClearFrom, clear-start, clear-next, clear-last}
 use borrow.Author.Needs.{needs}
 use Rattle.lists.proofs.index.clear_names.Statement.{statement}

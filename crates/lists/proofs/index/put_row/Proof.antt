@@ -1,5 +1,5 @@
 -- `put_row`.
-use Rattle.work.specs.WorksLaws.{spacious}
+use Rattle.work.specs.Laws.Works.{spacious}
 use Rattle.lists.proofs.IndexCase.{value-inside, put-in, put-past}
 use borrow.Author.Needs.{needs}
 use Rattle.lists.proofs.index.put_row.Statement.{statement}

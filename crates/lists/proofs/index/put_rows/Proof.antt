@@ -3,19 +3,20 @@ use native.Mathlib.Omega.{arith}
 use Prim.Native.Nat.{_-_, _≤_}
 use mathlib.Core.Path.{_≡_, refl, _∙_}
 use lib.ListN.{length}
-use Rattle.lists.proofs.IndexCase.{PutTo, put-start, put-next, put-last}
+use Rattle.lists.specs.Laws.Live.{Upto}
+use Rattle.lists.proofs.IndexCase.{PutIn, put-start, put-next, put-last}
 use borrow.Author.Needs.{needs}
 use Rattle.lists.proofs.index.put_rows.Statement.{statement}
 use Rattle.lists.proofs.index.put_rows.Tie as tie
 
 abbrev Inv-loop : tie.InvT-loop
-Inv-loop p work index₀ end i₀ index i = (i ≤ end) × (length index ≡ length index₀) × PutTo p work i index
+Inv-loop p work index₀ end i₀ index i = (i ≤ end) × (length index ≡ length index₀) × Upto p work (PutIn index) i
 
 abbrev μ-loop : tie.MeasureT-loop
 μ-loop p work index₀ end i₀ index i = end - i
 
 loop-holds : tie.Need-loop-holds Inv-loop μ-loop
-loop-holds c = (omega arith, refl, put-start (c .before .before .before .pre .1))
+loop-holds c = (omega arith, refl, put-start (c .before .before .before .args .index .now) (c .before .before .before .pre .1))
 
 loop-again : tie.Need-loop-again Inv-loop μ-loop
 loop-again c =

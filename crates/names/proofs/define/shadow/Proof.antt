@@ -1,5 +1,5 @@
 -- `shadow`: the newest entry's fact, if there is one.
-use Rattle.work.specs.WorksLaws.{spacious}
+use Rattle.work.specs.Laws.Works.{spacious}
 use Rattle.names.proofs.KnownCase.{newest-bounds, told-at, told-none}
 use Rattle.names.proofs.DefineCase.{shadows-newest, shadows-none}
 use borrow.Author.Needs.{needs}

@@ -1,6 +1,6 @@
 -- `mutate`: the newest entry is used and mutated, and its binder's fact marked.
 use native.Mathlib.Omega.{arith}
-use Rattle.work.specs.WorksLaws.{spacious}
+use Rattle.work.specs.Laws.Works.{spacious}
 use Rattle.names.proofs.KnownCase.{newest-bounds, entry-uses, uses-are, used-fits, told-at, told-none}
 use Rattle.names.proofs.ReadCase.{mutates, mutates-none}
 use borrow.Author.Needs.{needs}

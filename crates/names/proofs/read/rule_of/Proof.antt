@@ -1,5 +1,5 @@
 -- `rule_of`: by the newest entry's depth, then by the captures.
-use Rattle.work.specs.WorksLaws.{spacious}
+use Rattle.work.specs.Laws.Works.{spacious}
 use Rattle.names.proofs.KnownCase.{told-at, told-none, newest-few}
 use Rattle.names.proofs.RuleCase.{decides-none, decides-global, decides-local, decides-capture}
 use borrow.Author.Needs.{needs}

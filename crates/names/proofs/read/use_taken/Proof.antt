@@ -6,8 +6,8 @@ use borrow.Author.Needs.{needs}
 use Rattle.names.proofs.read.use_taken.Statement.{statement}
 use Rattle.names.proofs.read.use_taken.Tie as tie
 
-load-taken-requires : tie.Need-load-taken-requires
-load-taken-requires c κs = let k = c .before .before .pre .2 in (k .works .long, takeable-place k)
+load-capture-requires : tie.Need-load-capture-requires
+load-capture-requires c κs = let k = c .before .before .pre .2 in (k .works .long, takeable-place k)
 
 use-capture-requires : tie.Need-use-capture-requires
 use-capture-requires c κs = let k = c .before .before .before .before .pre .2 in (k .works .long, takeable-place k, takeable-cell k)
@@ -30,10 +30,10 @@ returns c =
     let p₄ = p₃ .before in
     let p₅ = p₄ .before .before .before .before in
     let p₆ = p₅ .before .before in
-    uses-taken (p₆ .load-taken .ensures) (p₅ .use-capture .ensures) (p₄ .load-entry .ensures) (p₃ .used-by .ensures) (p₂ .capture .ensures)
+    uses-taken (p₆ .load-capture .ensures) (p₅ .use-capture .ensures) (p₄ .load-entry .ensures) (p₃ .used-by .ensures) (p₂ .capture .ensures)
     (p₁ .store-entry .ensures)
 
 pub use-taken-spec : {M : Type 1} → statement M
 use-taken-spec =
-    tie.close (tie.spec load-taken-requires use-capture-requires (λ c κs. search needs) (λ c κs. search needs) (λ c κs. search needs)
+    tie.close (tie.spec load-capture-requires use-capture-requires (λ c κs. search needs) (λ c κs. search needs) (λ c κs. search needs)
     store-entry-requires (λ c. search needs) returns)

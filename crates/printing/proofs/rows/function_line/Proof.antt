@@ -7,14 +7,12 @@ use Rattle.printing.proofs.rows.function_line.Tie as tie
 
 returns : tie.Need-returns
 returns c =
-    let c₁ = c .before .before in
-    let c₂ = c₁ .before .before .before .before .before in
-    let c₃ = c₂ .before .before .before .before .before in
-    let c₄ = c₃ .before .before .before .before .before in
-    let c₅ = c₄ .before .before .before .before .before in
+    let d = c .before .before .before .before .before .before .before in
+    let e = d .before .before .before .before .before in
+    let k = e .before .before .before .before .before in
     line-of (omega arith)
-    (puts-then (c₅ .long-number .ensures)
-    (puts-then (c₄ .number .ensures) (puts-then (c₃ .number2 .ensures) (puts-then (c₂ .number3 .ensures) (c₁ .word .ensures)))))
+    (puts-then (k .before .before .before .before .before .long-number .ensures)
+    (puts-then (k .number .ensures) (puts-then (e .number2 .ensures) (puts-then (d .number3 .ensures) (c .before .before .word .ensures)))))
 
 pub function-line-spec : {M : Type 1} → statement M
 function-line-spec =

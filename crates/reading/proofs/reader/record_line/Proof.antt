@@ -1,9 +1,9 @@
 -- `record_line`: by its numbers.
-use mathlib.Core.Bool.{Bool}
+use mathlib.Core.Bool.{Bool, cond}
+use mathlib.Core.Option.{none, some}
 use mathlib.Core.Path.{ap, _∙_}
 use native.Mathlib.Omega.{arith}
 use borrow.Author.Tests.{not-true, not-false}
-use Rattle.reading.specs.Found.{sixIf}
 use Rattle.reading.proofs.Spared.{spares-spoiled, spares-record}
 use Rattle.reading.proofs.Turn.{six-numbers, record-none, record-some}
 use borrow.Author.Needs.{needs}
@@ -15,7 +15,7 @@ returns c =
     let c₁ = c .before in
     let c₂ = c₁ .before .before in
     let w = c₂ .«record» in
-    let e = w .ensures ∙ ap (λ (b : Bool). sixIf b (w .result .numbers)) (not-true (w .result .ok) (c₁ .if1 .taken)) in
+    let e = w .ensures ∙ ap (λ (b : Bool). cond b (some (w .result .numbers)) none) (not-true (w .result .ok) (c₁ .if1 .taken)) in
     record { is = λ T n cs rs v h. record-none v (c .spoil .ensures) h e; spares = λ T h. spares-spoiled (c .spoil .ensures) }
 
 returns-2 : tie.Need-returns-2
@@ -26,7 +26,7 @@ returns-2 c =
     let c₄ = c₃ .before .before in
     let c₅ = c₄ .before .before .before in
     let w = c₄ .«record» in
-    let e = w .ensures ∙ ap (λ (b : Bool). sixIf b (w .result .numbers)) (not-false (w .result .ok) (c₃ .if1 .left)) in
+    let e = w .ensures ∙ ap (λ (b : Bool). cond b (some (w .result .numbers)) none) (not-false (w .result .ok) (c₃ .if1 .left)) in
     record {
       is = λ T n cs rs v h. record-some v h e (c₁ .next .ensures) (c .next2 .ensures) (c₂ .store-record .ensures);
       spares = λ T h. spares-record _ h (c₁ .next .ensures) (omega (arith, c₅ .good)) (six-numbers _ e) (c .next2 .ensures) (c₂ .store-record .ensures);

@@ -8,12 +8,12 @@ use borrow.Author.Tests.{eq-eqb, ne-eqb}
 use lib.ListN.{length}
 use lib.Dec.{eqb}
 use Rattle.scope_map.specs.Rows.{rowAt, liveIn}
-use Rattle.scope_map.specs.RowLaws.{length-liveIn}
+use Rattle.scope_map.specs.Laws.Rows.{length-liveIn}
 use Rattle.scope_map.specs.Hints.{Indexed, Bounds}
 use Rattle.scope_map.specs.Held.{foundIn}
 use Rattle.scope_map.specs.declared.Found.{Found}
 use Rattle.scope_map.specs.declared.Found.the-variants.{At, Nothing}
-use Rattle.scope_map.specs.HeldLaws.{gets}
+use Rattle.scope_map.specs.Laws.Held.{gets}
 use Rattle.scope_map.proofs.Search.{Search, hits, misses, ends, from-bound}
 use Rattle.scope_map.proofs.ScopeMap.get.Statement.{statement}
 use Rattle.scope_map.proofs.ScopeMap.get.Tie as tie

@@ -1,5 +1,5 @@
 -- `new`: no rows.
-use Rattle.scope_map.specs.HeldLaws.{held-new}
+use Rattle.scope_map.specs.Laws.Held.{held-new}
 use Rattle.scope_map.proofs.ScopeMap.new.Statement.{statement}
 use Rattle.scope_map.proofs.ScopeMap.new.Tie as tie
 

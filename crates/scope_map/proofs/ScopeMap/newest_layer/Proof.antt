@@ -9,8 +9,8 @@ use borrow.Author.Tests.{eq-eqb, ne-eqb}
 use lib.Dec.{eqb}
 use Rattle.scope_map.specs.ScopeMap.{Live, belowLayer}
 use Rattle.scope_map.specs.Rows.{rowAt, liveIn}
-use Rattle.scope_map.specs.RowLaws.{live-next}
-use Rattle.scope_map.specs.HeldLaws.{starts}
+use Rattle.scope_map.specs.Laws.Rows.{live-next}
+use Rattle.scope_map.specs.Laws.Held.{starts}
 use Rattle.scope_map.proofs.Search.{Search, hits, misses, ends}
 use Rattle.scope_map.proofs.ScopeMap.newest_layer.Statement.{statement}
 use Rattle.scope_map.proofs.ScopeMap.newest_layer.Tie as tie

@@ -1,7 +1,7 @@
 -- `one_use_more`: the count is one more, if the row is an identifier's; that it fits is required.
 use native.Mathlib.Omega.{arith}
 use mathlib.Core.Path.{sym, _∙_}
-use Rattle.semantic.specs.KindLaws.{variable-told}
+use Rattle.semantic.specs.Laws.Kinds.{variable-told}
 use Rattle.semantic.proofs.AmendCase.{counts, amends-other}
 use borrow.Author.Needs.{needs}
 use Rattle.semantic.proofs.amend.one_use_more.Statement.{statement}

@@ -1,6 +1,6 @@
 -- `is_blank`: the row's first number tells.
 use mathlib.Core.Path.{refl}
-use Rattle.semantic.specs.KindLaws.{blank-told}
+use Rattle.semantic.specs.Laws.Kinds.{blank-told}
 use borrow.Author.Needs.{needs}
 use Rattle.semantic.proofs.kinds.is_blank.Statement.{statement}
 use Rattle.semantic.proofs.kinds.is_blank.Tie as tie

@@ -1,7 +1,7 @@
 -- `row_kind`: the row's first number tells.
 -- `row_kind`: the row's first number tells.
 use mathlib.Core.Path.{sym, ap}
-use Rattle.semantic.specs.KindLaws.{kind-told, low-kind, high-kind}
+use Rattle.semantic.specs.Laws.Kinds.{kind-told, low-kind, high-kind}
 use Rattle.semantic.specs.Kinds.{kindOf}
 use borrow.Author.Needs.{needs}
 use Rattle.semantic.proofs.kinds.row_kind.Statement.{statement}

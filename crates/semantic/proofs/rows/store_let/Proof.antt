@@ -1,14 +1,14 @@
--- `store_let`: the row's numbers are put in its place.
-use Rattle.semantic.proofs.RowCase.{stored}
+-- `store_let`: the numbers are the definition's.
+use mathlib.Core.Path.{refl}
+use Rattle.semantic.specs.Rows.{putRow}
 use borrow.Author.Needs.{needs}
 use Rattle.semantic.proofs.rows.store_let.Statement.{statement}
 use Rattle.semantic.proofs.rows.store_let.Tie as tie
 
 returns : tie.Need-returns
-returns c =
-    let o = c .before .before .before .before .before .before .args in
-    stored (o .facts .now) (o .at) _ (c .before .before .before .before .let-row .ensures) (c .before .before .put-row .ensures)
+unfolding putRow
+returns c = c .before .before .put-row .ensures .is _ refl
 
 pub store-let-spec : {M : Type 1} → statement M
 store-let-spec =
-    tie.close (tie.spec (λ c κs. search needs) (λ c κs. search needs) (λ c. search needs) returns)
+    tie.close (tie.spec (λ c. search needs) (λ c κs. search needs) (λ c. search needs) returns)

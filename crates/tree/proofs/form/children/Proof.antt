@@ -1,7 +1,7 @@
 -- `children`: the two tables, where the form is known.
 use borrow.Author.Needs.{needs}
 use Rattle.tree.specs.Form.{namesOf, othersOf, childrenOf}
-use Rattle.tree.proofs.Forms.{unknown}
+use Rattle.tree.specs.Laws.Form.{unknown}
 use Rattle.tree.proofs.form.children.Statement.{statement}
 use Rattle.tree.proofs.form.children.Tie as tie
 

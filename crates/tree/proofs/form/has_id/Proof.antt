@@ -1,6 +1,6 @@
 -- `has_id`: by the form's row.
 use native.Mathlib.Omega.{arith}
-use Rattle.tree.proofs.Forms.{id-on, id-at, no-id}
+use Rattle.tree.specs.Laws.Form.{id-on, id-at, no-id}
 use Rattle.tree.proofs.form.has_id.Statement.{statement}
 use Rattle.tree.proofs.form.has_id.Tie as tie
 

@@ -1,6 +1,6 @@
 -- `known_children`: a form that is known is in the tables.
 use borrow.Author.Needs.{needs}
-use Rattle.tree.proofs.Forms.{known-most}
+use Rattle.tree.specs.Laws.Form.{known-most}
 use Rattle.tree.proofs.form.known_children.Statement.{statement}
 use Rattle.tree.proofs.form.known_children.Tie as tie
 

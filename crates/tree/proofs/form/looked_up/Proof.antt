@@ -6,7 +6,7 @@ use mathlib.Core.List.{List, [], _∷_}
 use mathlib.Core.Path.{_≡_, ap, _∙_}
 use lib.ListN.{getD}
 use Rattle.tree.specs.Form.{formOf, namesOf, othersOf, childrenOf}
-use Rattle.tree.proofs.Table.{each}
+use Rattle.tree.specs.Laws.Form.{each}
 use Rattle.tree.proofs.form.looked_up.Statement.{statement}
 use Rattle.tree.proofs.form.looked_up.Tie as tie
 

@@ -6,8 +6,7 @@ use mathlib.Core.List.{List, [], _∷_}
 use mathlib.Core.Path.{_≡_, ap, _∙_}
 use lib.ListN.{getD}
 use Rattle.tree.specs.Form.{formOf, namesOf}
-use Rattle.tree.proofs.Table.{each}
-use Rattle.tree.proofs.Forms.{unknown}
+use Rattle.tree.specs.Laws.Form.{each, unknown}
 use Rattle.tree.proofs.form.names.Statement.{statement}
 use Rattle.tree.proofs.form.names.Tie as tie
 

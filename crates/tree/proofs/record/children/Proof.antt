@@ -1,6 +1,6 @@
 -- `children`: by the record's form and count.
 use borrow.Author.Needs.{needs}
-use Rattle.tree.proofs.Forms.{children-at}
+use Rattle.tree.specs.Laws.Form.{children-at}
 use Rattle.tree.proofs.record.children.Statement.{statement}
 use Rattle.tree.proofs.record.children.Tie as tie
 

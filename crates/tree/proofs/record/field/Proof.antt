@@ -1,6 +1,6 @@
 -- `field`: a whole record lies within the numbers.
 use native.Mathlib.Omega.{arith}
-use Rattle.tree.specs.RecordLaws.{length-records, nth-field}
+use Rattle.tree.specs.Laws.Record.{length-records, nth-field}
 use Rattle.tree.proofs.record.field.Statement.{statement}
 use Rattle.tree.proofs.record.field.Tie as tie
 

@@ -1,6 +1,6 @@
 -- `known_children`: by the record's form and count.
 use borrow.Author.Needs.{needs}
-use Rattle.tree.proofs.Forms.{children-at}
+use Rattle.tree.specs.Laws.Form.{children-at}
 use Rattle.tree.proofs.record.known_children.Statement.{statement}
 use Rattle.tree.proofs.record.known_children.Tie as tie
 

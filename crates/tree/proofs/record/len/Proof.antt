@@ -1,6 +1,6 @@
 -- `len`: the records are as many as six goes into the numbers.
 use mathlib.Core.Path.{sym}
-use Rattle.tree.specs.RecordLaws.{length-records}
+use Rattle.tree.specs.Laws.Record.{length-records}
 use Rattle.tree.proofs.record.len.Statement.{statement}
 use Rattle.tree.proofs.record.len.Tie as tie
 

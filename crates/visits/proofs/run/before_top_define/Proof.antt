@@ -10,13 +10,13 @@ id-requires c κs = name-inside (c .before .before .before .before .before .pre)
 returns : tie.Need-returns
 returns c = before-lambda (c .before .before .before .if1 .taken) (c .before .id .ensures) (c .set-context .ensures)
 
-enter-value-requires : tie.Need-enter-value-requires
-enter-value-requires c κs = value-fits (c .before .before .before .before .before .before .before .pre)
+enter-top-level-value-requires : tie.Need-enter-top-level-value-requires
+enter-top-level-value-requires c κs = value-fits (c .before .before .before .before .before .before .before .pre)
 
 returns-2 : tie.Need-returns-2
-returns-2 c = before-value (c .before .before .before .before .before .before .before .before .if1 .left) (c .before .before .before .before .enter-value .ensures)
+returns-2 c = before-value (c .before .before .before .before .before .before .before .before .if1 .left) (c .before .before .before .before .enter-top-level-value .ensures)
 
 pub before-top-define-spec : {M : Type 1} → statement M
 before-top-define-spec =
-    tie.close (tie.spec (λ c. search needs) id-requires (λ c κs. search needs) returns (λ c. search needs) enter-value-requires (λ c. search needs)
+    tie.close (tie.spec (λ c. search needs) id-requires (λ c κs. search needs) returns (λ c. search needs) enter-top-level-value-requires (λ c. search needs)
     (λ c. search needs) returns-2)

@@ -2,7 +2,7 @@
 use mathlib.Core.Path.{_≡_, sym, _∙_}
 use native.Mathlib.Omega.{arith}
 use borrow.Author.Needs.{needs}
-use Rattle.tree.specs.RecordLaws.{nth}
+use Rattle.tree.specs.Record.{nth}
 use Rattle.visits.proofs.TopsEnterCase.{some-tree, children-fit, child-fits, children-enter, child-enters, none-enters}
 use Rattle.visits.proofs.Peeled.{reached}
 use Rattle.visits.proofs.run.enter_top.Statement.{statement}

@@ -1,7 +1,7 @@
 -- `visit_top`: a define, or any other form.
 use mathlib.Core.Path.{_≡_, sym, _∙_}
 use borrow.Author.Needs.{needs}
-use Rattle.tree.specs.RecordLaws.{nth}
+use Rattle.tree.specs.Record.{nth}
 use Rattle.visits.proofs.TopDefineCase.{inside, own-form, other-done}
 use Rattle.visits.proofs.run.visit_top.Statement.{statement}
 use Rattle.visits.proofs.run.visit_top.Tie as tie

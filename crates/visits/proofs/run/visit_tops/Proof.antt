@@ -1,15 +1,14 @@
 -- `visit_tops`: a top-level begin is passed by, and any other tree is visited.
-use Prim.Native.Nat.{_+_, _-_, _*_, _≤_, _<_}
+use Prim.Native.Nat.{_+_, _-_, _≤_, _<_}
 use mathlib.Core.Path.{_≡_, refl, sym, _∙_}
 use mathlib.Core.Logic.{⊎-elim}
 use native.Mathlib.Omega.{arith}
 use borrow.Author.Tests.{eqb-true, eqb-false}
-use lib.ListN.{length, take, drop}
-use Rattle.table.specs.Part.{part}
+use lib.ListN.{length}
 use Rattle.tree.specs.Record.{records}
-use Rattle.registers.specs.Registers.{held}
+use Rattle.steps.specs.Registers.{held}
 use Rattle.walk.specs.Contract.{SomeTree}
-use Rattle.visits.specs.Contract.{tables}
+use Rattle.visits.specs.Lent.{tables}
 use Rattle.visits.specs.Tops.{TopsFit}
 use Rattle.visits.proofs.TopsCase.{room, Left, Next, all-left, few, some-tree, begin-opened, next, next-fits, ahead, one-less, all-visited}
 use Rattle.visits.proofs.Peeled.{reached}
@@ -39,8 +38,11 @@ to-start c = c .before .before .before .before
 abbrev to-found : tie.After-wide Inv-loop μ-loop → tie.After-core-at Inv-loop μ-loop
 to-found c = c .before .before .before .before .before
 
+abbrev to-cut : tie.After-visit-top Inv-loop μ-loop → tie.After-part-at Inv-loop μ-loop
+to-cut c = c .before .before .before .before .before .before
+
 abbrev to-here : tie.After-visit-top Inv-loop μ-loop → tie.Joined1 Inv-loop μ-loop
-to-here c = c .before .before .before .before .before .before .before
+to-here c = to-cut c .before
 
 -- the record lies inside
 inside : (c : tie.In-loop Inv-loop μ-loop) → c .before .loop .at < length (records (to-start c .args .all .now .now))
@@ -83,21 +85,6 @@ loop-again c =
           (sym (c .before .before .before .form .ensures) ∙ eqb-true _ 7 (c .before .before .if2 .taken)) (c .wide .ensures ∙ c .before .count .ensures),
     )
 
--- its part of the records
-rest : (c : tie.Joined1 Inv-loop μ-loop) →
-    let all = to-start (c .before .before) .args .all .now .now in
-    let start = 6 * c .before .core-at .result in
-    take (length all - start) (drop start all) ≡ drop start all
-rest c = part (to-start (c .before .before) .args .all .now .now) (6 * c .before .core-at .result)
-
-start : (c : tie.Joined1 Inv-loop μ-loop) →
-    let all = to-start (c .before .before) .args .all .now .now in
-    let start = 6 * c .before .core-at .result in
-    (start + 6 ≤ length all) × (start + 6 ≤ 24576)
-start c =
-    let f = found (c .before) in
-    (room (to-start (c .before .before) .args .all .now .now) (c .before .core-at .result) (f .1), omega (arith, f .2))
-
 -- the tree there is the next one
 turn : (c : tie.Joined1 Inv-loop μ-loop) →
     let o = to-start (c .before .before) .args in
@@ -108,30 +95,19 @@ turn c x =
     next (c .before .before .before .loop .inv .1 x) (inside (c .before .before)) (c .before .core-at .ensures)
     (⊎-elim (λ w i e. eqb-false _ 7 (w .2 .left) (w .1 .ensures ∙ e)) (λ w i e. w .left i) (c .if1 .came))
 
-mul-start : tie.Need-mul-start Inv-loop μ-loop
-mul-start c = omega (arith, start c)
-
-mul-visit-top : tie.Need-mul-visit-top Inv-loop μ-loop
-mul-visit-top c = omega (arith, start c)
-
-sub-visit-top : tie.Need-sub-visit-top Inv-loop μ-loop
-sub-visit-top c = omega (arith, start c)
-
-part-visit-top-start : tie.Need-part-visit-top-start Inv-loop μ-loop
-part-visit-top-start c = omega (arith, start c)
-
-part-visit-top-end : tie.Need-part-visit-top-end Inv-loop μ-loop
-part-visit-top-end c = omega (arith, start c)
+part-at-requires : tie.Need-part-at-requires Inv-loop μ-loop
+part-at-requires c κs = let top = c .before in omega (arith, room (to-start (top .before) .args .all .now .now) (top .core-at .result) (found top .1))
 
 visit-top-requires : tie.Need-visit-top-requires Inv-loop μ-loop
 visit-top-requires c κs =
-    let here = c .before .before .before .before .before .before in
-    next-fits (turn here (to-start (here .before .before) .pre)) (rest here)
+    let cut = c .before .before .before .before .before in
+    let here = cut .before in
+    next-fits (turn here (to-start (here .before .before) .pre)) (cut .part-at .ensures)
 
 visited : (c : tie.After-visit-top Inv-loop μ-loop) →
     let found = to-here c .before in
     (0 < c .visit-top .result) × (found .core-at .result + c .visit-top .result ≤ length (records (to-start (found .before) .args .all .now .now)))
-visited c = let here = to-here c in ahead (turn here (to-start (here .before .before) .pre)) (rest here) (c .visit-top .ensures .0 .used)
+visited c = let here = to-here c in ahead (turn here (to-start (here .before .before) .pre)) (to-cut c .part-at .ensures) (c .visit-top .ensures .0 .used)
 
 add-at-2 : tie.Need-add-at-2 Inv-loop μ-loop
 add-at-2 c = omega (arith, visited c, few (to-start (to-here c .before .before) .pre))
@@ -148,7 +124,7 @@ loop-again-2 c =
     let here = to-here called in (
       called .visit-top .ensures .1 ∙ here .before .before .before .loop .inv .0,
       λ x.
-          one-less (turn here x) (rest here) (called .visit-top .ensures .0) (c .one-less .ensures),
+          one-less (turn here x) (to-cut called .part-at .ensures) (called .visit-top .ensures .0) (c .one-less .ensures),
     )
 
 returns : tie.Need-returns Inv-loop μ-loop
@@ -170,11 +146,7 @@ visit-tops-spec =
     add-at
     loop-less
     loop-again
-    mul-start
-    mul-visit-top
-    sub-visit-top
-    part-visit-top-start
-    part-visit-top-end
+    part-at-requires
     visit-top-requires
     add-at-2
     one-less-requires

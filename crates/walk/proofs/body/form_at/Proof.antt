@@ -2,7 +2,7 @@
 use borrow.Author.Needs.{needs}
 use native.Mathlib.Omega.{arith}
 use mathlib.Core.Path.{sym, _∙_}
-use Rattle.tree.specs.StandsLaws.{root}
+use Rattle.tree.specs.Laws.Stands.{root}
 use Rattle.walk.proofs.Bodies.{head-stands, reached, some-tree, ident-body, lambda-body, call-body, other-body}
 use Rattle.walk.proofs.body.form_at.Statement.{statement}
 use Rattle.walk.proofs.body.form_at.Tie as tie

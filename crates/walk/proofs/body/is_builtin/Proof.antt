@@ -2,7 +2,7 @@
 use borrow.Author.Needs.{needs}
 use borrow.Author.Tests.{not-true, not-false}
 use native.Mathlib.Omega.{arith}
-use Rattle.tree.specs.StandsLaws.{root}
+use Rattle.tree.specs.Laws.Stands.{root}
 use Rattle.walk.proofs.Bodies.{head-stands, reached, some-tree, argument-stands, alone-tells, head-tells, both-tell}
 use Rattle.walk.proofs.body.is_builtin.Statement.{statement}
 use Rattle.walk.proofs.body.is_builtin.Tie as tie

@@ -1,6 +1,6 @@
 -- `is_ident_of`: by the form's number.
 use borrow.Author.Tests.{ne-eqb}
-use Rattle.tree.specs.StandsLaws.{root}
+use Rattle.tree.specs.Laws.Stands.{root}
 use Rattle.walk.proofs.Bodies.{named-below, ident-tells, other-tells}
 use Rattle.walk.proofs.body.is_ident_of.Statement.{statement}
 use Rattle.walk.proofs.body.is_ident_of.Tie as tie

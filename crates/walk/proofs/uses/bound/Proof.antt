@@ -1,6 +1,6 @@
 -- `bound`: by the form's number.
 use borrow.Author.Needs.{needs}
-use Rattle.tree.specs.RecordLaws.{nth}
+use Rattle.tree.specs.Record.{nth}
 use Rattle.walk.proofs.Binding.{set-bound, names-bound}
 use Rattle.walk.proofs.uses.bound.Statement.{statement}
 use Rattle.walk.proofs.uses.bound.Tie as tie

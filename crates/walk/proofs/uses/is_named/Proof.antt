@@ -1,6 +1,6 @@
 -- `is_named`: by the form's number.
 use borrow.Author.Needs.{needs}
-use Rattle.tree.specs.RecordLaws.{nth}
+use Rattle.tree.specs.Record.{nth}
 use Rattle.walk.proofs.Binding.{ident-named, other-named}
 use Rattle.walk.proofs.uses.is_named.Statement.{statement}
 use Rattle.walk.proofs.uses.is_named.Tie as tie

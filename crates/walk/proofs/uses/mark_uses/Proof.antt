@@ -4,7 +4,7 @@ use borrow.Author.Needs.{needs}
 use Prim.Native.Nat.{_-_, _≤_}
 use mathlib.Core.Path.{_≡_, refl, _∙_}
 use lib.ListN.{length}
-use Rattle.tree.specs.StandsLaws.{tree-inside}
+use Rattle.tree.specs.Laws.Stands.{tree-inside}
 use Rattle.walk.proofs.Marking.{Sought, marks-start, marks-record, marks-end}
 use Rattle.walk.proofs.uses.mark_uses.Statement.{statement}
 use Rattle.walk.proofs.uses.mark_uses.Tie as tie

@@ -8,7 +8,7 @@ returns : tie.Need-returns
 returns c =
     let o = c .before .before .before .before .before .before .before .before .before .before .before in
     defines-capture (o .pre .0) (o .pre .1) (o .pre .3) (c .before .before .before .before .before .before .before .before .capture-place .ensures)
-    (c .before .before .before .before .before .before .define-row .ensures) (c .before .before .put-taken .ensures)
+    (c .before .before .before .before .before .before .define-row .ensures) (c .before .before .put-capture .ensures)
 
 pub define-capture-spec : {M : Type 1} → statement M
 define-capture-spec =

@@ -1,6 +1,6 @@
 -- `close_scope`: the newest layer of the map of records is popped, and the rest of the table stays.
 use Rattle.scope_map.specs.ScopeMap.{popLayer}
-use Rattle.scope_map.specs.MapLaws.{map-popLayer}
+use Rattle.scope_map.specs.Laws.Map.{map-popLayer}
 use Rattle.pass.specs.Lambda.{closeScope}
 use Rattle.work.specs.Works.{recordAt}
 use Rattle.work.proofs.ScopeCase.{names-length, names-room, names-replaced}

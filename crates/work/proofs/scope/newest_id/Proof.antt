@@ -1,5 +1,5 @@
 -- `newest_id`: the id of the record found, or none.
-use Rattle.work.specs.WorksLaws.{spacious}
+use Rattle.work.specs.Laws.Works.{spacious}
 use Rattle.work.proofs.ScopeCase.{no-id, id-inside, the-id}
 use borrow.Author.Needs.{needs}
 use Rattle.work.proofs.scope.newest_id.Statement.{statement}

@@ -1,7 +1,7 @@
 -- `open_scope`: a layer more, and the table stays.
-use Rattle.table.specs.RegionLaws.{elsewhere-same}
+use Rattle.table.specs.Laws.Region.{elsewhere-same}
 use Rattle.scope_map.specs.ScopeMap.{pushLayer}
-use Rattle.scope_map.specs.MapLaws.{map-pushLayer}
+use Rattle.scope_map.specs.Laws.Map.{map-pushLayer}
 use Rattle.pass.specs.Lambda.{openScope}
 use Rattle.work.specs.Works.{recordAt, scopeLength}
 use Rattle.table.specs.Region.{region}

@@ -1,6 +1,6 @@
 -- `remove_name`: the map of records loses the name, and the rest of the table stays.
 use Rattle.scope_map.specs.ScopeMap.{remove}
-use Rattle.scope_map.specs.MapLaws.{map-remove}
+use Rattle.scope_map.specs.Laws.Map.{map-remove}
 use Rattle.work.specs.Works.{recordAt}
 use Rattle.work.proofs.ScopeCase.{names-length, names-room, names-replaced}
 use borrow.Author.Needs.{needs}

@@ -47,25 +47,26 @@ use Rattle.visits.proofs.visit.visit_set.Kinds as visit-set-kinds
 use Rattle.visits.proofs.visit.+seq-visit_and+seq-visit_begin+seq-visit_children+seq-visit_when+visit+visit_arguments+visit_body+visit_define+visit_if+visit_lambda_function+visit_let+visit_list+visit_part+visit_set.Lts-visit_set as visit-set-lts
 use Rattle.flags.proofs.by_value.part.Reads as part-reads
 use Rattle.flags.proofs.by_value.parts.Reads as parts-reads
-use Rattle.registers.proofs.steps.close_call.Reads as close-call-reads
-use Rattle.registers.proofs.steps.close_define.Reads as close-define-reads
-use Rattle.registers.proofs.steps.close_lambda.Reads as close-lambda-reads
-use Rattle.registers.proofs.steps.close_let.Reads as close-let-reads
-use Rattle.registers.proofs.steps.close_set.Reads as close-set-reads
-use Rattle.registers.proofs.steps.context.Reads as context-reads
-use Rattle.registers.proofs.steps.depth.Reads as depth-reads
-use Rattle.registers.proofs.steps.enter_defines.Reads as enter-defines-reads
-use Rattle.registers.proofs.steps.open_define.Reads as open-define-reads
-use Rattle.registers.proofs.steps.open_lambda.Reads as open-lambda-reads
-use Rattle.registers.proofs.steps.open_let.Reads as open-let-reads
-use Rattle.registers.proofs.steps.open_set.Reads as open-set-reads
-use Rattle.registers.proofs.steps.set_context.Reads as set-context-reads
-use Rattle.registers.proofs.steps.visit_atom.Reads as visit-atom-reads
+use Rattle.steps.proofs.close_call.Reads as close-call-reads
+use Rattle.steps.proofs.close_define.Reads as close-define-reads
+use Rattle.steps.proofs.close_lambda.Reads as close-lambda-reads
+use Rattle.steps.proofs.close_let.Reads as close-let-reads
+use Rattle.steps.proofs.close_set.Reads as close-set-reads
+use Rattle.steps.proofs.context.Reads as context-reads
+use Rattle.steps.proofs.depth.Reads as depth-reads
+use Rattle.steps.proofs.enter_defines.Reads as enter-defines-reads
+use Rattle.steps.proofs.open_define.Reads as open-define-reads
+use Rattle.steps.proofs.open_lambda.Reads as open-lambda-reads
+use Rattle.steps.proofs.open_let.Reads as open-let-reads
+use Rattle.steps.proofs.open_set.Reads as open-set-reads
+use Rattle.steps.proofs.set_context.Reads as set-context-reads
+use Rattle.steps.proofs.visit_atom.Reads as visit-atom-reads
 use Rattle.table.proofs.wide.Reads as wide-reads
 use Rattle.tree.proofs.record.count.Reads as count-reads
 use Rattle.tree.proofs.record.form.Reads as form-reads
 use Rattle.tree.proofs.record.id.Reads as id-reads
 use Rattle.tree.proofs.record.name.Reads as name-reads
+use Rattle.tree.proofs.record.part_at.Reads as part-at-reads
 use Rattle.walk.proofs.body.body_at.Reads as body-at-reads
 use Rattle.walk.proofs.body.core_at.Reads as core-at-reads
 use Rattle.walk.proofs.extent.extent_at.Reads as extent-at-reads
@@ -241,43 +242,43 @@ visit-set-below t =
     and 14 visit-set-kinds.ps (falls 14 visit-set-kinds.ps _<_ μ-visit-set t) visit-set.Pre
 
 abbrev pub visit-and-calls : ℕ → visit-and-lts.Claims
-visit-and-calls t = (count-reads.Asked, count-reads.Learnt, wide-reads.Asked, wide-reads.Learnt, part-reads.Asked, part-reads.Learnt, visit-children-below t, visit-children.Post)
+visit-and-calls t = (count-reads.Asked, count-reads.Learnt, wide-reads.Asked, wide-reads.Learnt, part-at-reads.Asked, part-at-reads.Learnt, part-reads.Asked, part-reads.Learnt, visit-children-below t, visit-children.Post)
 
 abbrev pub visit-begin-calls : ℕ → visit-begin-lts.Claims
-visit-begin-calls t = (count-reads.Asked, count-reads.Learnt, wide-reads.Asked, wide-reads.Learnt, enter-defines-reads.Asked, enter-defines-reads.Learnt, part-reads.Asked, part-reads.Learnt, visit-children-below t, visit-children.Post)
+visit-begin-calls t = (count-reads.Asked, count-reads.Learnt, wide-reads.Asked, wide-reads.Learnt, enter-defines-reads.Asked, enter-defines-reads.Learnt, part-at-reads.Asked, part-at-reads.Learnt, part-reads.Asked, part-reads.Learnt, visit-children-below t, visit-children.Post)
 
 abbrev pub visit-children-calls : ℕ → visit-children-lts.Claims
-visit-children-calls t = (part-reads.Asked, part-reads.Learnt, visit-part-below t, visit-part.Post)
+visit-children-calls t = (part-at-reads.Asked, part-at-reads.Learnt, part-reads.Asked, part-reads.Learnt, visit-part-below t, visit-part.Post)
 
 abbrev pub visit-when-calls : ℕ → visit-when-lts.Claims
-visit-when-calls t = (count-reads.Asked, count-reads.Learnt, wide-reads.Asked, wide-reads.Learnt, parts-reads.Asked, parts-reads.Learnt, visit-part-below t, visit-part.Post, enter-defines-reads.Asked, enter-defines-reads.Learnt, visit-children-below t, visit-children.Post)
+visit-when-calls t = (count-reads.Asked, count-reads.Learnt, wide-reads.Asked, wide-reads.Learnt, parts-reads.Asked, parts-reads.Learnt, part-at-reads.Asked, part-at-reads.Learnt, visit-part-below t, visit-part.Post, enter-defines-reads.Asked, enter-defines-reads.Learnt, visit-children-below t, visit-children.Post)
 
 abbrev pub visit-calls : ℕ → visit-lts.Claims
 visit-calls t = (form-reads.Asked, form-reads.Learnt, visit-if-below t, visit-if.Post, visit-let-below t, visit-let.Post, visit-define-below t, visit-define.Post, visit-lambda-function-below t, visit-lambda-function.Post, visit-begin-below t, visit-begin.Post, visit-list-below t, visit-list.Post, visit-set-below t, visit-set.Post, visit-and-below t, visit-and.Post, visit-atom-reads.Asked, visit-atom-reads.Learnt, visit-when-below t, visit-when.Post)
 
 abbrev pub visit-arguments-calls : ℕ → visit-arguments-lts.Claims
-visit-arguments-calls t = (visit-part-below t, visit-part.Post, part-reads.Asked, part-reads.Learnt)
+visit-arguments-calls t = (part-at-reads.Asked, part-at-reads.Learnt, visit-part-below t, visit-part.Post, part-reads.Asked, part-reads.Learnt)
 
 abbrev pub visit-body-calls : ℕ → visit-body-lts.Claims
 visit-body-calls t = (form-reads.Asked, form-reads.Learnt, visit-lambda-function-below t, visit-lambda-function.Post, visit-part-below t, visit-part.Post)
 
 abbrev pub visit-define-calls : ℕ → visit-define-lts.Claims
-visit-define-calls t = (body-at-reads.Asked, body-at-reads.Learnt, context-reads.Asked, context-reads.Learnt, open-define-reads.Asked, open-define-reads.Learnt, part-reads.Asked, part-reads.Learnt, visit-body-below t, visit-body.Post, close-define-reads.Asked, close-define-reads.Learnt)
+visit-define-calls t = (body-at-reads.Asked, body-at-reads.Learnt, context-reads.Asked, context-reads.Learnt, open-define-reads.Asked, open-define-reads.Learnt, part-at-reads.Asked, part-at-reads.Learnt, part-reads.Asked, part-reads.Learnt, visit-body-below t, visit-body.Post, close-define-reads.Asked, close-define-reads.Learnt)
 
 abbrev pub visit-if-calls : ℕ → visit-if-lts.Claims
-visit-if-calls t = (part-reads.Asked, part-reads.Learnt, visit-part-below t, visit-part.Post)
+visit-if-calls t = (part-reads.Asked, part-reads.Learnt, part-at-reads.Asked, part-at-reads.Learnt, visit-part-below t, visit-part.Post)
 
 abbrev pub visit-lambda-function-calls : ℕ → visit-lambda-function-lts.Claims
-visit-lambda-function-calls t = (count-reads.Asked, count-reads.Learnt, wide-reads.Asked, wide-reads.Learnt, open-lambda-reads.Asked, open-lambda-reads.Learnt, id-reads.Asked, id-reads.Learnt, part-reads.Asked, part-reads.Learnt, visit-body-below t, visit-body.Post, close-lambda-reads.Asked, close-lambda-reads.Learnt)
+visit-lambda-function-calls t = (count-reads.Asked, count-reads.Learnt, wide-reads.Asked, wide-reads.Learnt, open-lambda-reads.Asked, open-lambda-reads.Learnt, part-at-reads.Asked, part-at-reads.Learnt, id-reads.Asked, id-reads.Learnt, part-reads.Asked, part-reads.Learnt, visit-body-below t, visit-body.Post, close-lambda-reads.Asked, close-lambda-reads.Learnt)
 
 abbrev pub visit-let-calls : ℕ → visit-let-lts.Claims
-visit-let-calls t = (count-reads.Asked, count-reads.Learnt, wide-reads.Asked, wide-reads.Learnt, depth-reads.Asked, depth-reads.Learnt, context-reads.Asked, context-reads.Learnt, parts-reads.Asked, parts-reads.Learnt, set-context-reads.Asked, set-context-reads.Learnt, visit-arguments-below t, visit-arguments.Post, open-let-reads.Asked, open-let-reads.Learnt, visit-part-below t, visit-part.Post, close-let-reads.Asked, close-let-reads.Learnt)
+visit-let-calls t = (count-reads.Asked, count-reads.Learnt, wide-reads.Asked, wide-reads.Learnt, depth-reads.Asked, depth-reads.Learnt, context-reads.Asked, context-reads.Learnt, parts-reads.Asked, parts-reads.Learnt, set-context-reads.Asked, set-context-reads.Learnt, part-at-reads.Asked, part-at-reads.Learnt, visit-arguments-below t, visit-arguments.Post, open-let-reads.Asked, open-let-reads.Learnt, visit-part-below t, visit-part.Post, close-let-reads.Asked, close-let-reads.Learnt)
 
 abbrev pub visit-list-calls : ℕ → visit-list-lts.Claims
-visit-list-calls t = (count-reads.Asked, count-reads.Learnt, wide-reads.Asked, wide-reads.Learnt, extent-at-reads.Asked, extent-at-reads.Learnt, core-at-reads.Asked, core-at-reads.Learnt, form-reads.Asked, form-reads.Learnt, part-reads.Asked, part-reads.Learnt, visit-arguments-below t, visit-arguments.Post, narrow-reads.Asked, narrow-reads.Learnt, visit-part-below t, visit-part.Post, close-call-reads.Asked, close-call-reads.Learnt)
+visit-list-calls t = (count-reads.Asked, count-reads.Learnt, wide-reads.Asked, wide-reads.Learnt, extent-at-reads.Asked, extent-at-reads.Learnt, core-at-reads.Asked, core-at-reads.Learnt, form-reads.Asked, form-reads.Learnt, part-at-reads.Asked, part-at-reads.Learnt, part-reads.Asked, part-reads.Learnt, visit-arguments-below t, visit-arguments.Post, narrow-reads.Asked, narrow-reads.Learnt, visit-part-below t, visit-part.Post, close-call-reads.Asked, close-call-reads.Learnt)
 
 abbrev pub visit-part-calls : ℕ → visit-part-lts.Claims
 visit-part-calls t = (form-reads.Asked, form-reads.Learnt, visit-atom-reads.Asked, visit-atom-reads.Learnt, visit-below t, visit.Post)
 
 abbrev pub visit-set-calls : ℕ → visit-set-lts.Claims
-visit-set-calls t = (open-set-reads.Asked, open-set-reads.Learnt, part-reads.Asked, part-reads.Learnt, visit-part-below t, visit-part.Post, name-reads.Asked, name-reads.Learnt, close-set-reads.Asked, close-set-reads.Learnt, visit-atom-reads.Asked, visit-atom-reads.Learnt)
+visit-set-calls t = (open-set-reads.Asked, open-set-reads.Learnt, part-at-reads.Asked, part-at-reads.Learnt, part-reads.Asked, part-reads.Learnt, visit-part-below t, visit-part.Post, name-reads.Asked, name-reads.Learnt, close-set-reads.Asked, close-set-reads.Learnt, visit-atom-reads.Asked, visit-atom-reads.Learnt)

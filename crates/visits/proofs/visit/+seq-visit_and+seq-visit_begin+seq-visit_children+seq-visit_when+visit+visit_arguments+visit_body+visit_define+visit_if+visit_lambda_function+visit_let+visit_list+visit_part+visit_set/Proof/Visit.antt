@@ -1,13 +1,12 @@
 -- The needs of `visit`.
 use Prim.Native.Nat.{ℕ}
 use mathlib.Core.Path.{_≡_, refl, sym, subst, _∙_}
-use Rattle.tree.specs.RecordLaws.{nth}
+use Rattle.tree.specs.Record.{nth}
 use Rattle.visits.specs.Contract.{IsWhen}
 use Rattle.visits.proofs.Bounds as bounds
 use Rattle.visits.proofs.Views.{own-field}
 use Rattle.visits.proofs.LeafCase.{atom-fits, atom-done, none-below, none-above}
 use Rattle.visits.proofs.WhenCase.{when-left}
-use borrow.Author.Needs.{needs}
 use native.Mathlib.Omega.{arith}
 use Rattle.visits.proofs.visit.+seq-visit_and+seq-visit_begin+seq-visit_children+seq-visit_when+visit+visit_arguments+visit_body+visit_define+visit_if+visit_lambda_function+visit_let+visit_list+visit_part+visit_set.Lts-visit as lts
 use Rattle.visits.proofs.visit.visit.Reads as reads
@@ -71,15 +70,6 @@ module _ (t : ℕ) where
       let o = begun f in
       (omega (arith, o .pre .0), (o .pre .1, sym (formed f) ∙ c .before .before .before .before .before .match .keys8))
 
-  pub slice-aggregate-lent : lts.Need-slice-aggregate-lent (visit-calls t) (visit-at t) reads.Post
-  slice-aggregate-lent c = search needs
-
-  pub slice-aggregate-visit-atom : lts.Need-slice-aggregate-visit-atom (visit-calls t) (visit-at t) reads.Post
-  slice-aggregate-visit-atom c = search needs
-
-  pub slice-aggregate-visit-atom-2 : lts.Need-slice-aggregate-visit-atom-2 (visit-calls t) (visit-at t) reads.Post
-  slice-aggregate-visit-atom-2 c = search needs
-
   -- a form of the range, from its second test
   abbrev ranged : lts.Then2 (visit-calls t) (visit-at t) reads.Post → lts.After-form (visit-calls t) (visit-at t) reads.Post
   ranged c = c .before .before .before
@@ -101,37 +91,10 @@ module _ (t : ℕ) where
       let w = when-left (f .form .result) (i .before .if2 .left) (s .0 .0 .0 .1) (s .0 .0 .1) (s .0 .1) (s .1) (r .0 .0 .0 .1) (r .0 .0 .1) (r .0 .1) (r .1) (i .if3 .taken) in
       (omega (arith, o .pre .0), (o .pre .1, subst IsWhen (formed f) w))
 
-  pub returns : lts.Need-returns (visit-calls t) (visit-at t) reads.Post
-  returns c = search needs
-
-  pub returns-2 : lts.Need-returns-2 (visit-calls t) (visit-at t) reads.Post
-  returns-2 c = search needs
-
-  pub returns-3 : lts.Need-returns-3 (visit-calls t) (visit-at t) reads.Post
-  returns-3 c = search needs
-
-  pub returns-4 : lts.Need-returns-4 (visit-calls t) (visit-at t) reads.Post
-  returns-4 c = search needs
-
-  pub returns-5 : lts.Need-returns-5 (visit-calls t) (visit-at t) reads.Post
-  returns-5 c = search needs
-
-  pub returns-6 : lts.Need-returns-6 (visit-calls t) (visit-at t) reads.Post
-  returns-6 c = search needs
-
-  pub returns-7 : lts.Need-returns-7 (visit-calls t) (visit-at t) reads.Post
-  returns-7 c = search needs
-
-  pub returns-8 : lts.Need-returns-8 (visit-calls t) (visit-at t) reads.Post
-  returns-8 c = search needs
-
   pub returns-9 : lts.Need-returns-9 (visit-calls t) (visit-at t) reads.Post
   returns-9 c =
       let i = c .before .before .before .before .before .before .before .before in
       (atom-done (formed (ranged i)) (omega (arith, i .if2 .taken)) (c .visit-atom .ensures), refl)
-
-  pub returns-10 : lts.Need-returns-10 (visit-calls t) (visit-at t) reads.Post
-  returns-10 c = search needs
 
   pub returns-11 : lts.Need-returns-11 (visit-calls t) (visit-at t) reads.Post
   returns-11 c = let f = c .before .before in absurd (none-below (formed f) (c .if1 .taken) (begun f .pre .1))

@@ -3,7 +3,6 @@ use Prim.Native.Nat.{ℕ}
 use mathlib.Core.Path.{sym, _∙_}
 use Rattle.visits.proofs.Bounds as bounds
 use Rattle.visits.proofs.Views.{own-field}
-use borrow.Author.Needs.{needs}
 use native.Mathlib.Omega.{arith}
 use Rattle.visits.proofs.visit.+seq-visit_and+seq-visit_begin+seq-visit_children+seq-visit_when+visit+visit_arguments+visit_body+visit_define+visit_if+visit_lambda_function+visit_let+visit_list+visit_part+visit_set.Lts-visit_body as lts
 use Rattle.visits.proofs.visit.visit_body.Reads as reads
@@ -23,11 +22,5 @@ module _ (t : ℕ) where
       let o = begun f in
       (omega (arith, o .pre .0), (o .pre .1, sym (own-field (o .pre .1) (λ r. r .form) (f .form .ensures)) ∙ i .if1 .taken))
 
-  pub returns : lts.Need-returns (visit-body-calls t) (visit-body-at t) reads.Post
-  returns c = search needs
-
   pub visit-part-requires : lts.Need-visit-part-requires (visit-body-calls t) (visit-body-at t) reads.Post
   visit-part-requires c κs = let o = begun (c .before .before .before .before .before .before) in (omega (arith, o .pre .0), o .pre .1)
-
-  pub returns-2 : lts.Need-returns-2 (visit-body-calls t) (visit-body-at t) reads.Post
-  returns-2 c = search needs

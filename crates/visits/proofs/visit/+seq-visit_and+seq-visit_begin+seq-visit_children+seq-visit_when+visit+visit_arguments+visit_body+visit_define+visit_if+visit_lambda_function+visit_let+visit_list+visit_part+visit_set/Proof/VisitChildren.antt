@@ -1,14 +1,13 @@
 -- The needs of `visit_children`.
-use Prim.Native.Nat.{ℕ, _+_, _-_, _*_, _≤_}
+use Prim.Native.Nat.{ℕ, _+_, _-_, _≤_}
 use mathlib.Core.Path.{_≡_, refl, _∙_}
 use lib.Dec.{eqb}
-use Rattle.table.specs.Part.{part, part-length}
-use Rattle.registers.specs.Registers.{held}
-use Rattle.visits.specs.Contract.{FitChildren, tables}
+use Rattle.steps.specs.Registers.{held}
+use Rattle.visits.specs.Contract.{children, FitRow}
+use Rattle.visits.specs.Lent.{tables}
 use Rattle.visits.proofs.Bounds as bounds
-use Rattle.tree.specs.TreeLaws.{many-sizes}
-use Rattle.visits.proofs.ChildrenCase.{last-of, Left, all-left, left-at, Next, next, next-long, next-fits, one-less, children-done}
-use borrow.Author.Needs.{needs}
+use Rattle.tree.specs.Laws.Tree.{many-sizes}
+use Rattle.visits.proofs.RowCase.{last-of, alike, Left, all-left, left-at, Next, next, next-long, next-fits, one-less, row-done}
 use native.Mathlib.Omega.{arith}
 use Rattle.visits.proofs.visit.+seq-visit_and+seq-visit_begin+seq-visit_children+seq-visit_when+visit+visit_arguments+visit_body+visit_define+visit_if+visit_lambda_function+visit_let+visit_list+visit_part+visit_set.Lts-seq-visit_children as lts
 use Rattle.visits.proofs.visit.seq.visit_children.Reads as reads
@@ -18,8 +17,8 @@ abbrev pub Inv-loop : lts.InvT-loop
 Inv-loop classes all rs k at f r₀ facts₀ captured₀ arguments₀ work₀ used₀ i₀ r facts captured arguments work used i =
     (i ≤ k)
     × (tables facts captured arguments work ≡ tables facts₀ captured₀ arguments₀ work₀)
-    × ((x : FitChildren (classes .now) (all .now) rs k at f (held r₀ (facts₀ .now) (captured₀ .now) (arguments₀ .now) (work₀ .now)))
-    → Left x used (k - i) (held r (facts .now) (captured .now) (arguments .now) (work .now)))
+    × ((x : FitRow children (classes .now) (all .now) rs k at f (held r₀ (facts₀ .now) (captured₀ .now) (arguments₀ .now) (work₀ .now)))
+    → Left x used (k - i) f (held r (facts .now) (captured .now) (arguments .now) (work .now)))
 
 abbrev pub μ-loop : lts.MeasureT-loop
 μ-loop classes all rs k at f r₀ facts₀ captured₀ arguments₀ work₀ used₀ i₀ r facts captured arguments work used i = k - i
@@ -28,15 +27,18 @@ module _ (t : ℕ) where
   abbrev begun : lts.At-loop (visit-children-calls t) (visit-children-at t) reads.Post Inv-loop μ-loop → lts.Start (visit-children-calls t) (visit-children-at t) reads.Post Inv-loop μ-loop
   begun c = c .before .before
 
-  abbrev turning : lts.After-part (visit-children-calls t) (visit-children-at t) reads.Post Inv-loop μ-loop → lts.In-loop (visit-children-calls t) (visit-children-at t) reads.Post Inv-loop μ-loop
-  turning c = c .before .before
+  abbrev turning : lts.After-part-at (visit-children-calls t) (visit-children-at t) reads.Post Inv-loop μ-loop → lts.In-loop (visit-children-calls t) (visit-children-at t) reads.Post Inv-loop μ-loop
+  turning c = c .before
+
+  abbrev cut : lts.After-part (visit-children-calls t) (visit-children-at t) reads.Post Inv-loop μ-loop → lts.After-part-at (visit-children-calls t) (visit-children-at t) reads.Post Inv-loop μ-loop
+  cut c = c .before
 
   abbrev flagged : lts.After-visit-part (visit-children-calls t) (visit-children-at t) reads.Post Inv-loop μ-loop → lts.After-part (visit-children-calls t) (visit-children-at t) reads.Post Inv-loop μ-loop
   flagged c = c .before .before .before .before .before .before
 
   here : (c : lts.In-loop (visit-children-calls t) (visit-children-at t) reads.Post Inv-loop μ-loop) → let b = c .before in
       let l = b .loop in
-      Next (begun b .pre .1) (l .used) (begun b .args .k - l .i) (held (l .r) (l .facts .now) (l .captured .now) (l .arguments .now) (l .work .now))
+      Next (begun b .pre .1) (l .used) (begun b .args .k - l .i) (begun b .args .f) (held (l .r) (l .facts .now) (l .captured .now) (l .arguments .now) (l .work .now))
   here c = let b = c .before in next (b .loop .inv .2 (begun b .pre .1)) (omega (arith, c .loop-test .taken))
 
   -- whether one child is left
@@ -47,75 +49,53 @@ module _ (t : ℕ) where
   pub loop-holds : lts.Need-loop-holds (visit-children-calls t) (visit-children-at t) reads.Post Inv-loop μ-loop
   loop-holds c = (omega arith, refl, all-left)
 
-  pub mul-start : lts.Need-mul-start (visit-children-calls t) (visit-children-at t) reads.Post Inv-loop μ-loop
-  mul-start c = omega (arith, next-long (here c), bounds.children (begun (c .before) .pre .1))
+  pub part-at-requires : lts.Need-part-at-requires (visit-children-calls t) (visit-children-at t) reads.Post Inv-loop μ-loop
+  part-at-requires c κs = let n = c in omega (arith, next-long (here n), bounds.all (begun (n .before) .pre .1))
 
-  pub add-last : lts.Need-add-last (visit-children-calls t) (visit-children-at t) reads.Post Inv-loop μ-loop
-  add-last c = search needs
-
-  pub mul-visit-part : lts.Need-mul-visit-part (visit-children-calls t) (visit-children-at t) reads.Post Inv-loop μ-loop
-  mul-visit-part c = omega (arith, next-long (here c), bounds.children (begun (c .before) .pre .1))
-
-  pub sub-visit-part : lts.Need-sub-visit-part (visit-children-calls t) (visit-children-at t) reads.Post Inv-loop μ-loop
-  sub-visit-part c = omega (arith, next-long (here c), bounds.children (begun (c .before) .pre .1))
-
-  pub part-visit-part-start : lts.Need-part-visit-part-start (visit-children-calls t) (visit-children-at t) reads.Post Inv-loop μ-loop
-  part-visit-part-start c = omega (arith, next-long (here c), bounds.children (begun (c .before) .pre .1))
-
-  pub part-visit-part-end : lts.Need-part-visit-part-end (visit-children-calls t) (visit-children-at t) reads.Post Inv-loop μ-loop
-  part-visit-part-end c = search needs
-
-  pub add-visit-part : lts.Need-add-visit-part (visit-children-calls t) (visit-children-at t) reads.Post Inv-loop μ-loop
-  add-visit-part c = let n = c .before in omega (arith, next-long (here n), bounds.children (begun (n .before) .pre .1))
-
-  pub part-requires : lts.Need-part-requires (visit-children-calls t) (visit-children-at t) reads.Post Inv-loop μ-loop
-  part-requires c κs = search needs
+  pub add-n : lts.Need-add-n (visit-children-calls t) (visit-children-at t) reads.Post Inv-loop μ-loop
+  add-n c = let n = turning c in omega (arith, next-long (here n), bounds.all (begun (n .before) .pre .1))
 
   pub visit-part-requires : lts.Need-visit-part-requires (visit-children-calls t) (visit-children-at t) reads.Post Inv-loop μ-loop
   visit-part-requires c κs =
       let h = c .before .before .before .before .before in
-      let n = turning h in
+      let n = turning (cut h) in
       let b = n .before in
       let o = begun b in
-      let rs = o .args .rs .now in
-      let i = b .loop .used in (
-        omega (arith, o .pre .0, next-long (here n), bounds.children (o .pre .1), part-length rs (6 * i)),
-        next-fits (here n) (part rs (6 * i)) (lasts n) (h .part .ensures),
+      let p = cut h .part-at .ensures in (
+        omega (arith, o .pre .0, next-long (here n), bounds.all (o .pre .1), bounds.part-length (o .args .rs .now) (b .loop .used) p),
+        next-fits (here n) p (lasts n) (h .part .ensures),
       )
 
   pub add-used : lts.Need-add-used (visit-children-calls t) (visit-children-at t) reads.Post Inv-loop μ-loop
   add-used c =
       let h = flagged c in
-      let n = turning h in
-      let b = n .before in
-      let x = next-fits (here n) (part (begun b .args .rs .now) (6 * b .loop .used)) (lasts n) (h .part .ensures) in
-      omega (arith, bounds.used x (c .visit-part .ensures .0))
+      let n = turning (cut h) in
+      omega (arith, bounds.used (next-fits (here n) (cut h .part-at .ensures) (lasts n) (h .part .ensures)) (c .visit-part .ensures .0))
 
   pub add-i : lts.Need-add-i (visit-children-calls t) (visit-children-at t) reads.Post Inv-loop μ-loop
   add-i c =
-      let n = turning (flagged c) in
+      let n = turning (cut (flagged c)) in
       let x = begun (n .before) .pre .1 in
-      omega (arith, n .loop-test .taken, bounds.children x, many-sizes (x .ts), x .count)
+      omega (arith, n .loop-test .taken, bounds.all x, many-sizes (x .ts), x .count)
 
   pub loop-less : lts.Need-loop-less (visit-children-calls t) (visit-children-at t) reads.Post Inv-loop μ-loop
-  loop-less c = omega (arith, turning (flagged c) .loop-test .taken)
+  loop-less c = omega (arith, turning (cut (flagged c)) .loop-test .taken)
 
   pub loop-again : lts.Need-loop-again (visit-children-calls t) (visit-children-at t) reads.Post Inv-loop μ-loop
   loop-again c =
       let h = flagged c in
-      let n = turning h in
-      let b = n .before in
-      let l = b .loop in
-      let m = begun b .args .k in
+      let n = turning (cut h) in
+      let l = n .before .loop in
+      let m = begun (n .before) .args .k in
       let e : m - l .i - 1 ≡ m - (l .i + 1) = omega arith in (
         omega (arith, n .loop-test .taken),
         c .visit-part .ensures .1 ∙ l .inv .1,
-        λ x. left-at e (one-less (next (l .inv .2 x) (omega (arith, n .loop-test .taken))) (part (begun b .args .rs .now) (6 * l .used)) (lasts n) (h .part .ensures)
-            (c .visit-part .ensures .0)),
+        λ x. left-at e (one-less (next (l .inv .2 x) (omega (arith, n .loop-test .taken))) (cut h .part-at .ensures) (lasts n) (h .part .ensures)
+            (c .visit-part .ensures .0) alike),
       )
 
   pub returns : lts.Need-returns (visit-children-calls t) (visit-children-at t) reads.Post Inv-loop μ-loop
   returns c =
       let b = c .before in
       let e : begun b .args .k - b .loop .i ≡ 0 = omega (arith, c .loop-test .left) in
-      (children-done (λ x. left-at e (b .loop .inv .2 x)), b .loop .inv .1)
+      (row-done (λ x. left-at e (b .loop .inv .2 x)), b .loop .inv .1)

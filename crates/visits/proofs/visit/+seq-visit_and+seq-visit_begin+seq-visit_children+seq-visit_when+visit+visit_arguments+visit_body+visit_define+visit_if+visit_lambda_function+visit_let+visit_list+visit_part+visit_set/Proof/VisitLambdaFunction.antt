@@ -1,18 +1,16 @@
 -- The needs of `visit_lambda_function`.
-use Prim.Native.Nat.{ℕ, _+_, _*_, _≤_}
+use Prim.Native.Nat.{ℕ, _+_, _≤_}
 use mathlib.Core.Path.{_≡_, subst, sym, _∙_}
-use Rattle.tree.specs.RecordLaws.{nth}
+use Rattle.tree.specs.Record.{nth}
 use Rattle.tree.specs.Tree.{size}
-use Rattle.tree.specs.StandsLaws.{tree-few}
-use Rattle.table.specs.Part.{part-length}
+use Rattle.tree.specs.Laws.Stands.{tree-few}
 use Rattle.flags.specs.Flags.{HandsBody}
 use Rattle.flags.specs.declared.Flags.{Flags as Coded}
-use Rattle.registers.specs.Registers.{held}
+use Rattle.steps.specs.Registers.{held}
 use Rattle.visits.specs.Contract.{Done}
-use Rattle.visits.proofs.Views.{own-field, part-after}
+use Rattle.visits.proofs.Views.{own-field}
 use Rattle.visits.proofs.Bounds as bounds
 use Rattle.visits.proofs.LambdaCase.{lambda-long, lambda-fits, body-fits, body-stands, end-fit, lambda-done}
-use borrow.Author.Needs.{needs}
 use native.Mathlib.Omega.{arith}
 use Rattle.visits.proofs.visit.+seq-visit_and+seq-visit_begin+seq-visit_children+seq-visit_when+visit+visit_arguments+visit_body+visit_define+visit_if+visit_lambda_function+visit_let+visit_list+visit_part+visit_set.Lts-visit_lambda_function as lts
 use Rattle.visits.proofs.visit.visit_lambda_function.Reads as reads
@@ -27,8 +25,11 @@ module _ (t : ℕ) where
   abbrev to-wide : lts.After-open-lambda (visit-lambda-function-calls t) (visit-lambda-function-at t) reads.Post → lts.After-wide (visit-lambda-function-calls t) (visit-lambda-function-at t) reads.Post
   to-wide c = c .before .before .before .before .before .before .before .before
 
-  abbrev to-open-lambda : lts.After-id (visit-lambda-function-calls t) (visit-lambda-function-at t) reads.Post → lts.After-open-lambda (visit-lambda-function-calls t) (visit-lambda-function-at t) reads.Post
-  to-open-lambda c = c .before .before
+  abbrev to-open-lambda : lts.After-part-at (visit-lambda-function-calls t) (visit-lambda-function-at t) reads.Post → lts.After-open-lambda (visit-lambda-function-calls t) (visit-lambda-function-at t) reads.Post
+  to-open-lambda c = c .before
+
+  abbrev to-part-at : lts.After-id (visit-lambda-function-calls t) (visit-lambda-function-at t) reads.Post → lts.After-part-at (visit-lambda-function-calls t) (visit-lambda-function-at t) reads.Post
+  to-part-at c = c .before
 
   abbrev to-id : lts.After-part (visit-lambda-function-calls t) (visit-lambda-function-at t) reads.Post → lts.After-id (visit-lambda-function-calls t) (visit-lambda-function-at t) reads.Post
   to-id c = c .before
@@ -39,8 +40,11 @@ module _ (t : ℕ) where
   abbrev to-visit : lts.After-close-lambda (visit-lambda-function-calls t) (visit-lambda-function-at t) reads.Post → lts.After-visit-body (visit-lambda-function-calls t) (visit-lambda-function-at t) reads.Post
   to-visit c = c .before .before .before .before .before .before .before
 
+  abbrev cut : lts.After-part (visit-lambda-function-calls t) (visit-lambda-function-at t) reads.Post → lts.After-part-at (visit-lambda-function-calls t) (visit-lambda-function-at t) reads.Post
+  cut c = to-part-at (to-id c)
+
   abbrev opened : lts.After-part (visit-lambda-function-calls t) (visit-lambda-function-at t) reads.Post → lts.After-open-lambda (visit-lambda-function-calls t) (visit-lambda-function-at t) reads.Post
-  opened c = to-open-lambda (to-id c)
+  opened c = to-open-lambda (cut c)
 
   abbrev start : lts.After-open-lambda (visit-lambda-function-calls t) (visit-lambda-function-at t) reads.Post → lts.Start (visit-lambda-function-calls t) (visit-lambda-function-at t) reads.Post
   start c = to-start (to-wide c)
@@ -63,38 +67,21 @@ module _ (t : ℕ) where
       let visit = to-visit c in
       let enter = opened (to-body visit) in
       let o = start enter .args in
+      let l = c .close-lambda .last .1 .1 .1 .1 in
       Done (o .classes .now .now) (o .all .now .now) (o .rs .now) (o .at) (o .f) (held (o .r .now) (o .facts .now .now) (o .captured .now .now) (o .arguments .now .now) (o .work .now .now))
       (1 + to-wide enter .wide .result + visit .visit-body .result)
-      (held (c .close-lambda .last .1 .1 .1 .1 .0) (c .close-lambda .last .1 .1 .1 .1 .1 .0) (c .close-lambda .last .1 .1 .1 .1 .1 .1 .0) (c .close-lambda .last .1 .1 .1 .1 .1 .1 .1 .0) (c .close-lambda .last .1 .1 .1 .1 .1 .1 .1 .1 .0))
+      (held (l .0) (l .1 .0) (l .1 .1 .0) (l .1 .1 .1 .0) (l .1 .1 .1 .1 .0))
   done c =
       let visit = to-visit c in
       let body = to-body visit in
       let enter = opened body in
       let wide = to-wide enter in
       let o = start enter in
-      lambda-done (o .pre .1 .1) (tells wide) (enter .open-lambda .ensures) (handed body) (part-after (o .args .rs .now) (wide .wide .result))
+      lambda-done (o .pre .1 .1) (tells wide) (enter .open-lambda .ensures) (handed body) (cut body .part-at .ensures)
       (visit .visit-body .ensures .0) (c .close-lambda .ensures)
 
   pub count-requires : lts.Need-count-requires (visit-lambda-function-calls t) (visit-lambda-function-at t) reads.Post
   count-requires c κs = let x = c .before .pre .1 .0 in omega (arith, bounds.whole x, bounds.some x)
-
-  pub wide-requires : lts.Need-wide-requires (visit-lambda-function-calls t) (visit-lambda-function-at t) reads.Post
-  wide-requires c κs = search needs
-
-  pub add-lent : lts.Need-add-lent (visit-lambda-function-calls t) (visit-lambda-function-at t) reads.Post
-  add-lent c = search needs
-
-  pub slice-aggregate-lent : lts.Need-slice-aggregate-lent (visit-lambda-function-calls t) (visit-lambda-function-at t) reads.Post
-  slice-aggregate-lent c = search needs
-
-  pub slice-aggregate-open-lambda : lts.Need-slice-aggregate-open-lambda (visit-lambda-function-calls t) (visit-lambda-function-at t) reads.Post
-  slice-aggregate-open-lambda c = search needs
-
-  pub slice-aggregate-open-lambda-2 : lts.Need-slice-aggregate-open-lambda-2 (visit-lambda-function-calls t) (visit-lambda-function-at t) reads.Post
-  slice-aggregate-open-lambda-2 c = search needs
-
-  pub slice-aggregate-open-lambda-3 : lts.Need-slice-aggregate-open-lambda-3 (visit-lambda-function-calls t) (visit-lambda-function-at t) reads.Post
-  slice-aggregate-open-lambda-3 c = search needs
 
   pub open-lambda-requires : lts.Need-open-lambda-requires (visit-lambda-function-calls t) (visit-lambda-function-at t) reads.Post
   open-lambda-requires c κs =
@@ -102,29 +89,14 @@ module _ (t : ℕ) where
       let o = to-start wide in
       lambda-fits (o .pre .1 .1) (tells wide) (o .pre .1 .0)
 
-  pub mul-start : lts.Need-mul-start (visit-lambda-function-calls t) (visit-lambda-function-at t) reads.Post
-  mul-start c = search needs
+  pub part-at-requires : lts.Need-part-at-requires (visit-lambda-function-calls t) (visit-lambda-function-at t) reads.Post
+  part-at-requires c κs = let wide = c .before .before .before .before .before .before .before .before in omega (arith, long wide, bounds.whole (to-start wide .pre .1 .0))
 
-  pub add-start : lts.Need-add-start (visit-lambda-function-calls t) (visit-lambda-function-at t) reads.Post
-  add-start c = search needs
+  pub add-n : lts.Need-add-n (visit-lambda-function-calls t) (visit-lambda-function-at t) reads.Post
+  add-n c = let wide = c .before .before .before .before .before .before .before .before .before in omega (arith, long wide, bounds.whole (to-start wide .pre .1 .0))
 
-  pub add-first : lts.Need-add-first (visit-lambda-function-calls t) (visit-lambda-function-at t) reads.Post
-  add-first c = let wide = c .before .before .before .before .before .before .before .before in omega (arith, long wide, bounds.whole (to-start wide .pre .1 .0))
-
-  pub add-first-2 : lts.Need-add-first-2 (visit-lambda-function-calls t) (visit-lambda-function-at t) reads.Post
-  add-first-2 c = let wide = c .before .before .before .before .before .before .before .before in omega (arith, long wide, bounds.whole (to-start wide .pre .1 .0))
-
-  pub mul-visit-body : lts.Need-mul-visit-body (visit-lambda-function-calls t) (visit-lambda-function-at t) reads.Post
-  mul-visit-body c = search needs
-
-  pub sub-visit-body : lts.Need-sub-visit-body (visit-lambda-function-calls t) (visit-lambda-function-at t) reads.Post
-  sub-visit-body c = let wide = c .before .before .before .before .before .before .before .before in omega (arith, long wide, bounds.whole (to-start wide .pre .1 .0))
-
-  pub part-visit-body-start : lts.Need-part-visit-body-start (visit-lambda-function-calls t) (visit-lambda-function-at t) reads.Post
-  part-visit-body-start c = let wide = c .before .before .before .before .before .before .before .before in omega (arith, long wide, bounds.whole (to-start wide .pre .1 .0))
-
-  pub part-visit-body-end : lts.Need-part-visit-body-end (visit-lambda-function-calls t) (visit-lambda-function-at t) reads.Post
-  part-visit-body-end c = search needs
+  pub add-n-2 : lts.Need-add-n-2 (visit-lambda-function-calls t) (visit-lambda-function-at t) reads.Post
+  add-n-2 c = let wide = c .before .before .before .before .before .before .before .before .before in omega (arith, long wide, bounds.whole (to-start wide .pre .1 .0))
 
   pub id-requires : lts.Need-id-requires (visit-lambda-function-calls t) (visit-lambda-function-at t) reads.Post
   id-requires c κs = let x = start (c .before) .pre .1 .0 in omega (arith, bounds.whole x, bounds.some x)
@@ -138,11 +110,10 @@ module _ (t : ℕ) where
       let enter = opened body in
       let wide = to-wide enter in
       let o = start enter in
-      let rs = o .args .rs .now in
       let x = o .pre .1 .0 in
-      let k = wide .wide .result in (
-        omega (arith, o .pre .0, long wide, bounds.whole x, part-length rs (6 + 6 * k)),
-        body-fits (o .pre .1 .1) (tells wide) (enter .open-lambda .ensures) (handed body) (part-after rs k) x,
+      let p = cut body .part-at .ensures in (
+        omega (arith, o .pre .0, long wide, bounds.whole x, bounds.part-length (o .args .rs .now) (1 + wide .wide .result) p),
+        body-fits (o .pre .1 .1) (tells wide) (enter .open-lambda .ensures) (handed body) p x,
       )
 
   pub add-end : lts.Need-add-end (visit-lambda-function-calls t) (visit-lambda-function-at t) reads.Post
@@ -151,21 +122,9 @@ module _ (t : ℕ) where
       let enter = opened body in
       let wide = to-wide enter in
       let o = start enter in
-      let b = body-stands (o .pre .1 .1) (tells wide) (enter .open-lambda .ensures) (handed body) (part-after (o .args .rs .now) (wide .wide .result))
+      let b = body-stands (o .pre .1 .1) (tells wide) (enter .open-lambda .ensures) (handed body) (cut body .part-at .ensures)
       (c .visit-body .ensures .0) (o .pre .1 .0) in
       omega (arith, b .ends, tree-few (b .stands))
-
-  pub slice-aggregate-close-lambda : lts.Need-slice-aggregate-close-lambda (visit-lambda-function-calls t) (visit-lambda-function-at t) reads.Post
-  slice-aggregate-close-lambda c = search needs
-
-  pub slice-aggregate-close-lambda-2 : lts.Need-slice-aggregate-close-lambda-2 (visit-lambda-function-calls t) (visit-lambda-function-at t) reads.Post
-  slice-aggregate-close-lambda-2 c = search needs
-
-  pub slice-aggregate-close-lambda-3 : lts.Need-slice-aggregate-close-lambda-3 (visit-lambda-function-calls t) (visit-lambda-function-at t) reads.Post
-  slice-aggregate-close-lambda-3 c = search needs
-
-  pub slice-aggregate-close-lambda-4 : lts.Need-slice-aggregate-close-lambda-4 (visit-lambda-function-calls t) (visit-lambda-function-at t) reads.Post
-  slice-aggregate-close-lambda-4 c = search needs
 
   pub close-lambda-requires : lts.Need-close-lambda-requires (visit-lambda-function-calls t) (visit-lambda-function-at t) reads.Post
   close-lambda-requires c κs =
@@ -174,7 +133,7 @@ module _ (t : ℕ) where
       let enter = opened body in
       let wide = to-wide enter in
       let o = start enter in
-      end-fit (o .pre .1 .1) (tells wide) (enter .open-lambda .ensures) (handed body) (part-after (o .args .rs .now) (wide .wide .result))
+      end-fit (o .pre .1 .1) (tells wide) (enter .open-lambda .ensures) (handed body) (cut body .part-at .ensures)
       (visit .visit-body .ensures .0) (o .pre .1 .0)
 
   pub add-result : lts.Need-add-result (visit-lambda-function-calls t) (visit-lambda-function-at t) reads.Post

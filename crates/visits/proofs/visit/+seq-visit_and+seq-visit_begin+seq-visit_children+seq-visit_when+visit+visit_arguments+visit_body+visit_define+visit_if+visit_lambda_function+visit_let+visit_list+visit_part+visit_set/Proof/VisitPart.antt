@@ -1,11 +1,10 @@
 -- The needs of `visit_part`.
 use Prim.Native.Nat.{ℕ}
 use mathlib.Core.Path.{_≡_, refl}
-use Rattle.tree.specs.RecordLaws.{nth}
+use Rattle.tree.specs.Record.{nth}
 use Rattle.visits.proofs.Bounds as bounds
 use Rattle.visits.proofs.Views.{own-field}
 use Rattle.visits.proofs.LeafCase.{atom-fits, atom-done}
-use borrow.Author.Needs.{needs}
 use native.Mathlib.Omega.{arith}
 use Rattle.visits.proofs.visit.+seq-visit_and+seq-visit_begin+seq-visit_children+seq-visit_when+visit+visit_arguments+visit_body+visit_define+visit_if+visit_lambda_function+visit_let+visit_list+visit_part+visit_set.Lts-visit_part as lts
 use Rattle.visits.proofs.visit.visit_part.Reads as reads
@@ -21,15 +20,6 @@ module _ (t : ℕ) where
   pub form-requires : lts.Need-form-requires (visit-part-calls t) (visit-part-at t) reads.Post
   form-requires c κs = let x = c .before .pre .1 in omega (arith, bounds.whole x, bounds.some x)
 
-  pub slice-aggregate-lent : lts.Need-slice-aggregate-lent (visit-part-calls t) (visit-part-at t) reads.Post
-  slice-aggregate-lent c = search needs
-
-  pub slice-aggregate-visit-atom : lts.Need-slice-aggregate-visit-atom (visit-part-calls t) (visit-part-at t) reads.Post
-  slice-aggregate-visit-atom c = search needs
-
-  pub slice-aggregate-visit-atom-2 : lts.Need-slice-aggregate-visit-atom-2 (visit-part-calls t) (visit-part-at t) reads.Post
-  slice-aggregate-visit-atom-2 c = search needs
-
   pub visit-atom-requires : lts.Need-visit-atom-requires (visit-part-calls t) (visit-part-at t) reads.Post
   visit-atom-requires c κs =
       let i = c .before .before .before .before .before .before .before in
@@ -44,6 +34,3 @@ module _ (t : ℕ) where
 
   pub visit-requires : lts.Need-visit-requires (visit-part-calls t) (visit-part-at t) reads.Post
   visit-requires c κs = let o = begun (c .before .before .before .before .before .before) in (omega (arith, o .pre .0), o .pre .1)
-
-  pub returns-2 : lts.Need-returns-2 (visit-part-calls t) (visit-part-at t) reads.Post
-  returns-2 c = search needs

@@ -1,0 +1,12 @@
+pub mod CountCase
+pub mod NearCase
+pub mod TakeCase
+pub mod NumberCase
+pub mod MutatedCase
+pub mod ClearCase
+pub mod NowCase
+pub mod TallyCase
+pub mod KeptCase
+pub mod Amended
+pub mod KeptRowCase
+pub mod AmendCase

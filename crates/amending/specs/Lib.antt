@@ -1,0 +1,4 @@
+pub mod Contract
+pub mod Numbered
+pub mod Counts
+pub mod Kept

@@ -1,0 +1,10 @@
+pub mod TailPosition
+pub mod Carried
+pub mod Expansion
+pub mod Exact
+pub mod Settled
+pub mod BindingFresh
+pub mod DefinedNames
+pub mod UsesFresh
+pub mod BindingSettled
+pub mod Demand3

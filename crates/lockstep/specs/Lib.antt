@@ -1,0 +1,4 @@
+pub mod Facts
+pub mod Slot
+pub mod Lock
+pub mod Laws

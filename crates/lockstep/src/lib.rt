@@ -1,0 +1,1 @@
+// The slot machine, and that it stays in step with the plain machine: both stand in specs/.

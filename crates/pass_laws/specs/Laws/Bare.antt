@@ -1,0 +1,9 @@
+pub mod Maps
+pub mod Looks
+pub mod Steps
+pub mod Reads
+pub mod ListEntries
+pub mod Lambdas
+pub mod Lets
+pub mod Visits
+pub mod Runs

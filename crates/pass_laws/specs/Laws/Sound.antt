@@ -1,0 +1,13 @@
+pub mod Lists
+pub mod Each
+pub mod ListEntries
+pub mod Names
+pub mod Scopes
+pub mod Calls
+pub mod Holds
+pub mod Known
+pub mod Counted
+pub mod Rooms
+pub mod Growth
+pub mod Visits
+pub mod Runs

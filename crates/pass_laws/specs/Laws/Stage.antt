@@ -1,0 +1,21 @@
+-- Laws of the stages of `Stage.antt`. A visit cites `Parts` and `Lambdas`; a run cites `Tops` and `Runs`. The rest leads there.
+pub mod Lists
+pub mod Still
+pub mod Entering
+pub mod Arguments
+pub mod Filled
+pub mod Captured
+pub mod Numbering
+pub mod Captures
+pub mod Blocks
+pub mod Children
+pub mod Reached
+pub mod Second
+pub mod Ends
+pub mod Makes
+pub mod Onward
+pub mod Parts
+pub mod Lambdas
+pub mod Top
+pub mod Tops
+pub mod Runs

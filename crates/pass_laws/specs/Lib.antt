@@ -1,0 +1,5 @@
+pub mod Laws
+pub mod Static
+pub mod Stage
+pub mod Sound
+pub mod Visitable

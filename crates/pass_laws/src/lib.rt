@@ -1,0 +1,1 @@
+// What is proved of the pass for every tree: it stands in specs/.

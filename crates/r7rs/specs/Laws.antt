@@ -1,0 +1,4 @@
+pub mod Alike
+pub mod Expansion
+pub mod Examples
+pub mod Sequences

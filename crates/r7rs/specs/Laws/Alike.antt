@@ -1,0 +1,4 @@
+pub mod Values
+pub mod Relation
+pub mod Step
+pub mod Runs

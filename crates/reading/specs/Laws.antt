@@ -1,0 +1,6 @@
+pub mod Line
+pub mod Lost
+pub mod Numbers
+pub mod Read
+pub mod RoundTrip
+pub mod Samples

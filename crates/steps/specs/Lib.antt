@@ -1,0 +1,3 @@
+pub mod Contract
+pub mod Registers
+pub mod Laws

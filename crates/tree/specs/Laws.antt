@@ -1,0 +1,12 @@
+pub mod Record
+pub mod Tree
+pub mod Core
+pub mod Expand
+pub mod Parts
+pub mod Build
+pub mod Form
+pub mod Unique
+pub mod Acceptance
+pub mod Numbered
+pub mod Within
+pub mod Stands

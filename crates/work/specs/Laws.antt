@@ -1,0 +1,7 @@
+pub mod Captures
+pub mod Good
+pub mod Known
+pub mod Scope
+pub mod Tied
+pub mod Kept
+pub mod Works
