@@ -8,9 +8,9 @@ use Rattle.tree.specs.Tree.{Ident, Node, Tree}
 use Rattle.scope_map.specs.Laws.Map.{mapValues}
 use Rattle.pass.specs.State.{State}
 use Rattle.pass.specs.Lambda.{openLambda, closeLambda, openLet, closeLet}
-use Rattle.pass_laws.specs.Laws.Preserved.{enter-let-preserves}
+use Rattle.pass_laws.specs.Laws.Preserved.{open-let-preserves}
 use Rattle.pass_laws.specs.Laws.Stage.Entering.{apart-steps}
-use Rattle.pass_laws.specs.Laws.Stage.Filled.{enter-lambda-stored}
+use Rattle.pass_laws.specs.Laws.Stage.Filled.{open-lambda-stored}
 use Rattle.work.specs.Coded.{notedOf, secondOf}
 use Rattle.work.specs.Works.{rowOf, Works}
 use Rattle.work.specs.Laws.Kept.{works-as}
@@ -61,7 +61,7 @@ module _ {p q : Pass} {F C A w F′ C′ A′ w′ : List ℕ} {s : State} (y : 
   opened-lambda-tied m xs z =
       let k = y .works in
       let l = z .works in
-      let e = enter-lambda-stored m xs s in
+      let e = open-lambda-stored m xs s in
       tied-as z (openedLambda q p) refl refl (context-is l) (captured-top k ∙ sym (e .captured)) (arguments-top k ∙ sym (e .arguments))
       (nine-is l) (ten-is k ∙ sym (e .ten)) (second-is l)
 
@@ -79,7 +79,7 @@ module _ {p q : Pass} {F C A w F′ C′ A′ w′ : List ℕ} {s : State} (y : 
   opened-let-tied m xs height function z =
       let k = y .works in
       let l = z .works in
-      let e = enter-let-preserves apart-steps m xs height function s .stored in
+      let e = open-let-preserves apart-steps m xs height function s .stored in
       let a = open-let-sides m xs height function s in
       tied-as z (openedLet q p) refl (captures-same k l (ap (λ (o : Sides). o .captures) a)) (context-is k ∙ ap (λ (o : Sides). o .context) (sym a))
       (captured-top k ∙ sym (e .captured)) (arguments-top k ∙ sym (e .arguments)) (nine-is l) (ten-is k ∙ sym (e .ten)) (second-is l)

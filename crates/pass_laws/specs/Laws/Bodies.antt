@@ -21,7 +21,7 @@ use Rattle.pass_laws.specs.Laws.Changes.{Steps, captures, quiet}
 use Rattle.pass_laws.specs.Laws.Moves.{by, opens, _⨟_, out-of-let, out-of-lambda}
 use Rattle.pass_laws.specs.Laws.Scopes.{Any, last-changes, make-changes, lambda-ends}
 use Rattle.pass_laws.specs.Laws.Ranges.{Covers}
-use Rattle.pass_laws.specs.Laws.Leaves.{names, inLayer, enter-let, leave-let, enter-lambda, leave-lambda}
+use Rattle.pass_laws.specs.Laws.Leaves.{names, inLayer, open-let, close-let, open-lambda, close-lambda}
 use Rattle.pass_laws.specs.Laws.Finds.{livesOf, Around, Stands, Finds, all-map, layer-most, layered, deep}
 use Rattle.pass_laws.specs.Laws.Onward.{Parts, untouched}
 use Rattle.pass_laws.specs.Laws.Reads.{Only}
@@ -65,9 +65,9 @@ two-deep d true e h = omega arith
 two-deep d false e h = let q : ¬ (d ≡ 1) = eqb-false d 1 e in omega arith
 
 module _ {own : ℕ → Type 0} {bottom : List (Live Ident)} {before : List Use} {p : Place} {s : State} where
-  open-lambda : (n : Node) (k : ℕ) → Finds own bottom before p s → Finds own bottom before (lambdaBody n k p) (openScope (openCaptures none s))
+  open-layers : (n : Node) (k : ℕ) → Finds own bottom before p s → Finds own bottom before (lambdaBody n k p) (openScope (openCaptures none s))
   unfolding openScope openCaptures
-  open-lambda n k f =
+  open-layers n k f =
       record {
         tables = untouched no-part (f .tables) (by (captures tt _) ⨟ opens);
         unused = f .unused;
@@ -78,11 +78,11 @@ module _ {own : ℕ → Type 0} {bottom : List (Live Ident)} {before : List Use}
         stands = f .stands;
       }
 
-  open-let : (b : Bool) (k : ℕ) → eqb (p .layer) 1 ≡ b → Finds own bottom before p s
+  open-layer : (b : Bool) (k : ℕ) → eqb (p .layer) 1 ≡ b → Finds own bottom before p s
       → Finds own bottom before (record { scope = p .scope; around = p .around; layer = cond b 2 (p .layer); height = p .height + k }) (openLayer b s)
   unfolding openLayer openScope
-  open-let false k e f = at-height (p .height + k) f
-  open-let true k e f =
+  open-layer false k e f = at-height (p .height + k) f
+  open-layer true k e f =
       let one = eqb-true (p .layer) 1 e in
       record {
         tables = untouched no-part (f .tables) opens;
@@ -104,7 +104,7 @@ module _ {own : ℕ → Type 0} {bottom : List (Live Ident)} {before : List Use}
         let t = openLayer (atBottom s) s in
         let heaps = heapsAround t function in
         let opened : Finds own bottom before (letBody (length xs) p) t =
-        subst (λ (d : ℕ). Finds own bottom before (letBody (length xs) p) (openLayer (eqb d 1) s)) (sym (deep f)) (open-let (eqb (p .layer) 1) (length xs) refl f) in
+        subst (λ (d : ℕ). Finds own bottom before (letBody (length xs) p) (openLayer (eqb d 1) s)) (sym (deep f)) (open-layer (eqb (p .layer) 1) (length xs) refl f) in
         let fresh : letArguments t (rowAt t (n .at)) ≡ [] = ap (letArguments t) (open-row (atBottom s) s (n .at) ∙ f .tables .blank (n .at) i) in
         rw (e, fresh) (enter-all LetVar (p .height) heaps true (letBody (length xs) p) (two-deep (p .layer) (eqb (p .layer) 1) refl (f .one)) classes k xs 0 0 m o l a refl opened)
 
@@ -115,7 +115,7 @@ module _ {own : ℕ → Type 0} {bottom : List (Live Ident)} {before : List Use}
         subst (λ (v : Option FunctionInformation). enterParameters v xs (openScope (openCaptures v s)) .noted .nine ≡ none
         → Entered classes (lambdaBody n (length xs) p) bottom before left (parameters n xs p) (p .scope) k (length xs) (enterParameters v xs (openScope (openCaptures v s))))
         (sym (ap functionIn (f .tables .blank (n .at) i)))
-        (enter-all Local 0 none false (lambdaBody n (length xs) p) (omega (arith, f .one)) classes k xs 0 0 m o l a refl (open-lambda n (length xs) f))
+        (enter-all Local 0 none false (lambdaBody n (length xs) p) (omega (arith, f .one)) classes k xs 0 0 m o l a refl (open-layers n (length xs) f))
 
 -- Out of a body: entries stay, and captures but for their layer
 
@@ -170,14 +170,14 @@ module _ {own mid left : ℕ → Type 0} {bottom : List (Live Ident)} {before af
   pub let-left : (b : Bool) (height : ℕ) (function : Option Node) → b ≡ atBottom s → openLet n xs height function s .noted .nine ≡ none
       → names t ≡ names (openLet n xs height function s) → Finds left bottom after p (closeLet b n xs height function t)
   let-left b height function bottom e same =
-      let en = rw (← bottom) at (enter-let n xs height function s (layered f .one) e) in
+      let en = rw (← bottom) at (open-let n xs height function s (layered f .one) e) in
       let a = let-aside b n xs height function t in
       record {
         tables = untouched parts (g .tables) (out-of-let b n xs height function t refl);
         unused = λ y l. g .unused y (parts .kept y l);
         captures = ap (λ (m : ScopeMap Capture). m .live) (a .captures) ∙ g .captures;
         one = f .one;
-        live = leave-let b n xs height function (names s) t (layered f) (en .anew) (same ∙ en .after) ∙ f .live;
+        live = close-let b n xs height function (names s) t (layered f) (en .anew) (same ∙ en .after) ∙ f .live;
         around = f .around;
         stands = stands-around _ (a .entries);
       }
@@ -185,14 +185,14 @@ module _ {own mid left : ℕ → Type 0} {bottom : List (Live Ident)} {before af
   pub lambda-left : (b : Tree) (escapes : Bool) → openLambda n xs s .noted .nine ≡ none → names t ≡ names (openLambda n xs s) → Finds left bottom after p (closeLambda n xs b escapes t)
   unfolding closeScope closeCaptures
   lambda-left b escapes e same =
-      let en = enter-lambda n xs s (layered f .one) e in
+      let en = open-lambda n xs s (layered f .one) e in
       let a = quiet (lambda-ends {own = Any} n xs b escapes t tt) in
       record {
         tables = untouched parts (g .tables) (out-of-lambda n xs b escapes t refl);
         unused = λ y l. g .unused y (parts .kept y l);
         captures = ap (λ (m : ScopeMap Capture). m .live) (a .captures) ∙ pop-empty (t .captures) (g .captures);
         one = f .one;
-        live = leave-lambda n xs b escapes (names s) t (layered f) (same ∙ en .after) ∙ f .live;
+        live = close-lambda n xs b escapes (names s) t (layered f) (same ∙ en .after) ∙ f .live;
         around = f .around;
         stands = stands-around _ (ap (λ (k : Scope). k .entries) (a .scope));
       }

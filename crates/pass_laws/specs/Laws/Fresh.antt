@@ -30,7 +30,7 @@ use Rattle.pass_laws.specs.Laws.Says.{usesIn}
 use Rattle.pass_laws.specs.Laws.Finds.{Finds, layered, deep}
 use Rattle.pass_laws.specs.Laws.Onward.{Parts, calmly, fewer}
 use Rattle.pass_laws.specs.Laws.Reads.{Only}
-use Rattle.pass_laws.specs.Laws.Bodies.{no-part, at-height, into-let as enter-let, into-lambda as enter-lambda, lambda-left}
+use Rattle.pass_laws.specs.Laws.Bodies.{no-part, at-height, into-let as open-let, into-lambda as open-lambda, lambda-left}
 use Rattle.pass_laws.specs.Laws.Refs.{ctxOf, enter-ctx}
 use Rattle.pass_laws.specs.Laws.Ends.{call-row}
 use Rattle.pass_laws.specs.Laws.Forms.{Minus, reads, sets, names-done, lambda-done, let-done}
@@ -106,7 +106,7 @@ module _ (classes : List ℕ) (T : List Row) (P : Presumption) (bottom : List (L
         let g₁ : Finds own bottom before p s₁ = calmly no-part g (λ free. context NONE) in
         let A = visits-in i₂ es (n .3) (none-left (definesIn es) (defines c) d) (notTail f) refl h (λ x l u. o x (omega arith) (omega arith)) g₁ e₂ in
         let g₃ : Finds (Minus own i₂ i₃) bottom (before ++ usesIn (walkArguments es p)) p s₃ = calmly no-part (A .finds) (λ free. context (s .context)) in
-        let N = enter-let classes {left = Minus (Minus own i₂ i₃) i₁ i₂} m i₁ xs (n .2) (λ x l u. (o x (omega arith) (omega arith), λ y z. omega arith))
+        let N = open-let classes {left = Minus (Minus own i₂ i₃) i₁ i₂} m i₁ xs (n .2) (λ x l u. (o x (omega arith) (omega arith), λ y z. omega arith))
         (o (m .at) (omega arith) (omega arith), λ y z. omega arith) (λ y z. z .0) (λ y z l u. z .1 l u) g₃ (f .height) h (f .function) e₄ in
         let D = names-done classes T P bottom true (p .height) q xs (p .scope) i₁ N in
         let C = visits i₃ c (n .4) (none-right (definesIn es) (defines c) d) k b t (omega (arith, n .1))
@@ -130,7 +130,7 @@ module _ (classes : List ℕ) (T : List Row) (P : Presumption) (bottom : List (L
         let j = i₂ + size c in
         let q = lambdaBody m (length xs) p in
         let here = o (m .at) (omega arith) (omega arith) in
-        let N = enter-lambda classes {left = Minus own i₁ i₂} m i₁ xs (n .1) (λ x l u. o x (omega arith) (omega arith)) here (λ y z. z .0) (λ y z l u. z .1 l u) g e₁ in
+        let N = open-lambda classes {left = Minus own i₁ i₂} m i₁ xs (n .1) (λ x l u. o x (omega arith) (omega arith)) here (λ y z. z .0) (λ y z l u. z .1 l u) g e₁ in
         let D = names-done classes T P bottom false 0 q xs (p .scope) i₁ N in
         let into : (k : ℕ → ℕ) → Counts own k s → Counts (Minus own i₁ i₂) k s₁ =
         λ k z. lambda-counts m i₁ xs (n .1) (λ x l u. o x (omega arith) (omega arith)) here (λ y z. z .0) (λ y z l u. z .1 l u) g z in

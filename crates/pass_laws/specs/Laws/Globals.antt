@@ -131,11 +131,11 @@ module _ (classes : List ℕ) (kind : IdentifierStatus) (I : (ℕ → Type 0) �
     (lasts : (own left : ℕ → Type 0) (bottom : List (Live Ident)) (s : State) → ((y : ℕ) → left y → own y) → I own bottom s → I left bottom s)
     (defined : (own left : ℕ → Type 0) (bottom : List (Live Ident)) (s : State) (x : Ident) (b : Tree) → Parts own (Only (x .at)) left → own (x .at)
     → I own bottom s → I left (definedIn x bottom) (enterDefine classes kind NONE x b s)) where
-  enter-lambda : {own left : ℕ → Type 0} {bottom : List (Live Ident)} {s : State} (x : Ident) (b : Tree) (q : Bool) → isLambda b ≡ q → own (x .at)
+  open-lambda : {own left : ℕ → Type 0} {bottom : List (Live Ident)} {s : State} (x : Ident) (b : Tree) (q : Bool) → isLambda b ≡ q → own (x .at)
       → ((y : ℕ) → left y → own y) → ((y : ℕ) → left y → isLambda b ≡ true → ¬ (y ≡ x .at)) → I own bottom s
       → I left (cond q (definedIn x bottom) bottom) (enterIfLambda classes kind q x b s)
-  enter-lambda {own} x b true e o l a f = defined _ _ _ _ x b (record { written = λ y q. subst own (sym q) o; kept = l; apart = λ y z q. a y z e q }) o f
-  enter-lambda x b false e o l a f = lasts _ _ _ _ l f
+  open-lambda {own} x b true e o l a f = defined _ _ _ _ x b (record { written = λ y q. subst own (sym q) o; kept = l; apart = λ y z q. a y z e q }) o f
+  open-lambda x b false e o l a f = lasts _ _ _ _ l f
 
   enter-one : {own left : ℕ → Type 0} {bottom : List (Live Ident)} {s : State} (k : ℕ) (t : Tree) → Num k t → Covers own k (k + size t)
       → ((y : ℕ) → left y → own y) → ((y : ℕ) → left y → SparedBy t y) → I own bottom s → I left (lambdasIn (defineOf t) bottom) (enterChild classes kind t s)
@@ -144,7 +144,7 @@ module _ (classes : List ℕ) (kind : IdentifierStatus) (I : (ℕ → Type 0) �
   enter-one k (const m q) n o l a f = lasts _ _ _ _ l f
   enter-one k (if m b c d) n o l a f = lasts _ _ _ _ l f
   enter-one k (letin m xs es b) n o l a f = lasts _ _ _ _ l f
-  enter-one k (define m x b) n o l a f = enter-lambda x b (isLambda b) refl (o (x .at) (omega arith) (omega arith)) l (λ y z. a y z .0) f
+  enter-one k (define m x b) n o l a f = open-lambda x b (isLambda b) refl (o (x .at) (omega arith) (omega arith)) l (λ y z. a y z .0) f
   enter-one k (lambda m xs b) n o l a f = lasts _ _ _ _ l f
   enter-one k (sequence m es) n o l a f = lasts _ _ _ _ l f
   enter-one k (call m h es) n o l a f = lasts _ _ _ _ l f

@@ -131,17 +131,17 @@ pop-entered m l xs =
 abbrev pub openedTo : Bool → ScopeMap Ident → ℕ
 openedTo b m = cond b (suc (m .depth)) (m .depth)
 
-close-let : (b : Bool) (m : ScopeMap Ident) (s : State) → Layered m → names s ≡ inLayer (openedTo b m) (m .live) → names (closeLayer b s) ≡ m
+close-layer : (b : Bool) (m : ScopeMap Ident) (s : State) → Layered m → names s ≡ inLayer (openedTo b m) (m .live) → names (closeLayer b s) ≡ m
 unfolding closeLayer closeScope
-close-let true m s l e = ap popLayer e ∙ pop-entered m l []
-close-let false m s l e = e
+close-layer true m s l e = ap popLayer e ∙ pop-entered m l []
+close-layer false m s l e = e
 
-pub leave-let : (b : Bool) (n : Node) (xs : List Ident) (height : ℕ) (function : Option Node) (m : ScopeMap Ident) (s : State) → Layered m
+pub close-let : (b : Bool) (n : Node) (xs : List Ident) (height : ℕ) (function : Option Node) (m : ScopeMap Ident) (s : State) → Layered m
     → Anew (openedTo b m) xs (m .live) → names s ≡ inLayer (openedTo b m) (enteredIn (openedTo b m) xs (m .live))
     → names (closeLet b n xs height function s) ≡ m
 unfolding closeLet
-leave-let b n xs height function m s l a e =
-    close-let b m _ l
+close-let b n xs height function m s l a e =
+    close-layer b m _ l
     (quiet-names (make-changes {own = Any} (rowAt s (n .at)) n (entered xs s) height function (leaveNames xs s) tt)
     ∙ leave-names xs s
     ∙ ap (λ (k : ScopeMap Ident). inLayer (k .depth) (leftIn (k .depth) xs (k .live))) e
@@ -153,10 +153,10 @@ pub record LetEnters (xs : List Ident) (b : Bool) (s t : State) : Type 0 where
   pub anew : Anew (openedTo b (names s)) xs (names s .live)
   pub after : names t ≡ inLayer (openedTo b (names s)) (enteredIn (openedTo b (names s)) xs (names s .live))
 
-open-let : (b : Bool) (xs : List Ident) (s t : State) → EntersAll xs (openLayer b s) t → LetEnters xs b s t
+open-layer : (b : Bool) (xs : List Ident) (s t : State) → EntersAll xs (openLayer b s) t → LetEnters xs b s t
 unfolding openLayer openScope
-open-let true xs s t e = record { before = e .before; anew = e .anew; after = e .after }
-open-let false xs s t e = record { before = e .before; anew = e .anew; after = e .after }
+open-layer true xs s t e = record { before = e .before; anew = e .anew; after = e .after }
+open-layer false xs s t e = record { before = e .before; anew = e .anew; after = e .after }
 
 -- names enter above the bottom
 above : (b : Bool) (s : State) → eqb (depth s) 1 ≡ b → 1 ≤ depth s → 1 < depth (openLayer b s)
@@ -164,11 +164,11 @@ unfolding openLayer openScope
 above true s e h = omega arith
 above false s e h = let q : ¬ (depth s ≡ 1) = eqb-false (depth s) 1 e in omega arith
 
-pub enter-let : (n : Node) (xs : List Ident) (height : ℕ) (function : Option Node) (s : State) → 1 ≤ depth s → openLet n xs height function s .noted .nine ≡ none
+pub open-let : (n : Node) (xs : List Ident) (height : ℕ) (function : Option Node) (s : State) → 1 ≤ depth s → openLet n xs height function s .noted .nine ≡ none
     → LetEnters xs (atBottom s) s (openLet n xs height function s)
 unfolding openLet
-enter-let n xs height function s h e =
-    open-let (atBottom s) xs s _ (enter-names _ height _ _ xs 0 0 (openLayer (atBottom s) s) (above (atBottom s) s refl h) e)
+open-let n xs height function s h e =
+    open-layer (atBottom s) xs s _ (enter-names _ height _ _ xs 0 0 (openLayer (atBottom s) s) (above (atBottom s) s refl h) e)
 
 -- Lambda
 
@@ -211,10 +211,10 @@ captures-beside (some v) s =
     let q = numbered-beside true numberedHeap (l .length) (l .first) 0 _ in
     record { scope = q .scope ∙ p .scope; noted = q .noted ∙ p .noted }
 
-open-lambda : (o : Option FunctionInformation) (xs : List Ident) (s t : State) → Beside s t → 1 ≤ depth s → enterParameters o xs (openScope t) .noted .nine ≡ none
+open-layers : (o : Option FunctionInformation) (xs : List Ident) (s t : State) → Beside s t → 1 ≤ depth s → enterParameters o xs (openScope t) .noted .nine ≡ none
     → LambdaEnters xs s (enterParameters o xs (openScope t))
 unfolding openScope
-open-lambda o xs s t p h e =
+open-layers o xs s t p h e =
     let d : depth t ≡ depth s = ap (λ (c : Scope). c .names .depth) (p .scope) in
     let r = enter-parameters o xs (openScope t) (omega arith) e in
     record {
@@ -223,13 +223,13 @@ open-lambda o xs s t p h e =
       after = r .after ∙ ap (λ (c : Scope). inLayer (suc (c .names .depth)) (enteredIn (suc (c .names .depth)) xs (c .names .live))) (p .scope);
     }
 
-pub enter-lambda : (n : Node) (xs : List Ident) (s : State) → 1 ≤ depth s → openLambda n xs s .noted .nine ≡ none → LambdaEnters xs s (openLambda n xs s)
+pub open-lambda : (n : Node) (xs : List Ident) (s : State) → 1 ≤ depth s → openLambda n xs s .noted .nine ≡ none → LambdaEnters xs s (openLambda n xs s)
 unfolding openLambda
-enter-lambda n xs s h e =
+open-lambda n xs s h e =
     let o = functionIn (rowAt s (n .at)) in
-    open-lambda o xs s (openCaptures o s) (captures-beside o s) h e
+    open-layers o xs s (openCaptures o s) (captures-beside o s) h e
 
-pub leave-lambda : (n : Node) (xs : List Ident) (b : Tree) (escapes : Bool) (m : ScopeMap Ident) (s : State) → Layered m
+pub close-lambda : (n : Node) (xs : List Ident) (b : Tree) (escapes : Bool) (m : ScopeMap Ident) (s : State) → Layered m
     → names s ≡ inLayer (suc (m .depth)) (enteredIn (suc (m .depth)) xs (m .live)) → names (closeLambda n xs b escapes s) ≡ m
 unfolding closeScope closeCaptures
-leave-lambda n xs b escapes m s l e = quiet-names (lambda-ends {own = Any} n xs b escapes s tt) ∙ ap popLayer e ∙ pop-entered m l xs
+close-lambda n xs b escapes m s l e = quiet-names (lambda-ends {own = Any} n xs b escapes s tt) ∙ ap popLayer e ∙ pop-entered m l xs

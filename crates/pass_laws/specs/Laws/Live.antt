@@ -22,7 +22,7 @@ use Rattle.pass_laws.specs.Laws.Changes.{Steps, Changes, keeps-depth, ke
 use Rattle.pass_laws.specs.Laws.Scopes.{Any, names-any, make-changes, leave-changes, leaving-changes, lambda-changes, lambda-depth, let-changes, let-stays}
 use Rattle.pass_laws.specs.Laws.Names.{read-changes, mutate-changes}
 use Rattle.pass_laws.specs.Laws.Visits.{stays, call-changes, clear-changes}
-use Rattle.pass_laws.specs.Laws.Leaves.{names, inLayer, Layered, quiet-names, openedTo, enter-let, leave-let, enter-lambda, leave-lambda}
+use Rattle.pass_laws.specs.Laws.Leaves.{names, inLayer, Layered, quiet-names, openedTo, open-let, close-let, open-lambda, close-lambda}
 use Rattle.pass_laws.specs.Laws.Layers.{within-up, enteredIn, within-entered}
 
 -- No define: nothing enters before a begin's children
@@ -125,9 +125,9 @@ lambda-restores n xs b escapes s {t} h q =
       changes = lambda-changes n xs b escapes s t tt (names-any xs) (p .changes);
       restored = λ l e.
           let nine = keeps-noted (leave-changes {own = Any} n xs b escapes t tt) .nine e in
-          let en = enter-lambda n xs s h (keeps-noted (p .changes) .nine nine) in
+          let en = open-lambda n xs s h (keeps-noted (p .changes) .nine nine) in
           let layered = entered-layered (suc (depth s)) xs (names s) (en .after) (omega arith) l in
-          leave-lambda n xs b escapes (names s) t l (p .restored layered nine ∙ en .after);
+          close-lambda n xs b escapes (names s) t l (p .restored layered nine ∙ en .after);
     }
 
 opened-pos : (b : Bool) (m : ScopeMap Ident) → m .depth ≤ openedTo b m
@@ -153,9 +153,9 @@ let-restores b n xs height function s {t} a h q =
       changes = let-changes b n xs height function s t a tt (names-any xs) (p .changes);
       restored = λ l e.
           let nine = let-noted b n xs height function t e in
-          let en = rw (← a) at (enter-let n xs height function s h (keeps-noted (p .changes) .nine nine)) in
+          let en = rw (← a) at (open-let n xs height function s h (keeps-noted (p .changes) .nine nine)) in
           let layered = entered-layered (openedTo b (names s)) xs (names s) (en .after) (opened-pos b (names s)) l in
-          leave-let b n xs height function (names s) t l (en .anew) (p .restored layered nine ∙ en .after);
+          close-let b n xs height function (names s) t l (en .anew) (p .restored layered nine ∙ en .after);
     }
 
 module _ (classes : List ℕ) where

@@ -124,15 +124,15 @@ module _ {reads : Type 0} {R : State → State → Type 0} (K : Preserves reads 
   enter-preserves x e s =
       K .join (live-preserves (ltb 1 (depth s) && hasAtTop (s .scope .names) (x .name)) (x .at) s) (K .join (K .names tt _ _) (K .entry (x .at) e _))
 
-  pub open-let-preserves : (b : Bool) (s : State) → R s (openLayer b s)
+  pub open-layer-preserves : (b : Bool) (s : State) → R s (openLayer b s)
   unfolding openLayer openScope
-  open-let-preserves true s = K .names tt _ s
-  open-let-preserves false s = K .same s
+  open-layer-preserves true s = K .names tt _ s
+  open-layer-preserves false s = K .same s
 
-  pub close-let-preserves : (b : Bool) (s : State) → R s (closeLayer b s)
+  pub close-layer-preserves : (b : Bool) (s : State) → R s (closeLayer b s)
   unfolding closeLayer closeScope
-  close-let-preserves true s = K .names tt _ s
-  close-let-preserves false s = K .same s
+  close-layer-preserves true s = K .names tt _ s
+  close-layer-preserves false s = K .same s
 
   pub leaving-preserves : (xs : List Ident) (s : State) → R s (leaveNames xs s)
   unfolding leaveNames
@@ -140,14 +140,14 @@ module _ {reads : Type 0} {R : State → State → Type 0} (K : Preserves reads 
   leaving-preserves (x ∷ xs) s = K .join (K .join (K .names tt _ s) (last-preserves K (entryAt s (x .at) .lastUsed) _)) (leaving-preserves xs _)
 
   -- a let whose list and fact are kept
-  pub leave-let-preserves : ((l : List ListEntry) (s : State) → R s (storeArguments l s)) → ((i : ℕ) (v : LetInformation) (s : State) → R s (insert i (Let v) s))
+  pub close-let-preserves : ((l : List ListEntry) (s : State) → R s (storeArguments l s)) → ((i : ℕ) (v : LetInformation) (s : State) → R s (insert i (Let v) s))
       → (b : Bool) (n : Node) (xs : List Ident) (height : ℕ) (function : Option Node) (s : State) → R s (closeLet b n xs height function s)
   unfolding closeLet
-  leave-let-preserves stored made b n xs height function s =
+  close-let-preserves stored made b n xs height function s =
       let l = entered xs s in
       let t = leaveNames xs s in
       K .join (K .join (leaving-preserves xs s)
-      (by-let (R t) (rowAt s (n .at)) n l height function t (λ e. K .join (stored l t) (made (n .at) _ _)) (K .same t))) (close-let-preserves b _)
+      (by-let (R t) (rowAt s (n .at)) n l height function t (λ e. K .join (stored l t) (made (n .at) _ _)) (K .same t))) (close-layer-preserves b _)
 
   -- a define
 
@@ -202,6 +202,6 @@ module _ {R : State → State → Type 0} (K : Preserves (Unit {0}) (Unit {0}) R
   parameters-preserves none xs s = names-preserves _ _ _ _ xs 0 0 s
   parameters-preserves (some v) xs s = names-preserves _ _ _ _ xs 0 0 s
 
-  pub enter-let-preserves : (n : Node) (xs : List Ident) (height : ℕ) (function : Option Node) (s : State) → R s (openLet n xs height function s)
+  pub open-let-preserves : (n : Node) (xs : List Ident) (height : ℕ) (function : Option Node) (s : State) → R s (openLet n xs height function s)
   unfolding openLet
-  enter-let-preserves n xs height function s = K .join (open-let-preserves K (atBottom s) s) (names-preserves _ height _ _ xs 0 0 _)
+  open-let-preserves n xs height function s = K .join (open-layer-preserves K (atBottom s) s) (names-preserves _ height _ _ xs 0 0 _)

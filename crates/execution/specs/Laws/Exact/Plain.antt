@@ -12,7 +12,7 @@ use Rattle.pass.specs.State.{State, insert, amend, putEntry, rowAt}
 use Rattle.pass.specs.Lists.{storeArguments}
 use Rattle.pass.specs.Lambda.{functionIn, openCaptures, openScope, enterParameters, openLambda, closeLet}
 use Rattle.pass_laws.specs.Laws.Leaves.{names}
-use Rattle.pass_laws.specs.Laws.Preserved.{Preserves, leave-let-preserves, names-preserves}
+use Rattle.pass_laws.specs.Laws.Preserved.{Preserves, close-let-preserves, names-preserves}
 
 -- neither the captured entries nor refusal 10 change
 pub record Plain (s t : State) : Type 0 where
@@ -51,8 +51,8 @@ pub arguments-plain : (l : List ListEntry) (s : State) → Plain s (storeArgumen
 unfolding storeArguments
 arguments-plain l s = record { top = refl; ten = refl }
 
-pub leave-let-plain : (b : Bool) (n : Node) (xs : List Ident) (height : ℕ) (function : Option Node) (s : State) → Plain s (closeLet b n xs height function s)
-leave-let-plain = leave-let-preserves plain-steps arguments-plain (λ i v s. insert-plain i _ s)
+pub close-let-plain : (b : Bool) (n : Node) (xs : List Ident) (height : ℕ) (function : Option Node) (s : State) → Plain s (closeLet b n xs height function s)
+close-let-plain = close-let-preserves plain-steps arguments-plain (λ i v s. insert-plain i _ s)
 
 -- a fresh lambda
 fresh-plain : (o : Option FunctionInformation) (xs : List Ident) (s : State) → o ≡ none → Plain s (enterParameters o xs (openScope (openCaptures o s)))
@@ -60,6 +60,6 @@ unfolding enterParameters openScope openCaptures
 fresh-plain none xs s e = let p = names-preserves plain-steps _ _ _ _ xs 0 0 (openScope (openCaptures none s)) in record { top = p .top; ten = p .ten }
 fresh-plain (some v) xs s e = absurd (Option·some-ne-none v e)
 
-pub enter-lambda-plain : (n : Node) (xs : List Ident) (s : State) → rowAt s (n .at) ≡ Blank → Plain s (openLambda n xs s)
+pub open-lambda-plain : (n : Node) (xs : List Ident) (s : State) → rowAt s (n .at) ≡ Blank → Plain s (openLambda n xs s)
 unfolding openLambda
-enter-lambda-plain n xs s e = fresh-plain (functionIn (rowAt s (n .at))) xs s (ap functionIn e)
+open-lambda-plain n xs s e = fresh-plain (functionIn (rowAt s (n .at))) xs s (ap functionIn e)

@@ -31,9 +31,9 @@ use Rattle.pass_laws.specs.Laws.Bodies as bodies
 use Rattle.pass_laws.specs.Laws.Done.{with-uses}
 use Rattle.pass_laws.specs.Laws.Forms.{Minus}
 use Rattle.pass_laws.specs.Laws.Fresh.{visits, visits-in}
-use Rattle.pass_laws.specs.Laws.Preserved.{read-preserves, enter-let-preserves, call-preserves, mutate-preserves, clear-preserves}
+use Rattle.pass_laws.specs.Laws.Preserved.{read-preserves, open-let-preserves, call-preserves, mutate-preserves, clear-preserves}
 use Rattle.execution.specs.Laws.Exact.Seen.{Seen}
-use Rattle.execution.specs.Laws.Exact.Plain.{plain, _then_, plain-steps, enter-lambda-plain, leave-let-plain}
+use Rattle.execution.specs.Laws.Exact.Plain.{plain, _then_, plain-steps, open-lambda-plain, close-let-plain}
 use Rattle.execution.specs.Laws.Exact.Counts.{Counts, both, preceded, out, fewer, nothing, mentioned, entered, ended}
 
 -- nothing is presumed
@@ -115,13 +115,13 @@ module _ (classes : List ℕ) (bottom : List (Live Ident)) where
         let N = bodies.into-let classes {left = Minus (Minus own i₂ i₃) i₁ i₂} m i₁ xs (n .2) names-left
         (o (m .at) (omega arith) (omega arith), λ y z. omega arith) (λ y z. z .0) (λ y z l u. z .1 l u) g₃ (f .height) h (f .function) e₄ in
         let E = entered {left = Minus (Minus own i₂ i₃) i₁ i₂} true (p .height) q xs (p .scope) (λ y z. z .0) (names-writes (Minus own i₂ i₃) i₁ xs (n .2) names-left) (λ x z. g₃ .unused x z .captured)
-        (enter-let-preserves plain-steps m xs (f .height) (f .function) s₃) entering-noted (A .met) in
+        (open-let-preserves plain-steps m xs (f .height) (f .function) s₃) entering-noted (A .met) in
         let g₄ = with-uses (uses-entering (before ++ usesIn (walkArguments es p)) (letNames xs p) (p .scope)) (N .finds) in
         let C = tens i₃ c (n .4) (none-right (definesIn es) (defines c) d) k (omega (arith, n .1)) o₃ g₄ (E .met) e₅ in
         let X = preceded {t = s₁} (record { top = refl; ten = refl }) no-later (both A (preceded {t = s₃} (record { top = refl; ten = refl }) no-later (both E C))) in
         out (letNames xs p) (p .scope)
         (λ x z. (((z .0, λ l u. z .1 (omega arith) (omega arith)), λ l u. z .1 (omega arith) (omega arith)), λ l u. z .1 (omega arith) (omega arith))) X
-        (leave-let-plain (atBottom s) m xs (f .height) (f .function) s₅) last
+        (close-let-plain (atBottom s) m xs (f .height) (f .function) s₅) last
     tens i (define m x c) n d f h o g w e = absurd (cons-ne-nil (m .at) (defines c) d)
     tens i (lambda m xs c) n d f {own} {before} {seen} {p} {s} h o g w e =
         let k = bodyFlags m (length xs) f in
@@ -139,7 +139,7 @@ module _ (classes : List ℕ) (bottom : List (Live Ident)) where
         let o₂ : Covers (Minus own i₁ i₂) i₂ j = λ x l u. (o x (omega arith) (omega arith), λ y z. omega arith) in
         let N = bodies.into-lambda classes {left = Minus own i₁ i₂} m i₁ xs (n .1) o₁ here (λ y z. z .0) (λ y z l u. z .1 l u) g e₁ in
         let E = entered {left = Minus own i₁ i₂} false 0 q xs (p .scope) (λ y z. z .0) (names-writes own i₁ xs (n .1) o₁) (λ x z. g .unused x z .captured)
-        (enter-lambda-plain m xs s (g .tables .blank (m .at) here)) (moves-noted (into-lambda {own = Any} m xs s (names-any xs))) w in
+        (open-lambda-plain m xs s (g .tables .blank (m .at) here)) (moves-noted (into-lambda {own = Any} m xs s (names-any xs))) w in
         let g₁ = with-uses (uses-entering before (parameters m xs p) (p .scope)) (N .finds) in
         let C = tens i₂ c (n .2) d k refl o₂ g₁ (E .met) e₂ in
         let g₂ = found i₂ k refl c (n .2) d o₂ g₁ e₂ in

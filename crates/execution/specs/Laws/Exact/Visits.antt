@@ -22,7 +22,7 @@ use Rattle.pass_laws.specs.Laws.Changes.{Steps, Later, later-trans, keeps-depth
 use Rattle.pass_laws.specs.Laws.Scopes.{Any, last-changes, make-changes, lambda-ends, leave-changes, let-deep, lambda-depth, let-stays}
 use Rattle.pass_laws.specs.Laws.Visits.{stays, call-changes, clear-changes}
 use Rattle.pass_laws.specs.Laws.Layers.{enteredIn}
-use Rattle.pass_laws.specs.Laws.Leaves.{names, inLayer, openedTo, Beside, captures-beside, enter-let, enter-lambda}
+use Rattle.pass_laws.specs.Laws.Leaves.{names, inLayer, openedTo, Beside, captures-beside, open-let, open-lambda}
 use Rattle.pass_laws.specs.Laws.Finds.{livesOf}
 use Rattle.pass_laws.specs.Laws.Bodies.{two-deep}
 use Rattle.pass_laws.specs.Laws.Live.{Restores, none-left, none-right, none-entered, calm, read-restores, mutate-restores, entered-layered, lambda-restores, let-restores}
@@ -152,7 +152,7 @@ lambda-notes n xs b escapes p s {t} {l} h q =
           first (openLambda n xs s) u (entering (parameters n xs p) (p .scope)) _ (parameters-nine (functionIn (rowAt s (n .at))) n xs p s st e)
           (λ m.
           let deep = ap (λ (j : ScopeMap Ident). j .depth) (st .live) in
-          let en = enter-lambda n xs s h m .after ∙ ap (λ (d : ℕ). inLayer (suc d) (enteredIn (suc d) xs (names s .live))) deep in
+          let en = open-lambda n xs s h m .after ∙ ap (λ (d : ℕ). inLayer (suc d) (enteredIn (suc d) xs (names s .live))) deep in
           let body = entered-scoped false 0 p (lambdaBody n (length xs) p) xs (names s) st (omega arith) en in
           first t u l _ (k .nine body m) (λ j. end-nine n xs b escapes t ∙ j) ended)
           (later-trans (keeps-noted (k .restores .changes)) ended);
@@ -220,7 +220,7 @@ let-notes b n xs height function p s {t} {l} a h q =
           ∙ first (openLet n xs height function s) t (entering (letNames xs p) (p .scope)) l (let-nine n xs height function p s st e)
           (λ m.
           let one = scoped-one st in
-          let en = enter-let n xs height function s h m .after ∙ ap (λ (d : ℕ). inLayer d (enteredIn d xs (names s .live))) (opened-layer (names s) st) in
+          let en = open-let n xs height function s h m .after ∙ ap (λ (d : ℕ). inLayer d (enteredIn d xs (names s .live))) (opened-layer (names s) st) in
           k .nine (entered-scoped true (p .height) p (letBody (length xs) p) xs (names s) st (let-layer (p .layer) one) en) m)
           (keeps-noted (k .restores .changes));
     }

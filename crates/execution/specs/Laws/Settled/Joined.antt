@@ -21,7 +21,7 @@ use Rattle.pass_laws.specs.Laws.Sets.{setAt}
 use Rattle.pass_laws.specs.Laws.Bodies.{no-part}
 use Rattle.pass_laws.specs.Laws.Forms.{Minus}
 use Rattle.pass_laws.specs.Laws.Idle.{Idle, idle-steps}
-use Rattle.pass_laws.specs.Laws.Preserved.{enter-let-preserves}
+use Rattle.pass_laws.specs.Laws.Preserved.{open-let-preserves}
 use Rattle.r7rs.specs.Binding.{Place, Use, Event, lambdaBody, letBody, parameters, letNames, raised, within, entering, ends, mentions, walk, walkArguments}
 use Rattle.execution.specs.Laws.Settled.Kept.{LetKept, LambdaKept}
 use Rattle.execution.specs.Laws.Settled.Layer.{Lives}
@@ -181,7 +181,7 @@ module _ (classes : List ℕ) (S : Script) (bottom : List (Live Ident)) where
       let N = into-let-again S classes (cellOf bottom) {left = Minus own₂ i₁ i₂} after m i₁ xs n names-left (here (m .at) (omega arith) (omega arith))
       (λ y v. v .0) (λ y v l u. v .1 l u) kept closed fo g₃ height h nine in
       let r₁ : Pending (S .C) k hi s₁ = pending-after {C = S .C} s s₁ (pending-part k hi r l₁ (omega arith)) (X .outside) (omega arith) in
-      let r₄ : Pending (S .C) k hi s₄ = record { at = λ v x y. idle-list-entry s₃ s₄ (enter-let-preserves idle-steps m xs height fn s₃) v ∙ r₁ .at v x y } in
+      let r₄ : Pending (S .C) k hi s₄ = record { at = λ v x y. idle-list-entry s₃ s₄ (open-let-preserves idle-steps m xs height fn s₃) v ∙ r₁ .at v x y } in
       let L = let-did classes S bottom own₂ fn fr d old p s₃ i m xs es c after k hi height opened e here names-left rest-left kept q nine g₃ N
       (past _ (λ x l u y z. omega arith))
       (B (N .again) r₄ (λ v l u. ((o v (omega arith) (omega arith), λ y z. omega arith), λ y z. omega arith))) in

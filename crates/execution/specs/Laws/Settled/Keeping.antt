@@ -30,11 +30,11 @@ use Rattle.pass_laws.specs.Laws.Bodies.{no-part, at-height}
 use Rattle.pass_laws.specs.Laws.Bodies as bodies
 use Rattle.pass_laws.specs.Laws.Forms.{Minus}
 use Rattle.pass_laws.specs.Laws.Idle.{Idle, idle-steps}
-use Rattle.pass_laws.specs.Laws.Preserved.{read-preserves, enter-let-preserves, call-preserves, clear-preserves, mutate-preserves}
+use Rattle.pass_laws.specs.Laws.Preserved.{read-preserves, open-let-preserves, call-preserves, clear-preserves, mutate-preserves}
 use Rattle.execution.specs.Laws.Exact.Captured.{topOf}
-use Rattle.execution.specs.Laws.Exact.Plain.{leave-let-plain}
+use Rattle.execution.specs.Laws.Exact.Plain.{close-let-plain}
 use Rattle.execution.specs.Laws.Exact.Tens.{found, found-in}
-use Rattle.execution.specs.Laws.Settled.Tables.{enter-lambda-idle}
+use Rattle.execution.specs.Laws.Settled.Tables.{open-lambda-idle}
 use Rattle.execution.specs.Laws.Settled.Kept.{Kept, KeptIn, KeptAll, idle-grown, Leaves, closed, idle-before}
 use Rattle.execution.specs.Laws.Settled.Parts.{if-leaves, let-kept, lambda-kept, call-kept, set-kept, in-kept, all-kept}
 use Rattle.execution.specs.Laws.Settled.Ending.{Unnoted, unnoted, Room, room-after, let-leaves, lambda-leaves}
@@ -126,7 +126,7 @@ module _ (classes : List ℕ) (bottom : List (Live Ident)) (T : List Row) (C A :
         let N = bodies.into-let classes {left = Minus (Minus own i₂ i₃) i₁ i₂} m i₁ xs (n .2) names-left
         (o (m .at) (omega arith) (omega arith), λ y z. omega arith) (λ y z. z .0) (λ y z l u. z .1 l u) g₃ (f .height) h (f .function) (e₄ .nine) in
         let r₃ : Room (size c + length xs) s₃ = record { captured = r₂ .captured; arguments = r₂ .arguments; few = r₂ .few } in
-        let idle = enter-let-preserves idle-steps m xs (f .height) (f .function) s₃ in
+        let idle = open-let-preserves idle-steps m xs (f .height) (f .function) s₃ in
         let r₄ = room-after (size c + length xs) r₃ (idle-grown 0 s₃ s₄ idle) (moves-lengths entering-moves) (omega arith) in
         let body : Place = within (letNames xs p) (letBody (length xs) p) in
         let Y = keeping i₃ c (n .4) (none-right (definesIn es) (defines c) d) k {p = body} (omega (arith, n .1)) o₃ (N .finds)
@@ -140,7 +140,7 @@ module _ (classes : List ℕ) (bottom : List (Live Ident)) (T : List Row) (C A :
         ⨟ into-let m xs (f .height) (f .function) s₃ (names-writes _ i₁ xs (n .2) (λ x l u y z. omega arith))
         ⨟ by (past i₃ c (n .4) (λ x l u y z. omega arith) k s₄ h₄)
         ⨟ out-of-let (atBottom s) m xs (f .height) (f .function) s₅ (λ l u. omega arith)) idle Y
-        (out-of-let (atBottom s) m xs (f .height) (f .function) s₅ (λ l u. omega arith)) (leave-let-plain (atBottom s) m xs (f .height) (f .function) s₅ .top) Z
+        (out-of-let (atBottom s) m xs (f .height) (f .function) s₅ (λ l u. omega arith)) (close-let-plain (atBottom s) m xs (f .height) (f .function) s₅ .top) Z
     keeping i (define m x c) n d f h o g r e = absurd (cons-ne-nil (m .at) (defines c) d)
     keeping i (lambda m xs c) n d f {own} {before} {p} {s} h o g r e =
         let k = bodyFlags m (length xs) f in
@@ -158,7 +158,7 @@ module _ (classes : List ℕ) (bottom : List (Live Ident)) (T : List Row) (C A :
         let o₁ : Covers own i₁ i₂ = λ x l u. o x (omega arith) (omega arith) in
         let o₂ : Covers (Minus own i₁ i₂) i₂ j = λ x l u. (o x (omega arith) (omega arith), λ y z. omega arith) in
         let N = bodies.into-lambda classes {left = Minus own i₁ i₂} m i₁ xs (n .1) o₁ here (λ y z. z .0) (λ y z l u. z .1 l u) g (e₁ .nine) in
-        let idle = enter-lambda-idle m xs s (g .tables .blank (m .at) here) in
+        let idle = open-lambda-idle m xs s (g .tables .blank (m .at) here) in
         let r₁ = room-after (size c + length xs) r (idle-grown 0 s s₁ idle) (moves-lengths (into-lambda {own = Any} m xs s (names-any xs))) (omega arith) in
         let body : Place = within (parameters m xs p) (lambdaBody m (length xs) p) in
         let Y = keeping i₂ c (n .2) d k {p = body} refl o₂ (N .finds) (record {

@@ -25,7 +25,7 @@ use Rattle.pass_laws.specs.Laws.Moves.{Moves, by, opens, _⨟_, moves-key, out-
 use Rattle.pass_laws.specs.Laws.Scopes.{open-changes}
 use Rattle.pass_laws.specs.Laws.Ranges.{Covers}
 use Rattle.pass_laws.specs.Laws.Keeps.{Off}
-use Rattle.pass_laws.specs.Laws.Leaves.{names, inLayer, captures-beside, enter-let, leave-let}
+use Rattle.pass_laws.specs.Laws.Leaves.{names, inLayer, captures-beside, open-let, close-let}
 use Rattle.pass_laws.specs.Laws.Says.{usedInside, isSetIn}
 use Rattle.pass_laws.specs.Laws.Finds.{livesOf, all-map}
 use Rattle.pass_laws.specs.Laws.Onward.{Parts}
@@ -33,7 +33,7 @@ use Rattle.pass_laws.specs.Laws.Reads.{Only}
 use Rattle.pass_laws.specs.Laws.Enters.{inScope}
 use Rattle.pass_laws.specs.Laws.Bodies.{None, no-part, around-lambda, around-let, open-row, two-deep, let-aside, all-rest}
 use Rattle.pass_laws.specs.Laws.Idle.{Idle, idle-steps}
-use Rattle.pass_laws.specs.Laws.Preserved.{open-let-preserves, parameters-preserves, close-let-preserves, leaving-preserves}
+use Rattle.pass_laws.specs.Laws.Preserved.{open-layer-preserves, parameters-preserves, close-layer-preserves, leaving-preserves}
 use Rattle.r7rs.specs.Binding.{Binder, Place, Use, lambdaBody, letBody, parameters, letNames}
 use Rattle.execution.specs.Acceptance.{isEmpty}
 use Rattle.execution.specs.Laws.Settled.Kept.{NamesKept, LetKept, LambdaKept}
@@ -80,11 +80,11 @@ heaps-none S {s = s} (some n) fo f =
 
 module _ (S : Script) {own : ℕ → Type 0} {bottom : List (Live Ident)} {function : Option Node} {fr : Option Frame} {d : ℕ} {old : Lives} {p : Place}
     {s : State} where
-  open-let-again : (b : Bool) (k : ℕ) → eqb (p .layer) 1 ≡ b → Again S own bottom function fr d old p s
+  open-layer-again : (b : Bool) (k : ℕ) → eqb (p .layer) 1 ≡ b → Again S own bottom function fr d old p s
       → Again S own bottom function fr d old (record { scope = p .scope; around = p .around; layer = cond b 2 (p .layer); height = p .height + k })
       (openLayer b s)
   unfolding openLayer openScope
-  open-let-again false k e f =
+  open-layer-again false k e f =
       record {
         tables = f .tables;
         arguments = f .arguments;
@@ -95,7 +95,7 @@ module _ (S : Script) {own : ℕ → Type 0} {bottom : List (Live Ident)} {funct
         around = f .around;
         stands = f .stands;
       }
-  open-let-again true k e f =
+  open-layer-again true k e f =
       let one = eqb-true (p .layer) 1 e in
       record {
         tables = tabled no-part (f .tables) opens;
@@ -126,7 +126,7 @@ module _ (S : Script) {own : ℕ → Type 0} {bottom : List (Live Ident)} {funct
       let heaps = heapsAround t function in
       let opened : Again S own bottom function fr d old (letBody (length xs) p) t =
       subst (λ (d' : ℕ). Again S own bottom function fr d old (letBody (length xs) p) (openLayer (eqb d' 1) s)) (sym (again-deep S f))
-      (open-let-again (eqb (p .layer) 1) (length xs) refl f) in
+      (open-layer-again (eqb (p .layer) 1) (length xs) refl f) in
       let row : rowAt t (n .at) ≡ Let (kept .info) = open-row (atBottom s) s (n .at) ∙ key-let (rowAt s (n .at)) (f .tables .keys (n .at) i ∙ ap key (kept .is)) in
       let before : letArguments t (rowAt t (n .at)) ≡ listIn (S .A) (kept .info .arguments) =
       ap (letArguments t) row ∙ ap (λ (q : List ListEntry). listIn q (kept .info .arguments)) (opened .arguments) in
@@ -136,7 +136,7 @@ module _ (S : Script) {own : ℕ → Type 0} {bottom : List (Live Ident)} {funct
       (openLet n xs height function s) =
       rw (e, before) (enter-again LetVar (p .height) heaps (listIn (S .A) (kept .info .arguments)) true (letBody (length xs) p)
       (two-deep (p .layer) (eqb (p .layer) 1) refl (f .one)) classes S cell k xs 0 0 m o l a refl (heaps-none S function fo opened) w opened) in
-      record { again = N nine .again; tells = N nine .tells; second = λ v. N nine .second (open-let-preserves unsaid-steps (atBottom s) s ∙ v) }
+      record { again = N nine .again; tells = N nine .tells; second = λ v. N nine .second (open-layer-preserves unsaid-steps (atBottom s) s ∙ v) }
 
 -- Into a lambda: its captures open
 
@@ -188,10 +188,10 @@ module _ (S : Script) {own : ℕ → Type 0} {bottom : List (Live Ident)} {funct
   unfolding openScope
   open-outside r o = numbers .outside r o
 
-  open-lambda-again : (own' : ℕ → Type 0) → ((y : ℕ) → own' y → own y) → (own' (n .at) → ⊥) → own (n .at)
+  open-layers-again : (own' : ℕ → Type 0) → ((y : ℕ) → own' y → own y) → (own' (n .at) → ⊥) → own (n .at)
       → Again S own' bottom (some n) (some (frameOf fr n lo hi xs (p .scope) after)) (suc d) (s .captures .live) (lambdaBody n (length xs) p) opened
   unfolding openScope
-  open-lambda-again own' w a i =
+  open-layers-again own' w a i =
       let q = numbers in
       let m = f .captures in
       let side = captures-beside (some (kept .info)) s in
@@ -240,7 +240,7 @@ module _ (S : Script) {own : ℕ → Type 0} {bottom : List (Live Ident)} {funct
   into-lambda-again classes cell {left} k m o i l a b u closed nine =
       let own' : ℕ → Type 0 = λ y. own y × ¬ (y ≡ n .at) in
       let w = heaps-kept (S .T) (S .C) (S .A) (S .U) after (kept .info .arguments) 0 xs _ (omega arith) (omega (arith, kept .many)) (kept .names) closed in
-      let start = open-lambda-again own' (λ y z. z .0) (λ z. z .1 refl) i in
+      let start = open-layers-again own' (λ y z. z .0) (λ z. z .1 refl) i in
       let before : listIn (opened .facts .arguments) (kept .info .arguments) ≡ listIn (S .A) (kept .info .arguments) = ap
       (λ (q : List ListEntry). listIn q (kept .info .arguments)) (start .arguments) in
       let N : openLambda n xs s .noted .nine ≡ none
@@ -259,12 +259,12 @@ module _ (S : Script) {own : ℕ → Type 0} {bottom : List (Live Ident)} {funct
 
 -- Out of a let
 
-pub leave-let-idle : (b : Bool) (n : Node) (xs : List Ident) (height : ℕ) (function : Option Node) (v : LetInformation) (s : State) → rowAt s (n .at) ≡ Let v
+pub close-let-idle : (b : Bool) (n : Node) (xs : List Ident) (height : ℕ) (function : Option Node) (v : LetInformation) (s : State) → rowAt s (n .at) ≡ Let v
     → Idle s (closeLet b n xs height function s)
 unfolding closeLet
-leave-let-idle b n xs height function v s e =
+close-let-idle b n xs height function v s e =
     subst (λ (r : Row). Idle s (closeLayer b (makeLet r n (entered xs s) height function (leaveNames xs s)))) (sym e)
-    (close-let-preserves idle-steps b (leaveNames xs s) ∙ leaving-preserves idle-steps xs s)
+    (close-layer-preserves idle-steps b (leaveNames xs s) ∙ leaving-preserves idle-steps xs s)
 
 -- what holds of the names in the body holds of those around it
 pub stands-again : (S : Script) {mid left : ℕ → Type 0} (bs sc : List Binder) → ((x : ℕ) → left x → mid x) → (E F : List Entry) → F ≡ E
@@ -281,10 +281,10 @@ module _ (S : Script) {own mid left : ℕ → Type 0} {bottom : List (Live Ident
       → (b : Bool) (height : ℕ) (fn : Option Node) → b ≡ atBottom s → openLet n xs height fn s .noted .nine ≡ none
       → names t ≡ names (openLet n xs height fn s) → Again S left bottom function fr d old p (closeLet b n xs height fn t)
   let-left-again g o i after kept b height fn opened e same =
-      let en = rw (← opened) at (enter-let n xs height fn s (again-layered S f .one) e) in
+      let en = rw (← opened) at (open-let n xs height fn s (again-layered S f .one) e) in
       let a = let-aside b n xs height fn t in
       let row = key-let (rowAt t (n .at)) (g .tables .keys (n .at) i ∙ ap key (kept .is)) in
-      let lists = leave-let-idle b n xs height fn (kept .info) t row in
+      let lists = close-let-idle b n xs height fn (kept .info) t row in
       let c = out-of-let {own = Only (n .at)} b n xs height fn t refl in
       record {
         tables = tabled parts (g .tables) c;
@@ -292,7 +292,7 @@ module _ (S : Script) {own mid left : ℕ → Type 0} {bottom : List (Live Ident
         inside = function-still (S .T) function parts c (g .inside);
         captures = catch-same (a .captures) (ap (λ (h : Facts). h .captured) lists) (g .captures);
         one = f .one;
-        live = leave-let b n xs height fn (names s) t (again-layered S f) (en .anew) (same ∙ en .after) ∙ f .live;
+        live = close-let b n xs height fn (names s) t (again-layered S f) (en .anew) (same ∙ en .after) ∙ f .live;
         around = f .around;
         stands = stands-again S bs (p .scope) (parts .kept) (t .scope .entries) _ (a .entries) (g .stands);
       }

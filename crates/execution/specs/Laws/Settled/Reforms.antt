@@ -23,19 +23,19 @@ use Rattle.pass_laws.specs.Laws.Reads.{Only, readAt}
 use Rattle.pass_laws.specs.Laws.Sets.{setAt}
 use Rattle.pass_laws.specs.Laws.Forms.{Minus, take-one}
 use Rattle.pass_laws.specs.Laws.Idle.{Idle, idle-steps}
-use Rattle.pass_laws.specs.Laws.Preserved.{read-preserves, mutate-preserves, enter-let-preserves}
+use Rattle.pass_laws.specs.Laws.Preserved.{read-preserves, mutate-preserves, open-let-preserves}
 use Rattle.r7rs.specs.Binding.{Binder, Place, Use, Event, letBody, lambdaBody, letNames, parameters, within, enters, mentions, ends, entering, useOf, walk, meant}
 use Rattle.execution.specs.Laws.Settled.Kept.{LetKept, LambdaKept}
 use Rattle.execution.specs.Laws.Settled.Layer.{Lives}
 use Rattle.execution.specs.Laws.Settled.Again.{Frame, FramedIn, Script, Again}
 use Rattle.execution.specs.Laws.Settled.Told.{tells-append}
-use Rattle.execution.specs.Laws.Settled.Unsaid.{unsaid-steps, leave-let-unsaid, leave-lambda-unsaid}
+use Rattle.execution.specs.Laws.Settled.Unsaid.{unsaid-steps, close-let-unsaid, close-lambda-unsaid}
 use Rattle.execution.specs.Laws.Settled.Refused.{first-second, ended-second}
 use Rattle.execution.specs.Laws.Settled.Reading.{read-again, read-tells, read-second, mutate-again}
 use Rattle.execution.specs.Laws.Settled.Reentering.{Reentered}
 use Rattle.execution.specs.Laws.Settled.Ending.{key-let}
 use Rattle.execution.specs.Laws.Settled.Refuses.{Above, frameOf, Pending}
-use Rattle.execution.specs.Laws.Settled.Rebodies.{leave-let-idle, let-left-again}
+use Rattle.execution.specs.Laws.Settled.Rebodies.{close-let-idle, let-left-again}
 use Rattle.execution.specs.Laws.Settled.Releaving.{mutated-still, offsets-still, left-outside, lambda-left-again}
 use Rattle.execution.specs.Laws.Settled.Bounded.{Early}
 use Rattle.execution.specs.Laws.Settled.Did.{Did}
@@ -140,15 +140,15 @@ module _ (classes : List ℕ) (S : Script) (bottom : List (Live Ident)) (own : �
       let left = let-left-again S n xs (letBody (length xs) p) (letNames xs p) f parts (B .again) (here .0 .0) here after kept opened height function q nine
       (B .again .live ∙ sym (N .again .live)) in
       let row = key-let (rowAt u (n .at)) (B .again .tables .keys (n .at) here ∙ ap key (kept .is)) in
-      let out = leave-let-idle opened n xs height function (kept .info) u row in
-      let into = enter-let-preserves idle-steps n xs height function s in
+      let out = close-let-idle opened n xs height function (kept .info) u row in
+      let into = open-let-preserves idle-steps n xs height function s in
       record {
         again = left;
         outside = λ r z. idle-list-entry u v out r ∙ B .outside r z ∙ idle-list-entry s t into r;
         tells = λ R ag. tells-append classes S R (cellOf bottom) (entering (letNames xs p) (p .scope)) (walk b body)
             (N .tells R (earlier ag (omega arith) (omega arith) moves))
             (B .tells R (earlier ag (omega arith) (omega arith) (out-of-let opened n xs height function u (λ l z. omega arith))));
-        second = λ e. leave-let-unsaid opened n xs height function u
+        second = λ e. close-let-unsaid opened n xs height function u
             ∙ first-second S t u (entering (letNames xs p) (p .scope)) (walk b body) (N .second e) (B .second) (keeps-noted past);
       }
 
@@ -210,5 +210,5 @@ module _ (classes : List ℕ) (S : Script) (bottom : List (Live Ident)) (own : �
             (tells-append classes S R (cellOf bottom) (walk b code) (ends (n .at) xs (p .scope) ∷ [])
             (B .tells R (earlier ag (omega arith) (omega arith) (out-of-lambda n xs b escapes u (λ l z. omega arith)))) tt);
         second = λ e. first-second S t v (entering (parameters n xs p) (p .scope)) (walk b code ++ (ends (n .at) xs (p .scope) ∷ [])) (N .second e)
-            (λ m. leave-lambda-unsaid n xs b escapes u ∙ B .second m ∙ sym (ended-second S (walk b code) (n .at) xs (p .scope))) (moves-noted moves);
+            (λ m. close-lambda-unsaid n xs b escapes u ∙ B .second m ∙ sym (ended-second S (walk b code) (n .at) xs (p .scope))) (moves-noted moves);
       }

@@ -19,7 +19,7 @@ use Rattle.pass_laws.specs.Laws.Changes.{quiet}
 use Rattle.pass_laws.specs.Laws.Moves.{Moves, moves-key, out-of-lambda}
 use Rattle.pass_laws.specs.Laws.Scopes.{Any, lambda-ends}
 use Rattle.pass_laws.specs.Laws.Keeps.{Off}
-use Rattle.pass_laws.specs.Laws.Leaves.{names, enter-lambda, leave-lambda}
+use Rattle.pass_laws.specs.Laws.Leaves.{names, open-lambda, close-lambda}
 use Rattle.pass_laws.specs.Laws.Finds.{all-map}
 use Rattle.pass_laws.specs.Laws.Reads.{Only}
 use Rattle.pass_laws.specs.Laws.Enters.{inScope}
@@ -147,7 +147,7 @@ module _ (S : Script) {own mid : ℕ → Type 0} {bottom : List (Live Ident)} {f
       → Again S left bottom function fr d old p (closeLambda n xs b escapes t)
   unfolding closeScope closeCaptures
   lambda-left-again {left} keeps apart w here b escapes e same whole mutated offsets =
-      let en = enter-lambda n xs s (again-layered S f .one) e in
+      let en = open-lambda n xs s (again-layered S f .one) e in
       let a = quiet (lambda-ends {own = Any} n xs b escapes t tt) in
       let row = ap functionIn (key-function (rowAt t (n .at)) (g .inside .0 ∙ ap key (kept .is))) in
       let lists = lambda-amends n xs b escapes (kept .info) t row in
@@ -171,7 +171,7 @@ module _ (S : Script) {own mid : ℕ → Type 0} {bottom : List (Live Ident)} {f
           offsets = offsets;
         };
         one = f .one;
-        live = leave-lambda n xs b escapes (names s) t (again-layered S f) (same ∙ en .after) ∙ f .live;
+        live = close-lambda n xs b escapes (names s) t (again-layered S f) (same ∙ en .after) ∙ f .live;
         around = f .around;
         stands = stands-again S bs (p .scope) keeps (t .scope .entries) _ (ap (λ (k : Scope). k .entries) (a .scope)) (g .stands);
       }

@@ -26,7 +26,7 @@ use Rattle.pass_laws.specs.Laws.Layers.{liveAt}
 use Rattle.pass_laws.specs.Laws.Leaves.{names, not-noted}
 use Rattle.pass_laws.specs.Laws.Finds.{livesOf, Around, layer-most}
 use Rattle.pass_laws.specs.Laws.Idle.{Idle, idle-steps, closed-idle}
-use Rattle.pass_laws.specs.Laws.Preserved.{ended-preserves, lasts-preserves, leaving-preserves, close-let-preserves, parameters-preserves}
+use Rattle.pass_laws.specs.Laws.Preserved.{ended-preserves, lasts-preserves, leaving-preserves, close-layer-preserves, parameters-preserves}
 use Rattle.r7rs.specs.Binding.{Binder, Place, binders}
 use Rattle.execution.specs.Laws.Exact.Captured.{topOf}
 
@@ -186,7 +186,7 @@ let-ended b n xs height function s r h =
     let u = leaveNames xs s in
     let v = makeLet (rowAt s (n .at)) n (entered xs s) height function u in
     let i = leaving-preserves idle-steps xs s in
-    let c = close-let-preserves idle-steps b v in
+    let c = close-layer-preserves idle-steps b v in
     let l = moves-lengths (out-of-let {own = Any} b n xs height function s tt) .rows in
     let e = made-let (rowAt s (n .at)) n (entered xs s) height function u r (omega (arith, l, ap length (close-rows b v))) in
     let a = entered xs s in
@@ -206,9 +206,9 @@ unfolding openScope openCaptures
 fresh-idle none xs s e = parameters-preserves idle-steps none xs (openScope (openCaptures none s))
 fresh-idle (some v) xs s e = absurd (Option·some-ne-none v e)
 
-pub enter-lambda-idle : (n : Node) (xs : List Ident) (s : State) → rowAt s (n .at) ≡ Blank → Idle s (openLambda n xs s)
+pub open-lambda-idle : (n : Node) (xs : List Ident) (s : State) → rowAt s (n .at) ≡ Blank → Idle s (openLambda n xs s)
 unfolding openLambda
-enter-lambda-idle n xs s e = fresh-idle (functionIn (rowAt s (n .at))) xs s (ap functionIn e)
+open-lambda-idle n xs s e = fresh-idle (functionIn (rowAt s (n .at))) xs s (ap functionIn e)
 
 -- The newest layer of a lambda is its parameters, in order
 

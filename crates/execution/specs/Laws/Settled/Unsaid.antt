@@ -15,7 +15,7 @@ use Rattle.pass.specs.State.{Capture, Noted, State, insert, amend, putEntry, ro
 use Rattle.pass.specs.Lists.{capturedVars, sortById, capturedMost, storeCaptured, storeArguments, rewriteCaptured}
 use Rattle.pass.specs.Lambda.{functionIn, nameIn, listEntriesOf, openCaptures, openScope, closeScope, closeCaptures, makeFunction, amendFunction, functionEnds, closeLambda, closeLet}
 use Rattle.pass_laws.specs.Laws.Leaves.{names, captures-beside}
-use Rattle.pass_laws.specs.Laws.Preserved.{Preserves, leave-let-preserves, ended-preserves, lasts-preserves}
+use Rattle.pass_laws.specs.Laws.Preserved.{Preserves, close-let-preserves, ended-preserves, lasts-preserves}
 
 abbrev pub secondOf : State → Option Refusal
 secondOf s = s .noted .second
@@ -44,9 +44,9 @@ unsaid-steps = record {
   nine = λ o i s. refl;
 }
 
-pub leave-let-unsaid : (b : Bool) (n : Node) (xs : List Ident) (height : ℕ) (function : Option Node) (s : State) → Unsaid s (closeLet b n xs height function s)
+pub close-let-unsaid : (b : Bool) (n : Node) (xs : List Ident) (height : ℕ) (function : Option Node) (s : State) → Unsaid s (closeLet b n xs height function s)
 unfolding storeArguments
-leave-let-unsaid = leave-let-preserves unsaid-steps (λ l s. refl) (λ i v s. insert-unsaid i _ s)
+close-let-unsaid = close-let-preserves unsaid-steps (λ l s. refl) (λ i v s. insert-unsaid i _ s)
 
 -- Lambda
 
@@ -68,9 +68,9 @@ unfolding makeFunction amendFunction insert storeArguments rewriteCaptured
 function-unsaid none n b escapes now a m s = stored-unsaid (n .at) (sortById now) s
 function-unsaid (some v) n b escapes now a m s = refl
 
-pub leave-lambda-unsaid : (n : Node) (xs : List Ident) (b : Tree) (escapes : Bool) (s : State) → Unsaid s (closeLambda n xs b escapes s)
+pub close-lambda-unsaid : (n : Node) (xs : List Ident) (b : Tree) (escapes : Bool) (s : State) → Unsaid s (closeLambda n xs b escapes s)
 unfolding closeLambda closeCaptures closeScope
-leave-lambda-unsaid n xs b escapes s =
+close-lambda-unsaid n xs b escapes s =
     let layer = newestLayer (names s) in
     function-unsaid (functionIn (rowAt s (n .at))) n b escapes (capturedVars (map nameIn xs) s) (listEntriesOf s layer) (s .captures) _
     ∙ ended-preserves unsaid-steps xs _ ∙ lasts-preserves unsaid-steps layer (closeCaptures (closeScope s))

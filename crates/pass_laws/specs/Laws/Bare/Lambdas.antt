@@ -76,9 +76,9 @@ unfolding enterParameters
 bare-parameters none xs s = simp bare-names
 bare-parameters (some v) xs s = simp (bare-names, bare-captured, bare-arguments, bare-heaps)
 
-pub bare-enter-lambda : (n : Node) (xs : List Ident) → openLambda n xs ↝ openLambda (bareNode n) (map bareIdent xs)
+pub bare-open-lambda : (n : Node) (xs : List Ident) → openLambda n xs ↝ openLambda (bareNode n) (map bareIdent xs)
 unfolding openLambda
-bare-enter-lambda n xs s = simp (bare-parameters, bare-open, bare-open-captures, bare-row, bare-function)
+bare-open-lambda n xs s = simp (bare-parameters, bare-open, bare-open-captures, bare-row, bare-function)
 
 -- Names leave
 
@@ -151,6 +151,6 @@ ruleset changed = (function-ends, end-parameters, mark-lasts, bare-close, bare-c
 
 ruleset looked-up = (bare-function, bare-captured-vars, names-in, newest-layer, list-entries-of, all-captures)
 
-pub bare-leave-lambda : (n : Node) (xs : List Ident) (b : Tree) (e : Bool) → closeLambda n xs b e ↝ closeLambda (bareNode n) (map bareIdent xs) (bare b) e
+pub bare-close-lambda : (n : Node) (xs : List Ident) (b : Tree) (e : Bool) → closeLambda n xs b e ↝ closeLambda (bareNode n) (map bareIdent xs) (bare b) e
 unfolding closeLambda
-bare-leave-lambda n xs b e s = simp (changed, looked-up, steps)
+bare-close-lambda n xs b e s = simp (changed, looked-up, steps)

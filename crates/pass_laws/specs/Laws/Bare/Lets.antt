@@ -35,15 +35,15 @@ heaps-around : (s : State) (o : Option Node) → heapsAround (bareState s) (Opti
 heaps-around s none = refl
 heaps-around s (some n) = rw (bare-row s (n .at), bare-function (rowAt s (n .at))) (heaps-in s (functionIn (rowAt s (n .at))))
 
-open-let : (b : Bool) → openLayer b ↝ openLayer b
+open-layer : (b : Bool) → openLayer b ↝ openLayer b
 unfolding openLayer
-open-let true s = bare-open s
-open-let false s = refl
+open-layer true s = bare-open s
+open-layer false s = refl
 
-close-let : (b : Bool) → closeLayer b ↝ closeLayer b
+close-layer : (b : Bool) → closeLayer b ↝ closeLayer b
 unfolding closeLayer
-close-let true s = bare-close s
-close-let false s = refl
+close-layer true s = bare-close s
+close-layer false s = refl
 
 -- the names enter, once a layer is open
 letNames : Node → List Ident → ℕ → Option Node → State → State
@@ -57,9 +57,9 @@ is-entered : (n : Node) (xs : List Ident) (h : ℕ) (o : Option Node) (s : State
 unfolding openLet letNames
 is-entered n xs h o s = refl
 
-pub bare-enter-let : (n : Node) (xs : List Ident) (h : ℕ) (o : Option Node)
+pub bare-open-let : (n : Node) (xs : List Ident) (h : ℕ) (o : Option Node)
     → openLet n xs h o ↝ openLet (bareNode n) (map bareIdent xs) h (Option·map bareNode o)
-bare-enter-let n xs h o s = simp (is-entered, let-names, open-let, steps)
+bare-open-let n xs h o s = simp (is-entered, let-names, open-layer, steps)
 
 bare-remove : (x : Ident) (s : State)
     → bareState (withNames (scopeMap.remove (x .name) (s .scope .names)) s) ≡ withNames (scopeMap.remove (x .name) (bareState s .scope .names)) (bareState s)
@@ -89,7 +89,7 @@ make-let (CallSite v) n l h o s = refl
 make-let (Let v) n l h o s = refl
 
 -- `s` is the state before the let
-pub bare-leave-let : (s : State) (n : Node) (xs : List Ident) (h : ℕ) (o : Option Node) (t : State)
+pub bare-close-let : (s : State) (n : Node) (xs : List Ident) (h : ℕ) (o : Option Node) (t : State)
     → bareState (closeLet (atBottom s) n xs h o t) ≡ closeLet (atBottom (bareState s)) (bareNode n) (map bareIdent xs) h (Option·map bareNode o) (bareState t)
 unfolding closeLet
-bare-leave-let s n xs h o t = simp (close-let, make-let, leave-names, bare-entered, steps)
+bare-close-let s n xs h o t = simp (close-layer, make-let, leave-names, bare-entered, steps)

@@ -18,8 +18,8 @@ use Rattle.pass_laws.specs.Laws.Bare.Maps.{map-cond}
 use Rattle.pass_laws.specs.Laws.Bare.Looks.{bare-many, bare-nil, bare-looks, bare-core, bare-cores}
 use Rattle.pass_laws.specs.Laws.Bare.Steps.{bare-entry, bare-context-set, bare-context-back, steps}
 use Rattle.pass_laws.specs.Laws.Bare.Reads.{bare-enter-define, bare-read, bare-mutate}
-use Rattle.pass_laws.specs.Laws.Bare.Lambdas.{bare-enter-lambda, bare-leave-lambda}
-use Rattle.pass_laws.specs.Laws.Bare.Lets.{bare-enter-let, bare-leave-let}
+use Rattle.pass_laws.specs.Laws.Bare.Lambdas.{bare-open-lambda, bare-close-lambda}
+use Rattle.pass_laws.specs.Laws.Bare.Lets.{bare-open-let, bare-close-let}
 
 abbrev pub bareFlags : Flags → Flags
 bareFlags f = record {
@@ -81,9 +81,9 @@ call-fact (sequence m es) n tail k s = simp steps
 call-fact (call m h es) n tail k s = simp steps
 call-fact (set! m x e) n tail k s = simp steps
 
-pub bare-end-call : (n : Node) (h : Tree) (es : Trees) (f : Flags) → closeCall n h es f ↝ closeCall (bareNode n) (bare h) (bares es) (bareFlags f)
+pub bare-close-call : (n : Node) (h : Tree) (es : Trees) (f : Flags) → closeCall n h es f ↝ closeCall (bareNode n) (bare h) (bares es) (bareFlags f)
 unfolding closeCall
-bare-end-call n h es f s = rw (bare-core h, ← bare-cores es) (simp (call-fact, if-tail, steps))
+bare-close-call n h es f s = rw (bare-core h, ← bare-cores es) (simp (call-fact, if-tail, steps))
 
 -- set!
 
@@ -157,8 +157,8 @@ module _ (classes : List ℕ) where
   unfolding visit bare
   bare-let n xs es b p q f s =
       let r = p (notTail f) (withContext NONE s) ∙ ap (visitArguments classes (bares es) (bareFlags (notTail f))) (bare-context-set NONE s) in
-      bare-leave-let s n xs (f .height) (f .function) _
-      ∙ rw (q (letBodyFlags (many es) f) _, bare-enter-let n xs (f .height) (f .function) _, bare-context-back s _ r, bare-many es)
+      bare-close-let s n xs (f .height) (f .function) _
+      ∙ rw (q (letBodyFlags (many es) f) _, bare-open-let n xs (f .height) (f .function) _, bare-context-back s _ r, bare-many es)
 
   bare-define : (n : Node) (x : Ident) (b : Tree) → BareVisit b → BareVisit (define n x b)
   unfolding visit bare
@@ -169,7 +169,7 @@ module _ (classes : List ℕ) where
   bare-lambda : (n : Node) (xs : List Ident) (b : Tree) → BareVisit b → BareVisit (lambda n xs b)
   unfolding visit bare
   bare-lambda n xs b p f s =
-      bare-leave-lambda n xs b (f .escape) _ ∙ rw (p (bodyFlags n (length xs) f) _, bare-enter-lambda n xs s, length-map xs bareIdent)
+      bare-close-lambda n xs b (f .escape) _ ∙ rw (p (bodyFlags n (length xs) f) _, bare-open-lambda n xs s, length-map xs bareIdent)
 
   bare-begin : (n : Node) (es : Trees) → BareChildren es → BareVisit (sequence (begins n) es)
   unfolding visit bare
@@ -203,7 +203,7 @@ module _ (classes : List ℕ) where
   bare-call : (n : Node) (h : Tree) (es : Trees) → BareVisit h → BareArguments es → BareVisit (call n h es)
   unfolding visit bare
   bare-call n h es p q f s =
-      bare-end-call n h es f _ ∙ rw (p (headFlags h (many es) f) _, q (argumentFlags f) s, bare-lambda-is h, bare-many es)
+      bare-close-call n h es f _ ∙ rw (p (headFlags h (many es) f) _, q (argumentFlags f) s, bare-lambda-is h, bare-many es)
 
   bare-set : (n : Node) (x : Ident) (e : Tree) → BareVisit e → BareVisit (set! n x e)
   unfolding visit bare

@@ -17,7 +17,7 @@ use Rattle.pass_laws.specs.Sound.{Lawful, Counting, anything, Counted, L
 use Rattle.pass_laws.specs.Laws.All.{all-of}
 use Rattle.pass_laws.specs.Laws.Sound.Each.{each-context}
 use Rattle.pass_laws.specs.Laws.Sound.Names.{each-value, each-grow, each-mutate}
-use Rattle.pass_laws.specs.Laws.Sound.Scopes.{each-names, each-enter-lambda, each-enter-let}
+use Rattle.pass_laws.specs.Laws.Sound.Scopes.{each-names, each-open-lambda, each-open-let}
 use Rattle.pass_laws.specs.Laws.Sound.Calls.{each-clear}
 
 pub asking-nothing : Lawful anything
@@ -54,12 +54,12 @@ module _ {k : ℕ} where
   pub counted-context : (c : ℕ) {s : State} → Counted k s → Counted k (withContext c s)
   counted-context c h = each-context c h
 
-  pub counted-enter-lambda : (n : Node) (xs : List Ident) {s : State} → Counted k s → Counted k (openLambda n xs s)
-  counted-enter-lambda n xs {s} h = each-enter-lambda asking-nothing few n xs (any-listed (functionIn (rowAt s (n .at)))) (any-names xs) h
+  pub counted-open-lambda : (n : Node) (xs : List Ident) {s : State} → Counted k s → Counted k (openLambda n xs s)
+  counted-open-lambda n xs {s} h = each-open-lambda asking-nothing few n xs (any-listed (functionIn (rowAt s (n .at)))) (any-names xs) h
 
-  pub counted-enter-let : (n : Node) (xs : List Ident) (height : ℕ) (function : Option Node) {s : State} → Counted k s
+  pub counted-open-let : (n : Node) (xs : List Ident) (height : ℕ) (function : Option Node) {s : State} → Counted k s
       → Counted k (openLet n xs height function s)
-  counted-enter-let n xs height function h = each-enter-let asking-nothing few n xs height function (any-names xs) h
+  counted-open-let n xs height function h = each-open-let asking-nothing few n xs height function (any-names xs) h
 
   pub counted-clear : (x : Ident) {s : State} → Counted k s → Counted k (clearContext x s)
   counted-clear x h = each-clear asking-nothing few x h

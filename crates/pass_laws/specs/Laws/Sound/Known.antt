@@ -20,7 +20,7 @@ use Rattle.pass_laws.specs.Sound.{Lawful, Counting, known, Sound, OverRo
 use Rattle.pass_laws.specs.Laws.Sound.Lists.{maybe-some, get-value}
 use Rattle.pass_laws.specs.Laws.Sound.Each.{newest-held, each-context}
 use Rattle.pass_laws.specs.Laws.Sound.Names.{each-value, each-mutate}
-use Rattle.pass_laws.specs.Laws.Sound.Scopes.{each-enter-lambda, each-enter-let}
+use Rattle.pass_laws.specs.Laws.Sound.Scopes.{each-open-lambda, each-open-let}
 use Rattle.pass_laws.specs.Laws.Sound.Calls.{each-clear}
 
 -- a list that lies in the table; and that of a lambda, if it has a fact
@@ -70,13 +70,13 @@ module _ {P : Ident → Type 0} (small : (x : Ident) → P x → x .at < rowsMos
 
   -- Lambda, let, set!
 
-  pub sound-enter-lambda : (n : Node) (xs : List Ident) {s : State} → Inside (functionIn (rowAt s (n .at))) → All P xs → Sound P s
+  pub sound-open-lambda : (n : Node) (xs : List Ident) {s : State} → Inside (functionIn (rowAt s (n .at))) → All P xs → Sound P s
       → Sound P (openLambda n xs s)
-  sound-enter-lambda n xs {s} q p h = each-enter-lambda knowing tt n xs (inside-listed (functionIn (rowAt s (n .at))) q) p h
+  sound-open-lambda n xs {s} q p h = each-open-lambda knowing tt n xs (inside-listed (functionIn (rowAt s (n .at))) q) p h
 
-  pub sound-enter-let : (n : Node) (xs : List Ident) (height : ℕ) (function : Option Node) {s : State} → All P xs → Sound P s
+  pub sound-open-let : (n : Node) (xs : List Ident) (height : ℕ) (function : Option Node) {s : State} → All P xs → Sound P s
       → Sound P (openLet n xs height function s)
-  sound-enter-let n xs height function p h = each-enter-let knowing tt n xs height function p h
+  sound-open-let n xs height function p h = each-open-let knowing tt n xs height function p h
 
   pub sound-clear : (x : Ident) {s : State} → Sound P s → Sound P (clearContext x s)
   sound-clear x h = each-clear knowing tt x h

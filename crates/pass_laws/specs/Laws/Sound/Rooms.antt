@@ -192,10 +192,10 @@ grows-lambda n xs b escapes s {t} p =
 
 -- the whole of a let, after its initial expressions
 
-close-let : {a c : ℕ} (b : Bool) (s : State) {t : State} → Grows a c (openLayer b s) t → Grows a c s (closeLayer b t)
+close-layer : {a c : ℕ} (b : Bool) (s : State) {t : State} → Grows a c (openLayer b s) t → Grows a c s (closeLayer b t)
 unfolding openLayer closeLayer
-close-let true s p = grows-close p
-close-let false s p = p
+close-layer true s p = grows-close p
+close-layer false s p = p
 
 pub grows-let : {a c : ℕ} (b : Bool) (n : Node) (xs : List Ident) (height : ℕ) (function : Option Node) (s : State) {t : State} → b ≡ atBottom s
     → Grows a c (openLet n xs height function s) t → Grows a (length xs + c) s (closeLet b n xs height function t)
@@ -203,4 +203,4 @@ unfolding openLet closeLet
 grows-let b n xs height function s {t} e p =
     let made = grows-quiet (make-changes {own = Any} (rowAt t (n .at)) n (entered xs t) height function (leaveNames xs t) tt) in
     let inner = grows-then (grows-then (grows-names _ height _ _ xs 0 0 _) p) (grows-then (grows-leave-names xs t) made) in
-    rw e (close-let (atBottom s) s (grows-wide (omega arith) inner))
+    rw e (close-layer (atBottom s) s (grows-wide (omega arith) inner))

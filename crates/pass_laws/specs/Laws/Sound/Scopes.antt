@@ -142,10 +142,10 @@ module _ {Q : Property} (lawful : Lawful Q) {F : ℕ → Type 0} (unused : F 0) 
   each-parameters none xs p h = each-names _ _ _ _ xs 0 0 p h
   each-parameters (some v) xs p h = each-names _ _ _ _ xs 0 0 p h
 
-  pub each-enter-lambda : (n : Node) (xs : List Ident) {s : State} → Listed (Q .row) (functionIn (rowAt s (n .at))) → All (Q .ident) xs → Each Q F s
+  pub each-open-lambda : (n : Node) (xs : List Ident) {s : State} → Listed (Q .row) (functionIn (rowAt s (n .at))) → All (Q .ident) xs → Each Q F s
       → Each Q F (openLambda n xs s)
   unfolding openLambda
-  each-enter-lambda n xs {s} q p h = let f = functionIn (rowAt s (n .at)) in each-parameters f xs p (each-push (each-open f q h))
+  each-open-lambda n xs {s} q p h = let f = functionIn (rowAt s (n .at)) in each-parameters f xs p (each-push (each-open f q h))
 
   pub each-last : (o : Option Ident) {s : State} → Each Q F s → Each Q F (markLast o s)
   each-last none h = h
@@ -178,28 +178,28 @@ module _ {Q : Property} (lawful : Lawful Q) {F : ℕ → Type 0} (unused : F 0) 
   each-function none n b escapes now arguments m p h = each-make n escapes (sortById now) arguments (sorted-list-entries (Fine Q F) now p) h
   each-function (some v) n b escapes now arguments m p h = each-amended n b now m v h
 
-  pub each-leave-lambda : (n : Node) (xs : List Ident) (b : Tree) (escapes : Bool) {s : State} → Each Q F s → Each Q F (closeLambda n xs b escapes s)
+  pub each-close-lambda : (n : Node) (xs : List Ident) (b : Tree) (escapes : Bool) {s : State} → Each Q F s → Each Q F (closeLambda n xs b escapes s)
   unfolding closeLambda
-  each-leave-lambda n xs b escapes {s} h =
+  each-close-lambda n xs b escapes {s} h =
       each-function (functionIn (rowAt s (n .at))) n b escapes _ _ _ (captured-list-entries lawful (map nameIn xs) h)
       (each-ended xs (each-lasts (newestLayer (s .scope .names)) (each-pop-captures (each-pop h))))
 
   -- Let
 
-  pub each-open-let : (b : Bool) {s : State} → Each Q F s → Each Q F (openLayer b s)
+  pub each-open-layer : (b : Bool) {s : State} → Each Q F s → Each Q F (openLayer b s)
   unfolding openLayer
-  each-open-let true h = each-push h
-  each-open-let false h = h
+  each-open-layer true h = each-push h
+  each-open-layer false h = h
 
-  pub each-close-let : (b : Bool) {s : State} → Each Q F s → Each Q F (closeLayer b s)
+  pub each-close-layer : (b : Bool) {s : State} → Each Q F s → Each Q F (closeLayer b s)
   unfolding closeLayer
-  each-close-let true h = each-pop h
-  each-close-let false h = h
+  each-close-layer true h = each-pop h
+  each-close-layer false h = h
 
-  pub each-enter-let : (n : Node) (xs : List Ident) (height : ℕ) (function : Option Node) {s : State} → All (Q .ident) xs → Each Q F s
+  pub each-open-let : (n : Node) (xs : List Ident) (height : ℕ) (function : Option Node) {s : State} → All (Q .ident) xs → Each Q F s
       → Each Q F (openLet n xs height function s)
   unfolding openLet
-  each-enter-let n xs height function {s} p h = each-names _ height _ _ xs 0 0 p (each-open-let (atBottom s) h)
+  each-open-let n xs height function {s} p h = each-names _ height _ _ xs 0 0 p (each-open-layer (atBottom s) h)
 
   pub each-leave-names : (xs : List Ident) {s : State} → Each Q F s → Each Q F (leaveNames xs s)
   unfolding leaveNames
@@ -216,8 +216,8 @@ module _ {Q : Property} (lawful : Lawful Q) {F : ℕ → Type 0} (unused : F 0) 
   each-make-let (CallSite v) n l height function h = h
   each-make-let (Let v) n l height function h = h
 
-  pub each-leave-let : (opened : Bool) (n : Node) (xs : List Ident) (height : ℕ) (function : Option Node) {s : State} → Each Q F s
+  pub each-close-let : (opened : Bool) (n : Node) (xs : List Ident) (height : ℕ) (function : Option Node) {s : State} → Each Q F s
       → Each Q F (closeLet opened n xs height function s)
   unfolding closeLet
-  each-leave-let opened n xs height function {s} h =
-      each-close-let opened (each-make-let (rowAt s (n .at)) n (entered xs s) height function (each-leave-names xs h))
+  each-close-let opened n xs height function {s} h =
+      each-close-layer opened (each-make-let (rowAt s (n .at)) n (entered xs s) height function (each-leave-names xs h))

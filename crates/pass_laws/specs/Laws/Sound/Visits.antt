@@ -17,7 +17,7 @@ use Rattle.pass.specs.Visit.{Flags, topFlags, notTail, sameTail, pushed, letBod
 use Rattle.pass_laws.specs.Sound.{Property, Lawful, Counting, Each, Holds, HoldsAll, Listed, Opens, OpensArguments, OpensChildren, OpensDefine, OpensTop, OpensTops, OpensTested}
 use Rattle.pass_laws.specs.Laws.Sound.Each.{each-context}
 use Rattle.pass_laws.specs.Laws.Sound.Names.{each-grow, each-read, each-mutate, each-define, each-value}
-use Rattle.pass_laws.specs.Laws.Sound.Scopes.{each-enter-lambda, each-leave-lambda, each-enter-let, each-leave-let}
+use Rattle.pass_laws.specs.Laws.Sound.Scopes.{each-open-lambda, each-close-lambda, each-open-let, each-close-let}
 use Rattle.pass_laws.specs.Laws.Sound.Calls.{each-call, each-clear, each-before, each-after}
 use Rattle.pass_laws.specs.Laws.Cases.{by-child}
 
@@ -52,18 +52,18 @@ module _ {Q : Property} (lawful : Lawful Q) {F : ℕ → ℕ → Type 0} (counti
     each-visit (letin n xs es b) f s k p o h =
         let j = k + sizes es in
         let args = each-context (s .context) (visited-arguments es (notTail f) _ k (p .1) (o .0) (each-context NONE h)) in
-        let in-let = each-enter-let lawful (counting .none j) n xs (f .height) (f .function) (p .0) args in
+        let in-let = each-open-let lawful (counting .none j) n xs (f .height) (f .function) (p .0) args in
         let body = each-visit b (letBodyFlags (many es) f) _ j (p .2) (o .1) in-let in
-        each-grow counting (j + size b) _ (omega arith) (each-leave-let lawful (counting .none (j + size b)) (atBottom s) n xs (f .height) (f .function) body)
+        each-grow counting (j + size b) _ (omega arith) (each-close-let lawful (counting .none (j + size b)) (atBottom s) n xs (f .height) (f .function) body)
     each-visit (define n x b) f s k p o h =
         let before = each-before lawful (counting .none k) classes (f .direct) (isLambda b) x b (p .0) h in
         let body = each-visit b (defineFlags f) _ k (p .1) o before in
         each-grow counting (k + size b) _ (omega arith)
         (each-after lawful (counting .none (k + size b)) classes (f .direct) (isLambda b) (s .context) x b (p .0) body)
     each-visit (lambda n xs b) f s k p o h =
-        let in-lambda = each-enter-lambda lawful (counting .none k) n xs (listed (functionIn (rowAt s (n .at))) (o .0)) (p .0) h in
+        let in-lambda = each-open-lambda lawful (counting .none k) n xs (listed (functionIn (rowAt s (n .at))) (o .0)) (p .0) h in
         let body = each-visit b (bodyFlags n (length xs) f) _ k (p .1) (o .1) in-lambda in
-        each-grow counting (k + size b) _ (omega arith) (each-leave-lambda lawful (counting .none (k + size b)) n xs b (f .escape) body)
+        each-grow counting (k + size b) _ (omega arith) (each-close-lambda lawful (counting .none (k + size b)) n xs b (f .escape) body)
     each-visit (sequence (begins n) es) f s k p o h =
         each-grow counting (k + sizes es) _ (omega arith)
         (visited-children es (inBegin f) _ k p o (each-children (counting .none k) classes _ (cores es) s (holds-cores (Q .ident) es p) h))

@@ -102,9 +102,9 @@ unfolding enterParameters
 parameters-due none xs s = names-due _ _ _ _ xs 0 0 s
 parameters-due (some v) xs s = names-due _ _ _ _ xs 0 0 s
 
-pub enter-lambda-due : (n : Node) (xs : List Ident) (s : State) → Grown (length xs) s (openLambda n xs s)
+pub open-lambda-due : (n : Node) (xs : List Ident) (s : State) → Grown (length xs) s (openLambda n xs s)
 unfolding openLambda openScope
-enter-lambda-due n xs s =
+open-lambda-due n xs s =
     let f = functionIn (rowAt s (n .at)) in
     let p = open-listed f s in
     let q : Grown 0 s (openScope (openCaptures f s)) =
@@ -144,9 +144,9 @@ function-due none n b escapes now arguments m s =
     atMost (omega arith) (store-captured (n .at) _ s ⟫ store-arguments arguments _ ⟫ row-due (n .at) _ _)
 function-due (some v) n b escapes now arguments m s = atMost (omega arith) (same-due refl refl ⟫ row-due (n .at) _ _)
 
-pub leave-lambda-due : (n : Node) (xs : List Ident) (b : Tree) (escapes : Bool) (s : State) → 2 ≤ depth s → Grown 0 s (closeLambda n xs b escapes s)
+pub close-lambda-due : (n : Node) (xs : List Ident) (b : Tree) (escapes : Bool) (s : State) → 2 ≤ depth s → Grown 0 s (closeLambda n xs b escapes s)
 unfolding closeLambda closeScope closeCaptures
-leave-lambda-due n xs b escapes s h =
+close-lambda-due n xs b escapes s h =
     let layer = newestLayer (s .scope .names) in
     let p : Grown (0 + length (listEntriesOf s layer)) (closeCaptures (closeScope s)) (closeLambda n xs b escapes s) =
     still-due (lasts-preserves still-steps layer (closeCaptures (closeScope s)) ⨾ ended-preserves still-steps xs _)
@@ -155,19 +155,19 @@ leave-lambda-due n xs b escapes s h =
 
 -- Let
 
-open-let-due : (b : Bool) (s : State) → Grown 0 s (openLayer b s)
+open-layer-due : (b : Bool) (s : State) → Grown 0 s (openLayer b s)
 unfolding openLayer openScope
-open-let-due true s = record { by = omega arith }
-open-let-due false s = none-due s
+open-layer-due true s = record { by = omega arith }
+open-layer-due false s = none-due s
 
-close-let-due : (b : Bool) (s : State) → Grown 0 s (closeLayer b s)
+close-layer-due : (b : Bool) (s : State) → Grown 0 s (closeLayer b s)
 unfolding closeLayer closeScope
-close-let-due true s = record { by = omega (arith, pop-size (s .scope .names)) }
-close-let-due false s = none-due s
+close-layer-due true s = record { by = omega (arith, pop-size (s .scope .names)) }
+close-layer-due false s = none-due s
 
-pub enter-let-due : (n : Node) (xs : List Ident) (height : ℕ) (function : Option Node) (s : State) → Grown (length xs) s (openLet n xs height function s)
+pub open-let-due : (n : Node) (xs : List Ident) (height : ℕ) (function : Option Node) (s : State) → Grown (length xs) s (openLet n xs height function s)
 unfolding openLet
-enter-let-due n xs height function s = atMost (omega arith) (open-let-due (atBottom s) s ⟫ names-due _ height _ _ xs 0 0 _)
+open-let-due n xs height function s = atMost (omega arith) (open-layer-due (atBottom s) s ⟫ names-due _ height _ _ xs 0 0 _)
 
 leave-names-due : (xs : List Ident) (s : State) → Grown 0 s (leaveNames xs s)
 unfolding leaveNames
@@ -186,12 +186,12 @@ make-let-due r n l height function s =
     by-let (Grown (length l) s) r n l height function s (λ e. atMost (omega arith) (store-arguments l s ⟫ row-due (n .at) _ _))
     (atMost (omega arith) (none-due s))
 
-pub leave-let-due : (opened : Bool) (n : Node) (xs : List Ident) (height : ℕ) (function : Option Node) (s : State)
+pub close-let-due : (opened : Bool) (n : Node) (xs : List Ident) (height : ℕ) (function : Option Node) (s : State)
     → Grown (length xs) s (closeLet opened n xs height function s)
 unfolding closeLet
-leave-let-due opened n xs height function s =
+close-let-due opened n xs height function s =
     atMost (omega (arith, entered-long xs s))
-    (leave-names-due xs s ⟫ make-let-due (rowAt s (n .at)) n (entered xs s) height function _ ⟫ close-let-due opened _)
+    (leave-names-due xs s ⟫ make-let-due (rowAt s (n .at)) n (entered xs s) height function _ ⟫ close-layer-due opened _)
 
 -- The visits
 
@@ -277,9 +277,9 @@ module _ (classes : List ℕ) where
           arith,
           n .1,
           arguments-due (i + 1 + length xs) es (n .3) (notTail f) (withContext NONE s) h,
-          enter-let-due m xs (f .height) (f .function) u .by,
+          open-let-due m xs (f .height) (f .function) u .by,
           visit-due (i + 1 + length xs + sizes es) b (n .4) (letBodyFlags (many es) f) v (let-stays m xs (f .height) (f .function) u g),
-          leave-let-due (atBottom s) m xs (f .height) (f .function) w .by,
+          close-let-due (atBottom s) m xs (f .height) (f .function) w .by,
         )
     visit-due i (define m x b) n f s h =
         let u = openDefine classes (f .direct) (isLambda b) x b s in
@@ -294,9 +294,9 @@ module _ (classes : List ℕ) where
         let e = keeps-depth (visited classes b (bodyFlags m (length xs) f) u (omega arith)) (omega arith) in
         omega (
           arith,
-          enter-lambda-due m xs s .by,
+          open-lambda-due m xs s .by,
           visit-due (i + 1 + length xs) b (n .2) (bodyFlags m (length xs) f) u (omega arith),
-          leave-lambda-due m xs b (f .escape) w (omega arith) .by,
+          close-lambda-due m xs b (f .escape) w (omega arith) .by,
         )
     visit-due i (sequence (begins m) es) n f s h =
         let u = enterChildren classes LocallyDefinedFunction (cores es) s in

@@ -30,9 +30,9 @@ use Rattle.pass_laws.specs.Laws.Keeps.{visited, visited-arguments}
 use Rattle.pass_laws.specs.Laws.Cases.{by-let}
 use Rattle.pass_laws.specs.Laws.Stage.Still.{_⨾_, still-steps}
 use Rattle.pass_laws.specs.Laws.Stage.Entering.{apart-steps}
-use Rattle.pass_laws.specs.Laws.Stage.Arguments.{enter-lambda-due, enter-let-due, children-due, before-due, still-due, visit-due, arguments-due, entered-one, entered-few}
-use Rattle.pass_laws.specs.Laws.Stage.Filled.{put, ends-stored, enter-lambda-stored}
-use Rattle.pass_laws.specs.Laws.Preserved.{close-let-preserves, leaving-preserves, read-preserves, enter-let-preserves, before-preserves, after-preserves, children-preserves, call-preserves, clear-preserves, mutate-preserves}
+use Rattle.pass_laws.specs.Laws.Stage.Arguments.{open-lambda-due, open-let-due, children-due, before-due, still-due, visit-due, arguments-due, entered-one, entered-few}
+use Rattle.pass_laws.specs.Laws.Stage.Filled.{put, ends-stored, open-lambda-stored}
+use Rattle.pass_laws.specs.Laws.Preserved.{close-layer-preserves, leaving-preserves, read-preserves, open-let-preserves, before-preserves, after-preserves, children-preserves, call-preserves, clear-preserves, mutate-preserves}
 
 -- The list of a lambda that ends
 
@@ -63,10 +63,10 @@ unfolding makeFunction amendFunction rewriteCaptured storeArguments insert
 function-top none n b escapes now arguments m s = omega (arith, put (n .at) (sortById now) s .captured, sorted-length now)
 function-top (some v) n b escapes now arguments m s = omega arith
 
-leave-lambda-top : (n : Node) (xs : List Ident) (b : Tree) (escapes : Bool) (s : State)
+close-lambda-top : (n : Node) (xs : List Ident) (b : Tree) (escapes : Bool) (s : State)
     → closeLambda n xs b escapes s .facts .capturedTop ≤ s .facts .capturedTop + length (s .scope .names .live)
 unfolding closeLambda
-leave-lambda-top n xs b escapes s =
+close-lambda-top n xs b escapes s =
     let layer = newestLayer (s .scope .names) in
     let now = capturedVars (map nameIn xs) s in
     let t = endParameters xs (markLasts layer (closeCaptures (closeScope s))) in
@@ -84,11 +84,11 @@ make-let-top : (r : Row) (n : Node) (l : List ListEntry) (height : ℕ) (functio
 unfolding storeArguments insert
 make-let-top r n l height function s = by-let (λ t. t .facts .capturedTop ≡ s .facts .capturedTop) r n l height function s (λ e. refl) refl
 
-leave-let-top : (opened : Bool) (n : Node) (xs : List Ident) (height : ℕ) (function : Option Node) (s : State)
+close-let-top : (opened : Bool) (n : Node) (xs : List Ident) (height : ℕ) (function : Option Node) (s : State)
     → closeLet opened n xs height function s .facts .capturedTop ≡ s .facts .capturedTop
 unfolding closeLet
-leave-let-top opened n xs height function s =
-    close-let-preserves apart-steps opened _ .stored .captured ∙ make-let-top (rowAt s (n .at)) n (entered xs s) height function _ ∙ leaving-preserves apart-steps xs s .stored .captured
+close-let-top opened n xs height function s =
+    close-layer-preserves apart-steps opened _ .stored .captured ∙ make-let-top (rowAt s (n .at)) n (entered xs s) height function _ ∙ leaving-preserves apart-steps xs s .stored .captured
 
 -- The visits, while there is room for the argument entries of what is visited
 
@@ -122,13 +122,13 @@ module _ (classes : List ℕ) where
         let k = letBodyFlags (many es) f in
         let w = visit classes b k v in
         let p = arguments-due classes (i + 1 + length xs) es (n .3) (notTail f) t h in
-        let q = enter-let-due m xs (f .height) (f .function) u .by in
+        let q = open-let-due m xs (f .height) (f .function) u .by in
         omega (
           arith,
           arguments-top (i + 1 + length xs) es (n .3) (notTail f) t h (omega arith),
-          enter-let-preserves apart-steps m xs (f .height) (f .function) u .stored .captured,
+          open-let-preserves apart-steps m xs (f .height) (f .function) u .stored .captured,
           visit-top (i + 1 + length xs + sizes es) b (n .4) k v (let-stays m xs (f .height) (f .function) u g) (omega (arith, n .1)),
-          leave-let-top (atBottom s) m xs (f .height) (f .function) w,
+          close-let-top (atBottom s) m xs (f .height) (f .function) w,
         )
     visit-top i (define m x b) n f s h l =
         let u = openDefine classes (f .direct) (isLambda b) x b s in
@@ -145,13 +145,13 @@ module _ (classes : List ℕ) where
         let k = bodyFlags m (length xs) f in
         let g : 1 ≤ depth u = omega (arith, lambda-depth m xs s h) in
         let w = visit classes b k u in
-        let p = enter-lambda-due m xs s .by in
+        let p = open-lambda-due m xs s .by in
         omega (
           arith,
-          enter-lambda-stored m xs s .captured,
+          open-lambda-stored m xs s .captured,
           visit-top (i + 1 + length xs) b (n .2) k u g (omega arith),
           visit-due classes (i + 1 + length xs) b (n .2) k u g,
-          leave-lambda-top m xs b (f .escape) w,
+          close-lambda-top m xs b (f .escape) w,
         )
     visit-top i (sequence (begins m) es) n f s h l =
         let u = enterChildren classes LocallyDefinedFunction (cores es) s in

@@ -30,7 +30,7 @@ use Rattle.pass_laws.specs.Laws.Cases.{by-let}
 use Rattle.pass_laws.specs.Laws.Stage.Still.{Stacked, as-stacked, stacked-then, _⨾_, still-steps}
 use Rattle.pass_laws.specs.Laws.Stage.Entering.{apart-steps, open-scope-apart, close-scope-apart}
 use Rattle.pass_laws.specs.Laws.Stage.Numbering.{Opened, open-opened}
-use Rattle.pass_laws.specs.Laws.Preserved.{leaving-preserves, close-let-preserves, parameters-preserves, lasts-preserves, ended-preserves, enter-let-preserves, read-preserves, before-preserves, after-preserves, children-preserves, call-preserves, clear-preserves, mutate-preserves}
+use Rattle.pass_laws.specs.Laws.Preserved.{leaving-preserves, close-layer-preserves, parameters-preserves, lasts-preserves, ended-preserves, open-let-preserves, read-preserves, before-preserves, after-preserves, children-preserves, call-preserves, clear-preserves, mutate-preserves}
 
 -- the layers that are left of a list when the layer d goes
 abbrev dropLayer : ℕ → List ℕ → List ℕ
@@ -111,11 +111,11 @@ make-let-stacked : (r : Row) (n : Node) (l : List ListEntry) (height : ℕ) (fun
 make-let-stacked r n l height function s =
     by-let (Stacked s) r n l height function s (λ e. arguments-stacked l s ⟫ row-stacked (n .at) _ _) (as-stacked refl)
 
-leave-let-stacked : (opened : Bool) (n : Node) (xs : List Ident) (height : ℕ) (function : Option Node) (s : State)
+close-let-stacked : (opened : Bool) (n : Node) (xs : List Ident) (height : ℕ) (function : Option Node) (s : State)
     → Stacked s (closeLet opened n xs height function s)
 unfolding closeLet
-leave-let-stacked opened n xs height function s =
-    leaving-preserves apart-steps xs s .stacked ⟫ make-let-stacked (rowAt s (n .at)) n (entered xs s) height function _ ⟫ close-let-preserves apart-steps opened _ .stacked
+close-let-stacked opened n xs height function s =
+    leaving-preserves apart-steps xs s .stacked ⟫ make-let-stacked (rowAt s (n .at)) n (entered xs s) height function _ ⟫ close-layer-preserves apart-steps opened _ .stacked
 
 -- into a lambda: a layer more
 pub lambda-opened : (n : Node) (xs : List Ident) (s : State) → Opened (suc (s .captures .depth)) s (openLambda n xs s)
@@ -126,10 +126,10 @@ lambda-opened n xs s =
     let q = open-scope-apart (openCaptures f s) .stacked ⟫ parameters-preserves apart-steps f xs _ .stacked in
     record { depth = q .depth ∙ p .depth; more = p .more; layers = q .layers ∙ p .layers }
 
-pub leave-lambda-stacked : (n : Node) (xs : List Ident) (b : Tree) (escapes : Bool) {s t u : State}
+pub close-lambda-stacked : (n : Node) (xs : List Ident) (b : Tree) (escapes : Bool) {s t u : State}
     → Layered s → Opened (suc (s .captures .depth)) s t → Stacked t u → Stacked s (closeLambda n xs b escapes u)
 unfolding closeLambda
-leave-lambda-stacked n xs b escapes {u = u} h p q =
+close-lambda-stacked n xs b escapes {u = u} h p q =
     let layer = newestLayer (u .scope .names) in
     closed h p (q ⟫ close-scope-apart u .stacked) ⟫ (lasts-preserves still-steps layer _ ⨾ ended-preserves still-steps xs _) .apart .stacked
     ⟫ function-stacked (functionIn (rowAt u (n .at))) n b escapes _ _ (u .captures) _
@@ -171,7 +171,7 @@ layered-in-lambda n xs s h =
 -- in a let's body
 pub layered-in-let : (n : Node) (xs : List Ident) (height : ℕ) (function : Option Node) (s : State) → Layered s → Layered (openLet n xs height function s)
 layered-in-let n xs height function s h =
-    layered-next h (let-stays n xs height function s (h .scope)) (enter-let-preserves apart-steps n xs height function s .stacked)
+    layered-next h (let-stays n xs height function s (h .scope)) (open-let-preserves apart-steps n xs height function s .stacked)
 
 -- The visits
 
@@ -193,16 +193,16 @@ module _ (classes : List ℕ) where
         let p = arguments-stacked-visited es (notTail f) (withContext NONE s) h0 in
         let g = next h0 (visited-arguments classes es (notTail f) _ (h .scope)) p in
         let h1 : Layered u = layered-next g (g .scope) (as-stacked refl) in
-        let q = enter-let-preserves apart-steps n xs (f .height) (f .function) u .stacked in
+        let q = open-let-preserves apart-steps n xs (f .height) (f .function) u .stacked in
         as-stacked refl ⟫ p ⟫ as-stacked refl ⟫ q
         ⟫ visit-stacked b (letBodyFlags (many es) f) _ (layered-in-let n xs (f .height) (f .function) u h1)
-        ⟫ leave-let-stacked (atBottom s) n xs (f .height) (f .function) _
+        ⟫ close-let-stacked (atBottom s) n xs (f .height) (f .function) _
     visit-stacked (define n x b) f s h =
         let p = before-preserves apart-steps classes (f .direct) (isLambda b) x b s .stacked in
         let g = next h (before-changes {own = Any} classes (f .direct) (isLambda b) x b s tt) p in
         p ⟫ visit-stacked b (defineFlags f) _ g ⟫ after-preserves apart-steps classes (f .direct) (isLambda b) (s .context) x b _ .stacked
     visit-stacked (lambda n xs b) f s h =
-        leave-lambda-stacked n xs b (f .escape) h (lambda-opened n xs s) (visit-stacked b (bodyFlags n (length xs) f) _ (layered-in-lambda n xs s h))
+        close-lambda-stacked n xs b (f .escape) h (lambda-opened n xs s) (visit-stacked b (bodyFlags n (length xs) f) _ (layered-in-lambda n xs s h))
     visit-stacked (sequence (begins n) es) f s h =
         let p = children-preserves apart-steps classes LocallyDefinedFunction (cores es) s .stacked in
         p ⟫ children-stacked es (inBegin f) _ (next h (children-changes {own = Any} classes _ (cores es) s (trees-any (cores es))) p)

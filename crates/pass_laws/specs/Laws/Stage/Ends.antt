@@ -71,11 +71,11 @@ ended-rows n xs s h =
     let l = newestLayer (s .scope .names) in
     omega (arith, keeps-lengths (lasts-changes {free = Unit {0}} {own = Any} l (closeCaptures (closeScope s)) ⨾ ended-changes xs _) .rows)
 
-leave-lambda-makes : (n : Node) (xs : List Ident) (b : Tree) (escapes : Bool) (s : State) → rowAt s (n .at) ≡ Blank → n .at < length (s .facts .rows)
+close-lambda-makes : (n : Node) (xs : List Ident) (b : Tree) (escapes : Bool) (s : State) → rowAt s (n .at) ≡ Blank → n .at < length (s .facts .rows)
     → let u = closeLambda n xs b escapes s in
     FunctionWithin (u .facts .capturedTop) (u .facts .argumentsTop) (rowAt u (n .at))
 unfolding closeLambda
-leave-lambda-makes n xs b escapes s e h =
+close-lambda-makes n xs b escapes s e h =
     function-makes (functionIn (rowAt s (n .at))) n b escapes _ _ (s .captures) _ (ap functionIn e) (ended-rows n xs s h)
 
 -- A let's end
@@ -92,25 +92,25 @@ make-let-makes r n l height function s e h =
       arguments = record { first = s .facts .argumentsTop; length = length l };
     })) (storeArguments l s) h (omega arith))
 
-close-let-row : (opened : Bool) (i : ℕ) (s : State) → rowAt (closeLayer opened s) i ≡ rowAt s i
+close-layer-row : (opened : Bool) (i : ℕ) (s : State) → rowAt (closeLayer opened s) i ≡ rowAt s i
 unfolding closeLayer closeScope
-close-let-row true i s = refl
-close-let-row false i s = refl
+close-layer-row true i s = refl
+close-layer-row false i s = refl
 
-close-let-makes : (opened : Bool) (i : ℕ) (s : State) → LetWithin (s .facts .argumentsTop) (rowAt s i)
+close-layer-makes : (opened : Bool) (i : ℕ) (s : State) → LetWithin (s .facts .argumentsTop) (rowAt s i)
     → LetWithin (closeLayer opened s .facts .argumentsTop) (rowAt (closeLayer opened s) i)
 unfolding closeLayer closeScope
-close-let-makes true i s h = h
-close-let-makes false i s h = h
+close-layer-makes true i s h = h
+close-layer-makes false i s h = h
 
-leave-let-makes : (opened : Bool) (n : Node) (xs : List Ident) (height : ℕ) (function : Option Node) (s : State)
+close-let-makes : (opened : Bool) (n : Node) (xs : List Ident) (height : ℕ) (function : Option Node) (s : State)
     → rowAt s (n .at) ≡ Blank → n .at < length (s .facts .rows)
     → let u = closeLet opened n xs height function s in
     LetWithin (u .facts .argumentsTop) (rowAt u (n .at))
 unfolding closeLet
-leave-let-makes opened n xs height function s e h =
+close-let-makes opened n xs height function s e h =
     let l = keeps-lengths (leaving-changes {own = Any} xs s) .rows in
-    close-let-makes opened (n .at) _ (make-let-makes (rowAt s (n .at)) n (entered xs s) height function (leaveNames xs s) e (omega (arith, l)))
+    close-layer-makes opened (n .at) _ (make-let-makes (rowAt s (n .at)) n (entered xs s) height function (leaveNames xs s) e (omega (arith, l)))
 
 -- What the ends of lambdas and lets leave, where F held of a lambda's row and L of a let's
 
@@ -131,10 +131,10 @@ making c a =
       kind = blank;
       lambda = λ n xs b escapes s e h p q.
           let u = closeLambda n xs b escapes s in
-          lists-wider (u .facts .capturedTop) (u .facts .argumentsTop) c a (functionIn (rowAt u (n .at))) p q (leave-lambda-makes n xs b escapes s e h);
+          lists-wider (u .facts .capturedTop) (u .facts .argumentsTop) c a (functionIn (rowAt u (n .at))) p q (close-lambda-makes n xs b escapes s e h);
       letin = λ opened n xs height function s e h p.
           let u = closeLet opened n xs height function s in
-          names-wider (u .facts .argumentsTop) a (letIn (rowAt u (n .at))) p (leave-let-makes opened n xs height function s e h);
+          names-wider (u .facts .argumentsTop) a (letIn (rowAt u (n .at))) p (close-let-makes opened n xs height function s e h);
     }
 
 -- on a second they leave them within the same bounds
@@ -158,23 +158,23 @@ module _ (c a : ℕ) where
   function-keeps none n b escapes now arguments m s h l = absurd h
   function-keeps (some v) n b escapes now arguments m s h l = amend-keeps n b now m v s h l
 
-  leave-lambda-keeps : (n : Node) (xs : List Ident) (b : Tree) (escapes : Bool) (s : State) → FunctionWithin c a (rowAt s (n .at))
+  close-lambda-keeps : (n : Node) (xs : List Ident) (b : Tree) (escapes : Bool) (s : State) → FunctionWithin c a (rowAt s (n .at))
       → n .at < length (s .facts .rows)
       → FunctionWithin c a (rowAt (closeLambda n xs b escapes s) (n .at))
   unfolding closeLambda
-  leave-lambda-keeps n xs b escapes s h l = function-keeps (functionIn (rowAt s (n .at))) n b escapes _ _ (s .captures) _ h (ended-rows n xs s l)
+  close-lambda-keeps n xs b escapes s h l = function-keeps (functionIn (rowAt s (n .at))) n b escapes _ _ (s .captures) _ h (ended-rows n xs s l)
 
   make-let-keeps : (r : Row) (n : Node) (l : List ListEntry) (height : ℕ) (function : Option Node) (s : State) → LetWithin a r → makeLet r n l height function s ≡ s
   make-let-keeps r n l height function s h = by-let (λ t. t ≡ s) r n l height function s (λ e. absurd (subst (LetWithin a) e h)) refl
 
-  leave-let-keeps : (opened : Bool) (n : Node) (xs : List Ident) (height : ℕ) (function : Option Node) (s : State) → LetWithin a (rowAt s (n .at))
+  close-let-keeps : (opened : Bool) (n : Node) (xs : List Ident) (height : ℕ) (function : Option Node) (s : State) → LetWithin a (rowAt s (n .at))
       → LetWithin a (rowAt (closeLet opened n xs height function s) (n .at))
   unfolding closeLet
-  leave-let-keeps opened n xs height function s h =
+  close-let-keeps opened n xs height function s h =
       let t = leaveNames xs s in
       let u = makeLet (rowAt s (n .at)) n (entered xs s) height function t in
       within c a .letin (rowAt (closeLayer opened u) (n .at)) (rowAt s (n .at))
-      (ap key (close-let-row opened (n .at) u)
+      (ap key (close-layer-row opened (n .at) u)
       ∙ ap (λ (z : State). key (rowAt z (n .at))) (make-let-keeps (rowAt s (n .at)) n (entered xs s) height function t h)
       ∙ keeps-key (leaving-changes {own = λ x. ⊥} xs s) (n .at) (λ o. o)) h
 
@@ -182,6 +182,6 @@ module _ (c a : ℕ) where
   keeping =
       record {
         kind = within c a;
-        lambda = λ n xs b escapes s h l p q. leave-lambda-keeps n xs b escapes s h l;
-        letin = λ opened n xs height function s h l p. leave-let-keeps opened n xs height function s h;
+        lambda = λ n xs b escapes s h l p q. close-lambda-keeps n xs b escapes s h l;
+        letin = λ opened n xs height function s h l p. close-let-keeps opened n xs height function s h;
       }

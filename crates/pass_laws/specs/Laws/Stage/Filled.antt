@@ -23,7 +23,7 @@ use Rattle.pass_laws.specs.Laws.Cases.{by-let}
 use Rattle.pass_laws.specs.Laws.Stage.Lists.{Shorter, same-rows, shorter-then, shorter-put, lists-shorter, lists-put, amended-long}
 use Rattle.pass_laws.specs.Laws.Stage.Still.{Stored, as-full, stored-then, _⨾_, row-still, still-steps, open-listed}
 use Rattle.pass_laws.specs.Laws.Stage.Entering.{apart-steps, open-scope-apart, close-scope-apart}
-use Rattle.pass_laws.specs.Laws.Preserved.{lasts-preserves, ended-preserves, parameters-preserves, leaving-preserves, close-let-preserves, read-preserves, enter-let-preserves, before-preserves, after-preserves, children-preserves, call-preserves, clear-preserves, mutate-preserves}
+use Rattle.pass_laws.specs.Laws.Preserved.{lasts-preserves, ended-preserves, parameters-preserves, leaving-preserves, close-layer-preserves, read-preserves, open-let-preserves, before-preserves, after-preserves, children-preserves, call-preserves, clear-preserves, mutate-preserves}
 
 -- while 10 is not noted
 abbrev pub Fits : State → Type 0
@@ -137,14 +137,14 @@ unfolding closeCaptures
 ends-stored xs l s =
     stored-then (close-scope-apart s .stored) (stored-then (as-full refl refl refl refl) ((lasts-preserves still-steps l _ ⨾ ended-preserves still-steps xs _) .apart .stored))
 
-pub leave-lambda-filled : (n : Node) (xs : List Ident) (b : Tree) (escapes : Bool) (s : State) → Filled s (closeLambda n xs b escapes s)
+pub close-lambda-filled : (n : Node) (xs : List Ident) (b : Tree) (escapes : Bool) (s : State) → Filled s (closeLambda n xs b escapes s)
 unfolding closeLambda
-leave-lambda-filled n xs b escapes s = function-filled (functionIn (rowAt s (n .at))) n b escapes _ _ (s .captures) refl (ends-stored xs _ s)
+close-lambda-filled n xs b escapes s = function-filled (functionIn (rowAt s (n .at))) n b escapes _ _ (s .captures) refl (ends-stored xs _ s)
 
 -- and its beginning
-pub enter-lambda-stored : (n : Node) (xs : List Ident) (s : State) → Stored s (openLambda n xs s)
+pub open-lambda-stored : (n : Node) (xs : List Ident) (s : State) → Stored s (openLambda n xs s)
 unfolding openLambda
-enter-lambda-stored n xs s =
+open-lambda-stored n xs s =
     let f = functionIn (rowAt s (n .at)) in
     stored-then (open-listed f s .stored) (stored-then (open-scope-apart _ .stored) (parameters-preserves apart-steps f xs _ .stored))
 
@@ -165,12 +165,12 @@ make-let-filled r n l height function s =
     by-let (Filled s) r n l height function s (λ e. arguments-stored l s ⟫ stored-filled (row-still (n .at) (Let _) _ (omega arith) .apart .stored))
     (stored-filled (as-full refl refl refl refl))
 
-pub leave-let-filled : (opened : Bool) (n : Node) (xs : List Ident) (height : ℕ) (function : Option Node) (s : State)
+pub close-let-filled : (opened : Bool) (n : Node) (xs : List Ident) (height : ℕ) (function : Option Node) (s : State)
     → Filled s (closeLet opened n xs height function s)
 unfolding closeLet
-leave-let-filled opened n xs height function s =
+close-let-filled opened n xs height function s =
     stored-filled (leaving-preserves apart-steps xs s .stored) ⟫ make-let-filled (rowAt s (n .at)) n (entered xs s) height function _
-    ⟫ stored-filled (close-let-preserves apart-steps opened _ .stored)
+    ⟫ stored-filled (close-layer-preserves apart-steps opened _ .stored)
 
 -- The visits
 
@@ -184,13 +184,13 @@ module _ (classes : List ℕ) where
     visit-filled (if n a b c) f s = visit-filled a (notTail f) s ⟫ visit-filled b (sameTail f) _ ⟫ visit-filled c (sameTail f) _
     visit-filled (letin n xs es b) f s =
         stored-filled (apart-steps .context NONE s .stored) ⟫ arguments-filled es (notTail f) _
-        ⟫ stored-filled (stored-then (apart-steps .context (s .context) _ .stored) (enter-let-preserves apart-steps n xs (f .height) (f .function) _ .stored))
-        ⟫ visit-filled b (letBodyFlags (many es) f) _ ⟫ leave-let-filled (atBottom s) n xs (f .height) (f .function) _
+        ⟫ stored-filled (stored-then (apart-steps .context (s .context) _ .stored) (open-let-preserves apart-steps n xs (f .height) (f .function) _ .stored))
+        ⟫ visit-filled b (letBodyFlags (many es) f) _ ⟫ close-let-filled (atBottom s) n xs (f .height) (f .function) _
     visit-filled (define n x b) f s =
         stored-filled (before-preserves apart-steps classes (f .direct) (isLambda b) x b s .stored) ⟫ visit-filled b (defineFlags f) _
         ⟫ stored-filled (after-preserves apart-steps classes (f .direct) (isLambda b) (s .context) x b _ .stored)
     visit-filled (lambda n xs b) f s =
-        stored-filled (enter-lambda-stored n xs s) ⟫ visit-filled b (bodyFlags n (length xs) f) _ ⟫ leave-lambda-filled n xs b (f .escape) _
+        stored-filled (open-lambda-stored n xs s) ⟫ visit-filled b (bodyFlags n (length xs) f) _ ⟫ close-lambda-filled n xs b (f .escape) _
     visit-filled (sequence (begins n) es) f s = stored-filled (children-preserves apart-steps classes _ (cores es) s .stored) ⟫ children-filled es (inBegin f) _
     visit-filled (sequence (ands n) es) f s = children-filled es (inAnd (isAlone es) f) s
     visit-filled (sequence (whens b n) es) f s = tested-filled es f s

@@ -22,11 +22,11 @@ use Rattle.pass_laws.specs.Laws.Keeps.{keeps-arguments, visited-argument
 use Rattle.pass_laws.specs.Laws.Stage.Lists.{Lasting, lists-shorter, lists-first}
 use Rattle.pass_laws.specs.Laws.Stage.Still.{stacked-then}
 use Rattle.pass_laws.specs.Laws.Stage.Entering.{open-scope-apart, apart-steps}
-use Rattle.pass_laws.specs.Laws.Stage.Arguments.{visit-due, arguments-due, enter-let-due, enter-lambda-due, layer-size}
+use Rattle.pass_laws.specs.Laws.Stage.Arguments.{visit-due, arguments-due, open-let-due, open-lambda-due, layer-size}
 use Rattle.pass_laws.specs.Laws.Stage.Numbering.{open-size}
 use Rattle.pass_laws.specs.Laws.Stage.Captured.{visit-top}
 use Rattle.pass_laws.specs.Laws.Stage.Captures.{layered-in-lambda}
-use Rattle.pass_laws.specs.Laws.Stage.Filled.{enter-lambda-stored}
+use Rattle.pass_laws.specs.Laws.Stage.Filled.{open-lambda-stored}
 use Rattle.pass_laws.specs.Laws.Stage.Blocks.{blank, blocks-last}
 use Rattle.pass_laws.specs.Laws.Stage.Reached.{to-lambda-body}
 use Rattle.pass_laws.specs.Laws.Stage.Second.{made, lambda-row, let-row}
@@ -34,10 +34,10 @@ use Rattle.pass_laws.specs.Laws.Stage.Onward.{narrow, stacked-long, arou
 use Rattle.pass_laws.specs.Laws.Preserved.{parameters-preserves}
 
 -- a lambda's captures
-pub enter-lambda-size : (n : Node) (xs : List Ident) (s : State)
+pub open-lambda-size : (n : Node) (xs : List Ident) (s : State)
     → length (openLambda n xs s .captures .live) ≤ length (s .captures .live) + held (rowAt s (n .at))
 unfolding openLambda
-enter-lambda-size n xs s =
+open-lambda-size n xs s =
     let f = functionIn (rowAt s (n .at)) in
     let t = openCaptures f s in
     omega (arith, open-size f s, stacked-long (stacked-then (open-scope-apart t .stacked) (parameters-preserves apart-steps f xs (openScope t) .stacked)))
@@ -81,12 +81,12 @@ module _ (classes : List ℕ) (i : ℕ) (f : Flags) (s : State) where
           first (record {
             unmade = blocks-last blank k b (n .2) (r .part) (p .unmade .1);
             function = (omega (arith, n .0), key-blank (rowAt u (m .at)) (r .before .at (m .at) (omega arith) (omega (arith, n .0)) ∙ ap key (p .unmade .0)));
-            room = omega (arith, p .room, enter-lambda-due m xs s .by);
-            captured = omega (arith, p .captured, enter-lambda-stored m xs s .captured);
+            room = omega (arith, p .room, open-lambda-due m xs s .by);
+            captured = omega (arith, p .captured, open-lambda-stored m xs s .captured);
           })
       go (second p) =
           let r = to-lambda-body classes i m xs b n s in
-          let y = enter-lambda-stored m xs s in
+          let y = open-lambda-stored m xs s in
           let e = r .before .at (m .at) (omega arith) (omega (arith, n .0)) in
           second (record {
             made = blocks-last made k b (n .2) (r .part) (p .made .1);
@@ -95,7 +95,7 @@ module _ (classes : List ℕ) (i : ℕ) (f : Flags) (s : State) where
               arith,
               p .room,
               ap (λ (x : ℕ). held (rowAt s x)) (n .0),
-              enter-lambda-size m xs s,
+              open-lambda-size m xs s,
               lists-shorter (y .shorter) k (size b),
               lists-first s i N k (size b) (omega arith) (omega arith),
             );
@@ -148,11 +148,11 @@ module _ (classes : List ℕ) (i : ℕ) (f : Flags) (s : State) where
       go : OnRun i N N (Unmade s (lambda m xs b)) (Made s (lambda m xs b)) (f .function) s → LeavesWithin y (functionIn (rowAt y (m .at)))
       go (first p) =
           let g : 1 ≤ depth u = omega (arith, lambda-depth m xs s h) in
-          let l : due u + size b ≤ suc listEntriesMost = omega (arith, p .room, enter-lambda-due m xs s .by) in
+          let l : due u + size b ≤ suc listEntriesMost = omega (arith, p .room, open-lambda-due m xs s .by) in
           let d = visit-due classes (i + 1 + length xs) b (n .2) k u g in
           rw (key-blank (rowAt y (m .at)) (row ∙ ap key (p .unmade .0))) (
             omega (arith, l, d, layer-size (depth y) (y .scope .names .live)),
-            omega (arith, l, d, p .captured, enter-lambda-stored m xs s .captured, visit-top classes (i + 1 + length xs) b (n .2) k u g l),
+            omega (arith, l, d, p .captured, open-lambda-stored m xs s .captured, visit-top classes (i + 1 + length xs) b (n .2) k u g l),
           )
       go (second p) = leaves-made y (functionIn (rowAt y (m .at))) (made .function (rowAt y (m .at)) (rowAt s (m .at)) row (p .made .0))
 
@@ -239,7 +239,7 @@ module _ (classes : List ℕ) (i : ℕ) (f : Flags) (s : State) where
             p .room,
             n .1,
             arguments-due classes (i + 1 + length xs) es (n .3) (notTail f) (withContext NONE s) h,
-            enter-let-due m xs (f .height) (f .function) u .by,
+            open-let-due m xs (f .height) (f .function) u .by,
             visit-due classes (i + 1 + length xs + sizes es) b (n .4) k v (let-stays m xs (f .height) (f .function) u g),
           )
       go (second p) e = absurd (subst (LetWithin listEntriesMost) e (made .letin (rowAt y (m .at)) (rowAt s (m .at)) row (p .made .0)))

@@ -23,13 +23,13 @@ use Rattle.pass_laws.specs.Laws.Keeps.{Off, visited, visited-arguments}
 use Rattle.pass_laws.specs.Laws.Stage.Lists.{Lasting}
 use Rattle.pass_laws.specs.Laws.Stage.Still.{_⨾_ as _then_, as-full, still-steps}
 use Rattle.pass_laws.specs.Laws.Stage.Entering.{apart-steps}
-use Rattle.pass_laws.specs.Laws.Stage.Filled.{Filled, _⟫_, stored-filled, leave-lambda-filled, leave-let-filled, visit-filled, arguments-filled, children-filled}
+use Rattle.pass_laws.specs.Laws.Stage.Filled.{Filled, _⟫_, stored-filled, close-lambda-filled, close-let-filled, visit-filled, arguments-filled, children-filled}
 use Rattle.pass_laws.specs.Laws.Stage.Blocks.{within, blocks-last, blocks-last-all}
 use Rattle.pass_laws.specs.Laws.Stage.Children.{children-blocks}
 use Rattle.pass_laws.specs.Laws.Stage.Reached.{to-next, to-second, to-third, to-let-body, to-define-body, to-lambda-body, to-head, to-set}
 use Rattle.pass_laws.specs.Laws.Stage.Second.{lambda-row, let-row}
 use Rattle.pass_laws.specs.Laws.Stage.Ends.{Ends}
-use Rattle.pass_laws.specs.Laws.Preserved.{enter-let-preserves, after-preserves, call-preserves, mutate-preserves, read-preserves, children-preserves}
+use Rattle.pass_laws.specs.Laws.Preserved.{open-let-preserves, after-preserves, call-preserves, mutate-preserves, read-preserves, children-preserves}
 
 -- from u on to w the records from i up to j keep their facts, and c and a are no less than the tables are filled in u
 pub record Hence (c a i j : ℕ) (u w : State) : Type 0 where
@@ -127,13 +127,13 @@ module _ (classes : List ℕ) {F L : Row → Type 0} {c a : ℕ} (ends : Ends F 
         let g = let-stays m xs (f .height) (f .function) u e in
         let k = letBodyFlags (many es) f in
         let y = visit classes t k v in
-        let o = leave-let-filled (atBottom s) m xs (f .height) (f .function) y in
+        let o = close-let-filled (atBottom s) m xs (f .height) (f .function) y in
         let i1 = i + 1 + length xs in
         let i2 = i1 + sizes es in (
           let-made i m xs es t n f s h (omega (arith, n .0)) (b .0) (i + size (letin m xs es t)) (omega arith) w p,
           arguments-make i1 es (n .3) (notTail f) (withContext NONE s) h (omega arith) (b .1) w
               (hence-before p (omega arith) (omega arith)
-              (stored-filled (apart-steps .context (s .context) q .stored) ⟫ stored-filled (enter-let-preserves apart-steps m xs (f .height) (f .function) u .stored)
+              (stored-filled (apart-steps .context (s .context) q .stored) ⟫ stored-filled (open-let-preserves apart-steps m xs (f .height) (f .function) u .stored)
               ⟫ visit-filled classes t k v ⟫ o)
               (by (context (s .context)) ⨟ into-let m xs (f .height) (f .function) u (names-writes (Off i1 i2) (i + 1) xs (n .2) (λ x y z y′ z′. omega arith))
               ⨟ by (off i1 i2 i2 t (n .4) (λ x y z y′ z′. omega arith) k v g)
@@ -157,7 +157,7 @@ module _ (classes : List ℕ) {F L : Row → Type 0} {c a : ℕ} (ends : Ends F 
           lambda-made i m xs t n f s h (omega (arith, n .0)) (b .0) (i + size (lambda m xs t)) (omega arith) w p,
           visit-makes j t (n .2) k u (omega (arith, lambda-depth m xs s h)) (omega (arith, moves-lengths (into-lambda {own = Any} m xs s (names-any xs)) .rows))
               (blocks-last (ends .kind) j t (n .2) (to-lambda-body classes i m xs t n s .part) (b .1)) w
-              (hence-before p (omega arith) (omega arith) (leave-lambda-filled m xs t (f .escape) y)
+              (hence-before p (omega arith) (omega arith) (close-lambda-filled m xs t (f .escape) y)
               (out-of-lambda m xs t (f .escape) y (λ x z. omega (arith, n .0)))),
         )
     visit-makes i (sequence (begins m) es) n f s h l b w p =

@@ -22,7 +22,7 @@ use Rattle.pass_laws.specs.Laws.Keeps.{visited-arguments}
 use Rattle.pass_laws.specs.Laws.Stage.Lists.{Lasting}
 use Rattle.pass_laws.specs.Laws.Stage.Still.{Stacked, as-full, as-stacked, stored-then, stacked-then, still-steps}
 use Rattle.pass_laws.specs.Laws.Stage.Entering.{apart-steps}
-use Rattle.pass_laws.specs.Laws.Stage.Arguments.{entered-one, entered-few, arguments-due, children-due, enter-let-due, still-due, before-due}
+use Rattle.pass_laws.specs.Laws.Stage.Arguments.{entered-one, entered-few, arguments-due, children-due, open-let-due, still-due, before-due}
 use Rattle.pass_laws.specs.Laws.Stage.Captured.{arguments-top}
 use Rattle.pass_laws.specs.Laws.Stage.Captures.{next, layered-next, layered-in-let, arguments-stacked-visited}
 use Rattle.pass_laws.specs.Laws.Stage.Blocks.{Kind, blank, blocks-last, blocks-last-all}
@@ -30,7 +30,7 @@ use Rattle.pass_laws.specs.Laws.Stage.Children.{children-blocks}
 use Rattle.pass_laws.specs.Laws.Stage.Reached.{to-children, to-let-body, to-define-body, to-head, to-set}
 use Rattle.pass_laws.specs.Laws.Stage.Second.{made, arguments-all-stored}
 use Rattle.pass_laws.specs.Laws.Stage.Onward.{lasting-of, narrow, onward, here, past-tree}
-use Rattle.pass_laws.specs.Laws.Preserved.{children-preserves, enter-let-preserves, before-preserves, clear-preserves}
+use Rattle.pass_laws.specs.Laws.Preserved.{children-preserves, open-let-preserves, before-preserves, clear-preserves}
 
 -- two trees, one after the other
 both-last : {F L : Row → Type 0} → Kind F L → (i : ℕ) (t u : Tree) → Num i t → Num (i + size t) u → {s w : State}
@@ -157,7 +157,7 @@ module _ (classes : List ℕ) where
         let p = arguments-stacked-visited classes es (notTail f) t h in
         let g = next h (visited-arguments classes es (notTail f) t (h .scope)) p in
         let e : Layered u = layered-next g (g .scope) (as-stacked refl) in
-        let a = enter-let-preserves apart-steps m xs (f .height) (f .function) u in
+        let a = open-let-preserves apart-steps m xs (f .height) (f .function) u in
         let c : Stacked s u = record { depth = p .depth; layers = p .layers } in
         let r = to-let-body classes i m xs es b n f s (h .scope) in
         let k = i + 1 + length xs + sizes es in
@@ -167,7 +167,7 @@ module _ (classes : List ℕ) where
         (λ v. stored-then (apart-steps .context NONE s .stored)
         (stored-then (arguments-all-stored classes (i + 1 + length xs) es (n .3) (notTail f) t (h .scope) (v .1))
         (stored-then (apart-steps .context (s .context) q .stored) (a .stored))))
-        (omega (arith, n .1, arguments-due classes (i + 1 + length xs) es (n .3) (notTail f) t (h .scope), enter-let-due m xs (f .height) (f .function) u .by))
+        (omega (arith, n .1, arguments-due classes (i + 1 + length xs) es (n .3) (notTail f) t (h .scope), open-let-due m xs (f .height) (f .function) u .by))
         (λ z. omega (arith, arguments-top classes (i + 1 + length xs) es (n .3) (notTail f) t (h .scope) (omega arith), a .stored .captured))
 
     -- define

@@ -26,11 +26,11 @@ use Rattle.pass_laws.specs.Laws.Keeps.{keeps, visited, visited-arguments
 use Rattle.pass_laws.specs.Laws.Cases.{by-let}
 use Rattle.pass_laws.specs.Laws.Stage.Still.{Stored, as-full, stored-then, _⨾_, still-steps}
 use Rattle.pass_laws.specs.Laws.Stage.Entering.{apart-steps}
-use Rattle.pass_laws.specs.Laws.Stage.Filled.{amend-stored, ends-stored, enter-lambda-stored}
+use Rattle.pass_laws.specs.Laws.Stage.Filled.{amend-stored, ends-stored, open-lambda-stored}
 use Rattle.pass_laws.specs.Laws.Stage.Blocks.{Kind, within, blocks-last, blocks-last-all}
 use Rattle.pass_laws.specs.Laws.Stage.Children.{children-blocks}
 use Rattle.pass_laws.specs.Laws.Stage.Reached.{to-next, to-second, to-third, to-let-body, to-define-body, to-lambda-body, to-head, to-set}
-use Rattle.pass_laws.specs.Laws.Preserved.{leaving-preserves, close-let-preserves, read-preserves, enter-let-preserves, before-preserves, after-preserves, children-preserves, call-preserves, clear-preserves, mutate-preserves}
+use Rattle.pass_laws.specs.Laws.Preserved.{leaving-preserves, close-layer-preserves, read-preserves, open-let-preserves, before-preserves, after-preserves, children-preserves, call-preserves, clear-preserves, mutate-preserves}
 
 pub made : Kind (FunctionWithin listEntriesMost listEntriesMost) (LetWithin listEntriesMost)
 made = within listEntriesMost listEntriesMost
@@ -46,10 +46,10 @@ function-stored : (f : Option FunctionInformation) (n : Node) (b : Tree) (escape
 function-stored none n b escapes now arguments m e h p = absurd h
 function-stored (some v) n b escapes now arguments m e h p = amend-stored n b now m v e p
 
-leave-lambda-stored : (n : Node) (xs : List Ident) (b : Tree) (escapes : Bool) (s : State)
+close-lambda-stored : (n : Node) (xs : List Ident) (b : Tree) (escapes : Bool) (s : State)
     → FunctionWithin listEntriesMost listEntriesMost (rowAt s (n .at)) → Stored s (closeLambda n xs b escapes s)
 unfolding closeLambda
-leave-lambda-stored n xs b escapes s h = function-stored (functionIn (rowAt s (n .at))) n b escapes _ _ (s .captures) refl h (ends-stored xs _ s)
+close-lambda-stored n xs b escapes s h = function-stored (functionIn (rowAt s (n .at))) n b escapes _ _ (s .captures) refl h (ends-stored xs _ s)
 
 -- A let's end
 
@@ -58,11 +58,11 @@ make-let-stored : (r : Row) (n : Node) (l : List ListEntry) (height : ℕ) (func
 make-let-stored r n l height function s h =
     by-let (Stored s) r n l height function s (λ e. absurd (subst (LetWithin listEntriesMost) e h)) (as-full refl refl refl refl)
 
-leave-let-stored : (opened : Bool) (n : Node) (xs : List Ident) (height : ℕ) (function : Option Node) (s : State)
+close-let-stored : (opened : Bool) (n : Node) (xs : List Ident) (height : ℕ) (function : Option Node) (s : State)
     → LetWithin listEntriesMost (rowAt s (n .at)) → Stored s (closeLet opened n xs height function s)
 unfolding closeLet
-leave-let-stored opened n xs height function s h =
-    leaving-preserves apart-steps xs s .stored ⟫ make-let-stored (rowAt s (n .at)) n (entered xs s) height function _ h ⟫ close-let-preserves apart-steps opened _ .stored
+close-let-stored opened n xs height function s h =
+    leaving-preserves apart-steps xs s .stored ⟫ make-let-stored (rowAt s (n .at)) n (entered xs s) height function _ h ⟫ close-layer-preserves apart-steps opened _ .stored
 
 -- The visits
 
@@ -108,10 +108,10 @@ module _ (classes : List ℕ) where
         let w = openLet m xs (f .height) (f .function) u in
         let k = letBodyFlags (many es) f in
         apart-steps .context NONE s .stored ⟫ arguments-all-stored (i + 1 + length xs) es (n .3) (notTail f) (withContext NONE s) h (b .1)
-        ⟫ apart-steps .context (s .context) _ .stored ⟫ enter-let-preserves apart-steps m xs (f .height) (f .function) u .stored
+        ⟫ apart-steps .context (s .context) _ .stored ⟫ open-let-preserves apart-steps m xs (f .height) (f .function) u .stored
         ⟫ visit-stored (i + 1 + length xs + sizes es) t (n .4) k w (let-stays m xs (f .height) (f .function) u g)
         (blocks-last made (i + 1 + length xs + sizes es) t (n .4) (to-let-body classes i m xs es t n f s h .part) (b .2))
-        ⟫ leave-let-stored (atBottom s) m xs (f .height) (f .function) (visit classes t k w)
+        ⟫ close-let-stored (atBottom s) m xs (f .height) (f .function) (visit classes t k w)
         (made .letin (rowAt (visit classes t k w) (m .at)) (rowAt s (m .at)) (let-row i m xs es t n f k s h) (b .0))
     visit-stored i (define m x t) n f s h b =
         let u = openDefine classes (f .direct) (isLambda t) x t s in
@@ -122,10 +122,10 @@ module _ (classes : List ℕ) where
     visit-stored i (lambda m xs t) n f s h b =
         let u = openLambda m xs s in
         let k = bodyFlags m (length xs) f in
-        enter-lambda-stored m xs s
+        open-lambda-stored m xs s
         ⟫ visit-stored (i + 1 + length xs) t (n .2) k u (omega (arith, lambda-depth m xs s h))
         (blocks-last made (i + 1 + length xs) t (n .2) (to-lambda-body classes i m xs t n s .part) (b .1))
-        ⟫ leave-lambda-stored m xs t (f .escape) (visit classes t k u)
+        ⟫ close-lambda-stored m xs t (f .escape) (visit classes t k u)
         (made .function (rowAt (visit classes t k u) (m .at)) (rowAt s (m .at)) (lambda-row i m xs t n k s h) (b .0))
     visit-stored i (sequence (begins m) es) n f s h b =
         children-preserves apart-steps classes _ (cores es) s .stored

@@ -22,14 +22,14 @@ use Rattle.pass_laws.specs.Laws.Visits.{before-changes, children-changes
 use Rattle.pass_laws.specs.Laws.Ranges.{tree-any, trees-any}
 use Rattle.pass_laws.specs.Laws.Moves.{moves-lengths, into-lambda, into-let}
 use Rattle.pass_laws.specs.Laws.Keeps.{visited, visited-arguments}
-use Rattle.pass_laws.specs.Laws.Sound.Counted.{asking-nothing, counting, counted-grow, counted-context, counted-value, counted-mutate, counted-enter-lambda, counted-enter-let, counted-clear}
+use Rattle.pass_laws.specs.Laws.Sound.Counted.{asking-nothing, counting, counted-grow, counted-context, counted-value, counted-mutate, counted-open-lambda, counted-open-let, counted-clear}
 use Rattle.pass_laws.specs.Laws.Sound.Calls.{each-before}
 use Rattle.pass_laws.specs.Laws.Sound.Growth.{visit-grows, arguments-grow, top-grows}
 use Rattle.pass_laws.specs.Laws.Sound.Runs.{visit-counted, arguments-counted, enter-counted, top-counted}
 use Rattle.pass_laws.specs.Laws.Stage.Still.{Apart, still-steps}
 use Rattle.pass_laws.specs.Laws.Stage.Entering.{apart-steps}
 use Rattle.pass_laws.specs.Laws.Stage.Captures.{lambda-opened}
-use Rattle.pass_laws.specs.Laws.Preserved.{clear-preserves, mutate-preserves, before-preserves, value-preserves, children-preserves, enter-let-preserves}
+use Rattle.pass_laws.specs.Laws.Preserved.{clear-preserves, mutate-preserves, before-preserves, value-preserves, children-preserves, open-let-preserves}
 
 -- from s to t, j records later
 pub record Further (j : ℕ) (s t : State) : Type 0 where
@@ -107,10 +107,10 @@ let-deeper d h = pick (eqb d 1)
 module _ {s : State} (h : 1 ≤ depth s) where
   pub further-let : (n : Node) (xs : List Ident) (height : ℕ) (function : Option Node) → Further 1 s (openLet n xs height function s)
   further-let n xs height function =
-      let a = enter-let-preserves apart-steps n xs height function s in
+      let a = open-let-preserves apart-steps n xs height function s in
       record {
         lengths = moves-lengths (into-let {own = Any} n xs height function s (names-any xs));
-        counted = λ k c. counted-grow (omega arith) (counted-enter-let n xs height function c);
+        counted = λ k c. counted-grow (omega arith) (counted-open-let n xs height function c);
         layers = omega (arith, let-depth n xs height function s h, let-deeper (depth s) h);
         captureLayers = omega (arith, a .stacked .depth);
       }
@@ -118,7 +118,7 @@ module _ {s : State} (h : 1 ≤ depth s) where
   pub further-lambda : (n : Node) (xs : List Ident) → Further 1 s (openLambda n xs s)
   further-lambda n xs = record {
     lengths = moves-lengths (into-lambda {own = Any} n xs s (names-any xs));
-    counted = λ k c. counted-grow (omega arith) (counted-enter-lambda n xs c);
+    counted = λ k c. counted-grow (omega arith) (counted-open-lambda n xs c);
     layers = omega (arith, lambda-depth n xs s h);
     captureLayers = omega (arith, lambda-opened n xs s .depth);
   }

@@ -15,11 +15,11 @@ use Rattle.pass.specs.Visit.{Flags, openDefine, enterChildren, visit, visitArgu
 use Rattle.pass_laws.specs.Stage.{entering, enterings, Layered}
 use Rattle.pass_laws.specs.Laws.Stage.Still.{Stored}
 use Rattle.pass_laws.specs.Laws.Stage.Entering.{apart-steps}
-use Rattle.pass_laws.specs.Laws.Stage.Arguments.{Grown, value-due, children-due, before-due, enter-let-due, enter-lambda-due, visit-due, arguments-due}
-use Rattle.pass_laws.specs.Laws.Stage.Filled.{enter-lambda-stored, visit-filled, arguments-filled}
+use Rattle.pass_laws.specs.Laws.Stage.Arguments.{Grown, value-due, children-due, before-due, open-let-due, open-lambda-due, visit-due, arguments-due}
+use Rattle.pass_laws.specs.Laws.Stage.Filled.{open-lambda-stored, visit-filled, arguments-filled}
 use Rattle.pass_laws.specs.Laws.Stage.Top.{top-laws}
 use Rattle.pass_laws.specs.Laws.Stage.Tops.{tops-due}
-use Rattle.pass_laws.specs.Laws.Preserved.{enter-let-preserves, before-preserves, children-preserves, value-preserves}
+use Rattle.pass_laws.specs.Laws.Preserved.{open-let-preserves, before-preserves, children-preserves, value-preserves}
 
 abbrev living : State → ℕ
 living s = length (s .scope .names .live)
@@ -29,10 +29,10 @@ live-more : {k : ℕ} {s t : State} → Grown k s t → Stored s t → living t 
 live-more g p = omega (arith, g .by, p .arguments)
 
 pub lambda-live : (n : Node) (xs : List Ident) (s : State) → living (openLambda n xs s) ≤ living s + length xs
-lambda-live n xs s = live-more (enter-lambda-due n xs s) (enter-lambda-stored n xs s)
+lambda-live n xs s = live-more (open-lambda-due n xs s) (open-lambda-stored n xs s)
 
 pub let-live : (n : Node) (xs : List Ident) (height : ℕ) (function : Option Node) (s : State) → living (openLet n xs height function s) ≤ living s + length xs
-let-live n xs height function s = live-more (enter-let-due n xs height function s) (enter-let-preserves apart-steps n xs height function s .stored)
+let-live n xs height function s = live-more (open-let-due n xs height function s) (open-let-preserves apart-steps n xs height function s .stored)
 
 module _ (classes : List ℕ) where
   pub visit-live : (i : ℕ) (t : Tree) → Num i t → (f : Flags) (s : State) → 1 ≤ depth s

@@ -21,7 +21,7 @@ use Rattle.pass_laws.specs.Stage.{afterInitials}
 use Rattle.pass_laws.specs.Visitable.{Visitable, VisitableArguments, VisitableChildren}
 use Rattle.pass_laws.specs.Laws.Visits.{stays}
 use Rattle.pass_laws.specs.Laws.Keeps.{visited, visited-arguments}
-use Rattle.pass_laws.specs.Laws.Sound.Known.{knowing, sound-context, sound-enter-lambda, sound-enter-let, sound-clear}
+use Rattle.pass_laws.specs.Laws.Sound.Known.{knowing, sound-context, sound-open-lambda, sound-open-let, sound-clear}
 use Rattle.pass_laws.specs.Laws.Sound.Calls.{each-before}
 use Rattle.pass_laws.specs.Laws.Sound.Runs.{enter-sound}
 use Rattle.pass_laws.specs.Laws.Stage.Still.{still-steps}
@@ -219,7 +219,7 @@ module _ {P : Ident → Type 0} (small : (x : Ident) → P x → x .at < rowsMos
           num = w .num .4;
           inside = omega arith;
           holds = w .holds .2;
-          sound = sound-enter-let small n xs (f .height) (f .function) (w .holds .0)
+          sound = sound-open-let small n xs (f .height) (f .function) (w .holds .0)
               (sound-context small (s .context) (arguments-visited-sound small classes let-initials));
           ample = ample-on (further-then initials-further (further-let initials-deep n xs (f .height) (f .function))) (w .ample)
               (omega (arith, arguments-visited-live small classes let-initials, w .num .1, many-sizes es));
@@ -254,7 +254,7 @@ module _ {P : Ident → Type 0} (small : (x : Ident) → P x → x .at < rowsMos
         num = w .num .2;
         inside = omega arith;
         holds = w .holds .1;
-        sound = sound-enter-lambda small n xs (opens classes i (lambda n xs b) (w .num) f s (w .stage) .0) (w .holds .0) (w .sound);
+        sound = sound-open-lambda small n xs (opens classes i (lambda n xs b) (w .num) f s (w .stage) .0) (w .holds .0) (w .sound);
         ample = ample-on (further-lambda (w .stage .layered .scope) n xs) (w .ample) (omega arith);
         stage = in-lambda classes i f s n xs b (w .num) (w .stage);
       }
