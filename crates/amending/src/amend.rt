@@ -30,6 +30,7 @@ ghost use mathlib.Core.List.{[]};
 ghost use Prim.Native.Nat.{_≤_, _<_};
 ghost use lib.ListN.{length};
 ghost use lib.Dec.{eqb};
+ghost use Rattle.table.specs.EntryExit.{old, final};
 ghost use Rattle.scope_map.specs.ScopeMap.{get};
 ghost use Rattle.pass.specs.Lists.{enclosingOf};
 ghost use Rattle.pass.specs.Run.{listEntriesMost, listEntriesLength};
@@ -63,7 +64,7 @@ pub struct Ending {
 // The records are gone through, so this is asked only where there is a list to amend (docs/SPEED.md, 51).
 fn ending_of(all: &[u32], l: Lambda) -> Ending
     requires { ⌜ SomeLambda (now all) l ⌝ }
-    ensures { λ r. ⌜ (lambdaOf r ≡ l) × Ended (now (all .entry)) r ⌝ }
+    ensures { λ r. ⌜ (lambdaOf r ≡ l) × Ended (old all) r ⌝ }
 {
     let names = l.names;
     Ending {
@@ -77,7 +78,7 @@ fn ending_of(all: &[u32], l: Lambda) -> Ending
 // Whether the name stands in the rows from `first` up to `end`, by search.
 fn search_rows(captured: &[u32], first: usize, end: usize, name: u32) -> bool
     requires { ⌜ (length (now captured) ≡ listEntriesLength) × (first ≤ end) × (end ≤ listEntriesMost) ⌝ }
-    ensures { λ r. ⌜ StandsBefore (now (captured .entry)) first end [] name r ⌝ }
+    ensures { λ r. ⌜ StandsBefore (old captured) first end [] name r ⌝ }
 {
     let mut i = first;
     while i < end {
@@ -92,7 +93,7 @@ fn search_rows(captured: &[u32], first: usize, end: usize, name: u32) -> bool
 // The same, by the marks where they have the name.
 fn stands_before(seen: &[u8], captured: &[u32], first: usize, end: usize, name: u32) -> bool
     requires { ⌜ (length (now captured) ≡ listEntriesLength) × (first ≤ end) × (end ≤ listEntriesMost) ⌝ }
-    ensures { λ r. ⌜ StandsBefore (now (captured .entry)) first end (now (seen .entry)) name r ⌝ }
+    ensures { λ r. ⌜ StandsBefore (old captured) first end (old seen) name r ⌝ }
 {
     let x = wide(name);
     if x < seen.len() {
@@ -104,7 +105,7 @@ fn stands_before(seen: &[u8], captured: &[u32], first: usize, end: usize, name: 
 // Whether the newest capture of the name comes from the enclosing lambda.
 fn enclosing_of(p: Pass, work: &[u32], name: u32) -> bool
     requires { ⌜ SomeHere p (now work) ⌝ }
-    ensures { λ r. ⌜ Tells p (now (work .entry)) (λ s. enclosingOf (get (s .captures) name)) r ⌝ }
+    ensures { λ r. ⌜ Tells p (old work) (λ s. enclosingOf (get (s .captures) name)) r ⌝ }
 {
     let found = newest_capture(p, work, name);
     let Found::At {
@@ -122,7 +123,7 @@ fn enclosing_of(p: Pass, work: &[u32], name: u32) -> bool
 // The same, for a name that stands n times in the list made anew: once.
 fn enclosing_in(p: Pass, work: &[u32], name: u32, n: usize) -> bool
     requires { ⌜ SomeHere p (now work) ⌝ }
-    ensures { λ r. ⌜ Tells p (now (work .entry)) (λ s. eqb n 1 && enclosingOf (get (s .captures) name)) r ⌝ }
+    ensures { λ r. ⌜ Tells p (old work) (λ s. eqb n 1 && enclosingOf (get (s .captures) name)) r ⌝ }
 {
     if n != 1 {
         return false;
@@ -133,7 +134,7 @@ fn enclosing_in(p: Pass, work: &[u32], name: u32, n: usize) -> bool
 // The first kept entry of a name takes the heap offset of the entry that the name gives, and where it comes from.
 fn amended(found: Binder, p: Pass, work: &[u32], name: u32, n: usize, v: ScopeInfo) -> ScopeInfo
     requires { ⌜ SomeHere p (now work) × SomeBinder found ⌝ }
-    ensures { λ r. ⌜ AmendsInfo found p (now (work .entry)) name n v r ⌝ }
+    ensures { λ r. ⌜ AmendsInfo found p (old work) name n v r ⌝ }
 {
     let Binder::At(b) = found else {
         return v;
@@ -158,7 +159,7 @@ fn kept(
     x: ListEntry,
 ) -> ListEntry
     requires { ⌜ IndexHeld (now all) names p (now work) (now index) ⌝ }
-    ensures { λ r. ⌜ KeepsListEntry (now (all .entry)) names p (now (work .entry)) (now (index .entry)) n seen x r ⌝ }
+    ensures { λ r. ⌜ KeepsListEntry (old all) names p (old work) (old index) n seen x r ⌝ }
     ensures place { λ r. ⌜ r .binder ≡ x .binder ⌝ }
 {
     if n == 0 {
@@ -201,7 +202,8 @@ fn keep_row(
     work: &mut [u32],
 ) -> bool
     requires { ⌜ KeepHeld (now all) d p (now index) first to r (now captured) (now work) ⌝ }
-    ensures { λ k. ⌜ KeepsRow (now (all .entry)) d p (now (index .entry)) (now (counts .entry)) (now (seen .entry)) first to r (now (captured .entry)) (now (work .entry)) k (now (seen .exit)) (now (captured .exit)) (now (work .exit)) ⌝ }
+    ensures { λ k. ⌜ KeepsRow (old all) d p (old index) (old counts) (old seen) first to r (old captured) (old work)
+        k (final seen) (final captured) (final work) ⌝ }
 {
     let names = d.names;
     let x = load_list_entry(captured, work, r);
@@ -219,7 +221,7 @@ fn keep_row(
 // Zeros in the rows from `first` up to `end`.
 fn clear_list_entries(captured: &mut [u32], work: &mut [u32], first: usize, end: usize)
     requires { ⌜ (length (now captured) ≡ listEntriesLength) × (length (now work) ≡ workLong) × (first ≤ end) × (end ≤ listEntriesMost) ⌝ }
-    ensures { λ _. ⌜ Rewrites (now (captured .entry)) (now (work .entry)) (cleared first end) (now (captured .exit)) (now (work .exit)) ⌝ }
+    ensures { λ _. ⌜ Rewrites (old captured) (old work) (cleared first end) (final captured) (final work) ⌝ }
 {
     let start = 13 * first;
     let stop = 13 * end;
@@ -243,8 +245,9 @@ fn amend_rows(
     captured: &mut [u32],
     work: &mut [u32],
 ) -> usize
-    requires { ⌜ Inside e × Ended (now all) d × Held (now all) p (now captured) (now work) × AllRight (now all) d p (now work) (now index) (now counts) × Unmarked (now seen) ⌝ }
-    ensures { λ r. ⌜ AmendsList (now (all .entry)) (lambdaOf d) e p (now (captured .entry)) (now (work .entry)) r (now (captured .exit)) (now (work .exit)) ⌝ }
+    requires { ⌜ Inside e × Ended (now all) d × Held (now all) p (now captured) (now work)
+        × AllRight (now all) d p (now work) (now index) (now counts) × Unmarked (now seen) ⌝ }
+    ensures { λ r. ⌜ AmendsList (old all) (lambdaOf d) e p (old captured) (old work) r (final captured) (final work) ⌝ }
 {
     let first = wide(e.first);
     let n = wide(e.length);
@@ -282,7 +285,7 @@ fn amend_long(
     work: &mut [u32],
 ) -> usize
     requires { ⌜ Inside e × Ended (now all) d × Held (now all) p (now captured) (now work) ⌝ }
-    ensures { λ r. ⌜ AmendsList (now (all .entry)) (lambdaOf d) e p (now (captured .entry)) (now (work .entry)) r (now (captured .exit)) (now (work .exit)) ⌝ }
+    ensures { λ r. ⌜ AmendsList (old all) (lambdaOf d) e p (old captured) (old work) r (final captured) (final work) ⌝ }
 {
     let names = d.names;
     let mut index = [0; NAMES];
@@ -306,7 +309,7 @@ pub fn amend_list(
     work: &mut [u32],
 ) -> usize
     requires { ⌜ Inside e × SomeLambda (now all) l × Held (now all) p (now captured) (now work) ⌝ }
-    ensures { λ r. ⌜ AmendsList (now (all .entry)) l e p (now (captured .entry)) (now (work .entry)) r (now (captured .exit)) (now (work .exit)) ⌝ }
+    ensures { λ r. ⌜ AmendsList (old all) l e p (old captured) (old work) r (final captured) (final work) ⌝ }
 {
     let n = wide(e.length);
     if n == 0 {

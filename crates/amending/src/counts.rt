@@ -12,6 +12,7 @@ use work::Pass;
 use work::scope::live_at;
 ghost use mathlib.Core.List.{[]};
 ghost use Prim.Native.Nat.{_<_};
+ghost use Rattle.table.specs.EntryExit.{old, final};
 ghost use Rattle.work.specs.Scope.{KnownHere};
 ghost use Rattle.walk.specs.Contract.{SomeNames};
 ghost use Rattle.walk.specs.Marks.{Unmarked};
@@ -22,7 +23,7 @@ ghost use Rattle.amending.specs.Counts.{GivesName, CountsNow, MarksBody,
 // Whether live row i is of the name and gives an entry to the list.
 fn gives(all: &[u32], names: Names, p: Pass, work: &[u32], i: usize, name: u32) -> bool
     requires { ⌜ SomeNames (now all) names × KnownHere (now all) p (now work) × (i < p .scope .length) ⌝ }
-    ensures { λ r. ⌜ GivesName (now (all .entry)) names p (now (work .entry)) i name r ⌝ }
+    ensures { λ r. ⌜ GivesName (old all) names p (old work) i name r ⌝ }
 {
     let r = live_at(p, work, i);
     if r.name != name {
@@ -36,7 +37,7 @@ fn gives(all: &[u32], names: Names, p: Pass, work: &[u32], i: usize, name: u32) 
 // row.
 fn count_now(all: &[u32], names: Names, p: Pass, work: &[u32], name: u32) -> usize
     requires { ⌜ SomeNames (now all) names × KnownHere (now all) p (now work) ⌝ }
-    ensures { λ r. ⌜ CountsNow (now (all .entry)) names p (now (work .entry)) name r ⌝ }
+    ensures { λ r. ⌜ CountsNow (old all) names p (old work) name r ⌝ }
 {
     let scope = p.scope;
     let mut n = 0;
@@ -58,7 +59,7 @@ fn count_now(all: &[u32], names: Names, p: Pass, work: &[u32], name: u32) -> usi
 // Marks the names that the body uses, unless it holds a lambda.
 fn mark_body(all: &[u32], d: Ending, used: &mut [u8])
     requires { ⌜ Ended (now all) d × Unmarked (now used) ⌝ }
-    ensures { λ _. ⌜ MarksBody (now (all .entry)) d (now (used .exit)) ⌝ }
+    ensures { λ _. ⌜ MarksBody (old all) d (final used) ⌝ }
 {
     if d.holds {
         return;
@@ -69,7 +70,7 @@ fn mark_body(all: &[u32], d: Ending, used: &mut [u8])
 // Whether the body holds a lambda or uses the name, by its marks where they have the name.
 fn is_used(used: &[u8], all: &[u32], d: Ending, name: u32) -> bool
     requires { ⌜ Ended (now all) d ⌝ }
-    ensures { λ r. ⌜ TellsUsed (now (all .entry)) d (now (used .entry)) name r ⌝ }
+    ensures { λ r. ⌜ TellsUsed (old all) d (old used) name r ⌝ }
 {
     if d.holds {
         return true;
@@ -84,7 +85,7 @@ fn is_used(used: &[u8], all: &[u32], d: Ending, name: u32) -> bool
 // How often the name stands in the list made anew of the names used, by search.
 fn search_count(all: &[u32], d: Ending, p: Pass, work: &[u32], name: u32) -> usize
     requires { ⌜ Ended (now all) d × KnownHere (now all) p (now work) ⌝ }
-    ensures { λ r. ⌜ CountsUsed (now (all .entry)) d p (now (work .entry)) [] name r ⌝ }
+    ensures { λ r. ⌜ CountsUsed (old all) d p (old work) [] name r ⌝ }
 {
     let names = d.names;
     let none = [0; 0];
@@ -97,7 +98,7 @@ fn search_count(all: &[u32], d: Ending, p: Pass, work: &[u32], name: u32) -> usi
 // The same, by the counts where they have the name.
 pub fn count_used(counts: &[u32], all: &[u32], d: Ending, p: Pass, work: &[u32], name: u32) -> usize
     requires { ⌜ Ended (now all) d × KnownHere (now all) p (now work) ⌝ }
-    ensures { λ r. ⌜ CountsUsed (now (all .entry)) d p (now (work .entry)) (now (counts .entry)) name r ⌝ }
+    ensures { λ r. ⌜ CountsUsed (old all) d p (old work) (old counts) name r ⌝ }
 {
     let x = wide(name);
     if x < counts.len() {
@@ -118,7 +119,7 @@ fn count_row(
     counts: &mut [u32],
 )
     requires { ⌜ Ended (now all) d × KnownHere (now all) p (now work) × (i < p .scope .length) × AtMost i (now counts) ⌝ }
-    ensures { λ _. ⌜ CountsRow (now (all .entry)) d p (now (work .entry)) (now (index .entry)) (now (used .entry)) i (now (counts .entry)) (now (counts .exit)) ⌝ }
+    ensures { λ _. ⌜ CountsRow (old all) d p (old work) (old index) (old used) i (old counts) (final counts) ⌝ }
 {
     let names = d.names;
     let r = live_at(p, work, i);
@@ -145,7 +146,7 @@ fn count_rows(
     counts: &mut [u32],
 )
     requires { ⌜ Ended (now all) d × KnownHere (now all) p (now work) × Zeros (now counts) ⌝ }
-    ensures { λ _. ⌜ CountsRows (now (all .entry)) d p (now (work .entry)) (now (index .entry)) (now (used .entry)) (now (counts .exit)) ⌝ }
+    ensures { λ _. ⌜ CountsRows (old all) d p (old work) (old index) (old used) (final counts) ⌝ }
 {
     let scope = p.scope;
     let end = scope.length;
@@ -159,7 +160,7 @@ fn count_rows(
 // The counts of all names that `counts` has.
 pub fn count_names(index: &[u32], all: &[u32], d: Ending, p: Pass, work: &[u32], counts: &mut [u32])
     requires { ⌜ Ended (now all) d × KnownHere (now all) p (now work) × Zeros (now counts) ⌝ }
-    ensures { λ _. ⌜ CountsNames (now (all .entry)) d p (now (work .entry)) (now (index .entry)) (now (counts .exit)) ⌝ }
+    ensures { λ _. ⌜ CountsNames (old all) d p (old work) (old index) (final counts) ⌝ }
 {
     let mut used = [0; NAMES];
     mark_body(all, d, &mut used);

@@ -15,6 +15,7 @@ ghost use mathlib.Core.Bool.{cond, not};
 ghost use Prim.Native.Nat.{_+_, _-_, _≤_, _<_};
 ghost use lib.ListN.{length};
 ghost use lib.Dec.{leb};
+ghost use Rattle.table.specs.EntryExit.{old, final};
 ghost use Rattle.pass.specs.Lists.{isNear};
 ghost use Rattle.pass.specs.Run.{listEntriesMost, listEntriesLength};
 ghost use Rattle.work.specs.Works.{workLong};
@@ -30,7 +31,7 @@ pub enum Nearby {
 // The newest capture of the name, if it lies in the newest layer or the next one down.
 pub fn near(p: Pass, captured: &[u32], work: &[u32], name: u32) -> Nearby
     requires { ⌜ SomeHeld p (now captured) (now work) ⌝ }
-    ensures { λ r. ⌜ TellsNear p (now (captured .entry)) (now (work .entry)) name r ⌝ }
+    ensures { λ r. ⌜ TellsNear p (old captured) (old work) name r ⌝ }
 {
     let found = newest_capture(p, work, name);
     let Found::At {
@@ -94,7 +95,7 @@ fn offsets_from(o: Nearby, i: u32, slot: u32) -> Offsets
 // The entry in row r takes its offsets.
 fn put_offsets(captured: &mut [u32], heap: bool, r: usize, i: u32, o: Nearby, slot: u32)
     requires { ⌜ (length (now captured) ≡ listEntriesLength) × (r < listEntriesMost) ⌝ }
-    ensures { λ _. ⌜ PutsOffsets (now (captured .entry)) heap r i (nearOf o) slot (now (captured .exit)) ⌝ }
+    ensures { λ _. ⌜ PutsOffsets (old captured) heap r i (nearOf o) slot (final captured) ⌝ }
 {
     let f = offsets_from(o, i, slot);
     if heap {
@@ -128,7 +129,7 @@ fn take_row(
     work: &mut [u32],
 ) -> Pass
     requires { ⌜ TakeHeld r x p (now captured) (now work) ⌝ }
-    ensures { λ q. ⌜ TakesRow heap r i x p (now (captured .entry)) (now (work .entry)) q (now (captured .exit)) (now (work .exit)) ⌝ }
+    ensures { λ q. ⌜ TakesRow heap r i x p (old captured) (old work) q (final captured) (final work) ⌝ }
 {
     let o = near(p, captured, work, x.name);
     let info = x.info;
@@ -163,7 +164,7 @@ fn number_row(
     work: &mut [u32],
 ) -> Numbered
     requires { ⌜ RowHeld heap r p (now captured) (now work) × (i < 4294967295) ⌝ }
-    ensures { λ q. ⌜ NumbersRow heap r i p (now (captured .entry)) (now (work .entry)) q (now (captured .exit)) (now (work .exit)) ⌝ }
+    ensures { λ q. ⌜ NumbersRow heap r i p (old captured) (old work) q (final captured) (final work) ⌝ }
     ensures few { λ q. ⌜ q .next ≤ i + 1 ⌝ }
 {
     let x = load_list_entry(captured, work, r);
@@ -181,7 +182,7 @@ fn number_row(
 // The entries that are mutated, or those that are not, are numbered.
 fn number_rows(heap: bool, e: ListAt, p: Pass, captured: &mut [u32], work: &mut [u32]) -> Pass
     requires { ⌜ Inside e × RowsHeld heap (e .length) (e .first) p (now captured) (now work) ⌝ }
-    ensures { λ q. ⌜ NumbersRows heap e p (now (captured .entry)) (now (work .entry)) q (now (captured .exit)) (now (work .exit)) ⌝ }
+    ensures { λ q. ⌜ NumbersRows heap e p (old captured) (old work) q (final captured) (final work) ⌝ }
 {
     let first = wide(e.first);
     let n = wide(e.length);
@@ -201,7 +202,7 @@ fn number_rows(heap: bool, e: ListAt, p: Pass, captured: &mut [u32], work: &mut 
 // Whether an entry of the list is mutated.
 fn has_mutated(e: ListAt, captured: &[u32], work: &[u32]) -> bool
     requires { ⌜ Inside e × (length (now captured) ≡ listEntriesLength) × (length (now work) ≡ workLong) ⌝ }
-    ensures { λ r. ⌜ TellsMutated (now (captured .entry)) (now (work .entry)) e r ⌝ }
+    ensures { λ r. ⌜ TellsMutated (old captured) (old work) e r ⌝ }
 {
     let first = wide(e.first);
     let n = wide(e.length);
@@ -220,7 +221,7 @@ fn has_mutated(e: ListAt, captured: &[u32], work: &[u32]) -> bool
 // `number_rows` is first handed a copy of the pass (docs/SPEED.md, 46), and is called for mutated entries only where there are any (51).
 pub fn number_list(e: ListAt, p: Pass, captured: &mut [u32], work: &mut [u32]) -> Pass
     requires { ⌜ Inside e × CapturesRoom p e × SomeHeld p (now captured) (now work) ⌝ }
-    ensures { λ r. ⌜ Numbers e p (now (captured .entry)) (now (work .entry)) r (now (captured .exit)) (now (work .exit)) ⌝ }
+    ensures { λ r. ⌜ Numbers e p (old captured) (old work) r (final captured) (final work) ⌝ }
 {
     if e.length == 0 {
         return p;
@@ -236,7 +237,7 @@ pub fn number_list(e: ListAt, p: Pass, captured: &mut [u32], work: &mut [u32]) -
 // How many entries of a list are captured and mutated.
 pub fn heap_count(e: ListAt, t: &[u32]) -> u32
     requires { ⌜ Inside e × (length (now t) ≡ listEntriesLength) ⌝ }
-    ensures { λ r. ⌜ CountsHeap (now (t .entry)) e r ⌝ }
+    ensures { λ r. ⌜ CountsHeap (old t) e r ⌝ }
     ensures few { λ r. ⌜ r ≤ listEntriesMost ⌝ }
 {
     let first = wide(e.first);

@@ -16,6 +16,7 @@ ghost use mathlib.Core.Bool.{true};
 ghost use Prim.Native.Nat.{_-_, _≤_};
 ghost use mathlib.Core.Option.{none};
 ghost use lib.ListN.{length, replicate};
+ghost use Rattle.table.specs.EntryExit.{old, final};
 ghost use Rattle.checks.specs.Answer.{refusalOf};
 ghost use Rattle.tree.specs.Starts.{TellsStarts};
 ghost use Rattle.pass.specs.Run.{Fresh, Settled, Answers, workLength, zeros, lengthsFit, fitting, freshOutcome, settledOutcome};
@@ -41,7 +42,7 @@ pub fn fit(
     arguments: &[u32],
     work: &[u32],
 ) -> bool
-    ensures { λ r. ⌜ r ≡ fitting (now (records .entry)) (tables (now (facts .entry)) (now (captured .entry)) (now (arguments .entry)) (now (work .entry))) ⌝ }
+    ensures { λ r. ⌜ r ≡ fitting (old records) (tables (old facts) (old captured) (old arguments) (old work)) ⌝ }
 {
     if records.len() % 6 != 0 {
         return false;
@@ -103,7 +104,7 @@ fn refused_second(p: Pass) -> Answer
 // What a refusal leaves, but 1.
 pub fn clear_all(facts: &mut [u32], captured: &mut [u32], arguments: &mut [u32], work: &mut [u32])
     requires { ⌜ lengthsFit (tables (now facts) (now captured) (now arguments) (now work)) ≡ true ⌝ }
-    ensures { λ _. ⌜ tables (now (facts .exit)) (now (captured .exit)) (now (arguments .exit)) (now (work .exit)) ≡ zeros ⌝ }
+    ensures { λ _. ⌜ tables (final facts) (final captured) (final arguments) (final work) ≡ zeros ⌝ }
 {
     table::clear(facts);
     table::clear(captured);
@@ -114,7 +115,7 @@ pub fn clear_all(facts: &mut [u32], captured: &mut [u32], arguments: &mut [u32],
 // The numbers from `start` up to `end` become zeros.
 fn clear_part(work: &mut [u32], start: usize, end: usize)
     requires { ⌜ (start ≤ end) × (end ≤ length (now work)) ⌝ }
-    ensures { λ _. ⌜ now (work .exit) ≡ zeroed start (end - start) (now (work .entry)) ⌝ }
+    ensures { λ _. ⌜ final work ≡ zeroed start (end - start) (old work) ⌝ }
 {
     table::clear(&mut work[start..end]);
 }
@@ -122,7 +123,7 @@ fn clear_part(work: &mut [u32], start: usize, end: usize)
 // All of a work table in which n records have entries. Those of other records are zero already (docs/SPEED.md, 50).
 fn clear_work(work: &mut [u32], n: usize)
     requires { ⌜ (length (now work) ≡ workLength) × Rested n (now work) ⌝ }
-    ensures { λ _. ⌜ now (work .exit) ≡ replicate workLength 0 ⌝ }
+    ensures { λ _. ⌜ final work ≡ replicate workLength 0 ⌝ }
 {
     clear_part(work, 0, ENTRIES + ENTRY * n);
     clear_part(work, CAPTURES, WORK);
@@ -137,8 +138,10 @@ fn clear_after(
     arguments: &mut [u32],
     work: &mut [u32],
 )
-    requires { ⌜ (lengthsFit (tables (now facts) (now captured) (now arguments) (now work)) ≡ true) × (refusalIn a ≡ none → Rested n (now work)) ⌝ }
-    ensures { λ _. ⌜ tables (now (facts .exit)) (now (captured .exit)) (now (arguments .exit)) (now (work .exit)) ≡ left (refusalIn a) (tables (now (facts .entry)) (now (captured .entry)) (now (arguments .entry)) (now (work .entry))) ⌝ }
+    requires { ⌜ (lengthsFit (tables (now facts) (now captured) (now arguments) (now work)) ≡ true)
+        × (refusalIn a ≡ none → Rested n (now work)) ⌝ }
+    ensures { λ _. ⌜ tables (final facts) (final captured) (final arguments) (final work)
+        ≡ left (refusalIn a) (tables (old facts) (old captured) (old arguments) (old work)) ⌝ }
 {
     if let Answer::Accepted = a {
         clear_work(work, n);
@@ -151,7 +154,7 @@ fn clear_after(
 // (docs/SPEED.md, 50). Rows and captures of an empty map are not looked at.
 fn clear_names(work: &mut [u32], n: usize)
     requires { ⌜ (length (now work) ≡ workLength) × Rested n (now work) ⌝ }
-    ensures { λ _. ⌜ now (work .exit) ≡ namesCleared (now (work .entry)) ⌝ }
+    ensures { λ _. ⌜ final work ≡ namesCleared (old work) ⌝ }
 {
     clear_part(work, SCOPE_HINTS, ENTRIES);
     clear_part(work, ENTRIES, ENTRIES + ENTRY * n);
@@ -161,7 +164,7 @@ fn clear_names(work: &mut [u32], n: usize)
 // No facts yet, and a work table as a run starts with.
 fn clear_start(facts: &mut [u32], captured: &mut [u32], arguments: &mut [u32], work: &mut [u32])
     requires { ⌜ lengthsFit (tables (now facts) (now captured) (now arguments) (now work)) ≡ true ⌝ }
-    ensures { λ _. ⌜ Blank (tables (now (facts .exit)) (now (captured .exit)) (now (arguments .exit)) (now (work .exit))) ⌝ }
+    ensures { λ _. ⌜ Blank (tables (final facts) (final captured) (final arguments) (final work)) ⌝ }
 {
     table::clear(facts);
     table::clear(captured);
@@ -181,7 +184,8 @@ fn run_once(
 ) -> Answer
     requires { ⌜ TellsStarts (length (now classes)) (now records) (now tops) ⌝ }
     requires { ⌜ Begins (now classes) (now records) (tables (now facts) (now captured) (now arguments) (now work)) ⌝ }
-    ensures { λ r. ⌜ Ends freshOutcome (now (classes .entry)) (now (records .entry)) (outcomeOf r (now (facts .exit)) (now (captured .exit)) (now (arguments .exit)) (now (work .exit))) ⌝ }
+    ensures { λ r. ⌜ Ends freshOutcome (old classes) (old records)
+        (outcomeOf r (final facts) (final captured) (final arguments) (final work)) ⌝ }
 {
     let p = run_with_scope(
         tops,
@@ -207,7 +211,8 @@ fn run_twice(
 ) -> Answer
     requires { ⌜ TellsStarts (length (now classes)) (now records) (now tops) ⌝ }
     requires { ⌜ Begins (now classes) (now records) (tables (now facts) (now captured) (now arguments) (now work)) ⌝ }
-    ensures { λ r. ⌜ Ends settledOutcome (now (classes .entry)) (now (records .entry)) (outcomeOf r (now (facts .exit)) (now (captured .exit)) (now (arguments .exit)) (now (work .exit))) ⌝ }
+    ensures { λ r. ⌜ Ends settledOutcome (old classes) (old records)
+        (outcomeOf r (final facts) (final captured) (final arguments) (final work)) ⌝ }
 {
     let p = run_with_scope(
         tops,
@@ -249,7 +254,8 @@ fn run_listed(
 ) -> Answer
     requires { ⌜ StartsFit (now records) (now tops) ⌝ }
     requires { ⌜ Blank (tables (now facts) (now captured) (now arguments) (now work)) ⌝ }
-    ensures { λ r. ⌜ Checks (outcomeBy twice) (now (classes .entry)) (now (records .entry)) (outcomeOf r (now (facts .exit)) (now (captured .exit)) (now (arguments .exit)) (now (work .exit))) ⌝ }
+    ensures { λ r. ⌜ Checks (outcomeBy twice) (old classes) (old records)
+        (outcomeOf r (final facts) (final captured) (final arguments) (final work)) ⌝ }
 {
     let a = answer_of(checks::check(records, classes.len(), tops));
     let Answer::Accepted = a else {
@@ -276,7 +282,8 @@ fn run_checked(
     work: &mut [u32],
 ) -> Answer
     requires { ⌜ Blank (tables (now facts) (now captured) (now arguments) (now work)) ⌝ }
-    ensures { λ r. ⌜ Checks (outcomeBy twice) (now (classes .entry)) (now (records .entry)) (outcomeOf r (now (facts .exit)) (now (captured .exit)) (now (arguments .exit)) (now (work .exit))) ⌝ }
+    ensures { λ r. ⌜ Checks (outcomeBy twice) (old classes) (old records)
+        (outcomeOf r (final facts) (final captured) (final arguments) (final work)) ⌝ }
 {
     if tree::record::len(records) <= FEW {
         let mut tops = [0u16; FEW + 1];
@@ -313,7 +320,8 @@ fn run(
     arguments: &mut [u32],
     work: &mut [u32],
 ) -> Answer
-    ensures { λ r. ⌜ Answers (outcomeBy twice) (now (classes .entry)) (now (records .entry)) (tables (now (facts .entry)) (now (captured .entry)) (now (arguments .entry)) (now (work .entry))) (outcomeOf r (now (facts .exit)) (now (captured .exit)) (now (arguments .exit)) (now (work .exit))) ⌝ }
+    ensures { λ r. ⌜ Answers (outcomeBy twice) (old classes) (old records) (tables (old facts) (old captured) (old arguments) (old work))
+        (outcomeOf r (final facts) (final captured) (final arguments) (final work)) ⌝ }
 {
     if !fit(records, facts, captured, arguments, work) {
         return Answer::Refused(1, 0);
@@ -339,7 +347,8 @@ pub fn fresh(
     arguments: &mut [u32],
     work: &mut [u32],
 ) -> Answer
-    ensures { λ r. ⌜ Fresh (now (classes .entry)) (now (records .entry)) (tables (now (facts .entry)) (now (captured .entry)) (now (arguments .entry)) (now (work .entry))) (outcomeOf r (now (facts .exit)) (now (captured .exit)) (now (arguments .exit)) (now (work .exit))) ⌝ }
+    ensures { λ r. ⌜ Fresh (old classes) (old records) (tables (old facts) (old captured) (old arguments) (old work))
+        (outcomeOf r (final facts) (final captured) (final arguments) (final work)) ⌝ }
 {
     run(records, classes, false, facts, captured, arguments, work)
 }
@@ -352,7 +361,8 @@ pub fn settled(
     arguments: &mut [u32],
     work: &mut [u32],
 ) -> Answer
-    ensures { λ r. ⌜ Settled (now (classes .entry)) (now (records .entry)) (tables (now (facts .entry)) (now (captured .entry)) (now (arguments .entry)) (now (work .entry))) (outcomeOf r (now (facts .exit)) (now (captured .exit)) (now (arguments .exit)) (now (work .exit))) ⌝ }
+    ensures { λ r. ⌜ Settled (old classes) (old records) (tables (old facts) (old captured) (old arguments) (old work))
+        (outcomeOf r (final facts) (final captured) (final arguments) (final work)) ⌝ }
 {
     run(records, classes, true, facts, captured, arguments, work)
 }

@@ -6,6 +6,7 @@ ghost use mathlib.Core.List.{[]};
 ghost use Prim.Native.Nat.{_+_, _<_, _≤_};
 ghost use lib.Dec.{eqb};
 ghost use lib.ListN.{length};
+ghost use Rattle.table.specs.EntryExit.{old, final};
 ghost use Rattle.tree.specs.Record.{records, nth};
 ghost use Rattle.tree.specs.Check.{member, repeated};
 ghost use Rattle.checks.specs.Private.Found.{foundOf};
@@ -43,7 +44,7 @@ fn bucket(id: u32, buckets: usize) -> usize
 fn stands(rs: &[u32], before: &[u16], last: usize, id: u32) -> bool
     requires { ⌜ (id ≡ 0 → last ≡ 0) ⌝ }
     requires { ⌜ Chain (now rs) (now before) id last ⌝ }
-    ensures { λ r. ⌜ r ≡ member id (seen (now (rs .entry)) last) ⌝ }
+    ensures { λ r. ⌜ r ≡ member id (seen (old rs) last) ⌝ }
 {
     let mut p = last;
     while 0 < p {
@@ -69,8 +70,8 @@ fn repeats(rs: &[u32], i: usize, newest: &mut [u16], before: &mut [u16]) -> bool
     requires { ⌜ length (records (now rs)) ≤ 4096 ⌝ }
     requires { ⌜ i < length (records (now rs)) ⌝ }
     requires { ⌜ Chains (now rs) (now newest) (now before) i ⌝ }
-    ensures { λ r. ⌜ r ≡ not (eqb (nth (now (rs .entry)) i .id) 0) && member (nth (now (rs .entry)) i .id) (seen (now (rs .entry)) i) ⌝ }
-    ensures chained { λ r. ⌜ (r ≡ false → Chains (now (rs .entry)) (now (newest .exit)) (now (before .exit)) (i + 1)) ⌝ }
+    ensures { λ r. ⌜ r ≡ not (eqb (nth (old rs) i .id) 0) && member (nth (old rs) i .id) (seen (old rs) i) ⌝ }
+    ensures chained { λ r. ⌜ (r ≡ false → Chains (old rs) (final newest) (final before) (i + 1)) ⌝ }
 {
     let id = record::id(rs, i);
     let none = id == 0;
@@ -89,7 +90,7 @@ fn repeats(rs: &[u32], i: usize, newest: &mut [u16], before: &mut [u16]) -> bool
 fn repeated_in(rs: &[u32], newest: &mut [u16], before: &mut [u16]) -> Found
     requires { ⌜ length (records (now rs)) ≤ 4096 ⌝ }
     requires { ⌜ Chains (now rs) (now newest) (now before) 0 ⌝ }
-    ensures { λ r. ⌜ foundOf r ≡ repeated [] (records (now (rs .entry))) ⌝ }
+    ensures { λ r. ⌜ foundOf r ≡ repeated [] (records (old rs)) ⌝ }
 {
     let n = record::len(rs);
     let mut i = 0;
@@ -104,7 +105,7 @@ fn repeated_in(rs: &[u32], newest: &mut [u16], before: &mut [u16]) -> Found
 
 fn repeated_few(rs: &[u32]) -> Found
     requires { ⌜ length (records (now rs)) ≤ 512 ⌝ }
-    ensures { λ r. ⌜ foundOf r ≡ repeated [] (records (now (rs .entry))) ⌝ }
+    ensures { λ r. ⌜ foundOf r ≡ repeated [] (records (old rs)) ⌝ }
 {
     let mut newest = [0u16; FEW];
     let mut before = [0u16; FEW];
@@ -113,7 +114,7 @@ fn repeated_few(rs: &[u32]) -> Found
 
 fn repeated_many(rs: &[u32]) -> Found
     requires { ⌜ length (records (now rs)) ≤ 4096 ⌝ }
-    ensures { λ r. ⌜ foundOf r ≡ repeated [] (records (now (rs .entry))) ⌝ }
+    ensures { λ r. ⌜ foundOf r ≡ repeated [] (records (old rs)) ⌝ }
 {
     let mut newest = [0u16; MOST_RECORDS];
     let mut before = [0u16; MOST_RECORDS];
@@ -122,7 +123,7 @@ fn repeated_many(rs: &[u32]) -> Found
 
 // Whether the ids rise from record to record, or fall. Which records have an id comes mixed: the numbers are picked.
 fn ordered(rs: &[u32], rising: bool) -> bool
-    ensures { λ r. ⌜ Tells r (InOrder rising (now (rs .entry))) ⌝ }
+    ensures { λ r. ⌜ Tells r (InOrder rising (old rs)) ⌝ }
 {
     let n = record::len(rs);
     let mut last = pick(rising, 0, IDS);
@@ -143,7 +144,7 @@ fn ordered(rs: &[u32], rising: bool) -> bool
 // 8: an id used twice, at the record that repeats an earlier one. Ids mostly come in order: then none repeats, and no table is needed.
 pub fn repeated_id(rs: &[u32]) -> Found
     requires { ⌜ length (records (now rs)) ≤ 4096 ⌝ }
-    ensures { λ r. ⌜ foundOf r ≡ repeated [] (records (now (rs .entry))) ⌝ }
+    ensures { λ r. ⌜ foundOf r ≡ repeated [] (records (old rs)) ⌝ }
 {
     if ordered(rs, true) {
         return Found::Nothing;

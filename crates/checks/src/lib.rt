@@ -3,6 +3,7 @@ ghost use mathlib.Core.Path.{_≡_};
 ghost use mathlib.Core.Option.{none};
 ghost use Prim.Native.Nat.{ℕ, _≤_, _<_};
 ghost use lib.ListN.{length};
+ghost use Rattle.table.specs.EntryExit.{old, final};
 ghost use Rattle.tree.specs.Record.{records};
 ghost use Rattle.tree.specs.Check.{refusal};
 ghost use Rattle.checks.specs.Private.Order.{from3, from8};
@@ -48,7 +49,7 @@ pub enum Checked {
 // 8, where none of the checks before it applies.
 fn last(rs: &[u32]) -> Checked
     requires { ⌜ length (records (now rs)) ≤ 4096 ⌝ }
-    ensures { λ r. ⌜ ((N : ℕ) → refusalOf r ≡ from8 N (now (rs .entry))) ⌝ }
+    ensures { λ r. ⌜ ((N : ℕ) → refusalOf r ≡ from8 N (old rs)) ⌝ }
 {
     let repeated = ids::repeated_id(rs);
     if let Found::At(i) = repeated {
@@ -60,7 +61,7 @@ fn last(rs: &[u32]) -> Checked
 // 3 to 7, 16 and 8 in order, each over all the records before the next.
 fn in_order(rs: &[u32], names: usize) -> Checked
     requires { ⌜ length (records (now rs)) ≤ 4096 ⌝ }
-    ensures { λ r. ⌜ refusalOf r ≡ from3 names (now (rs .entry)) ⌝ }
+    ensures { λ r. ⌜ refusalOf r ≡ from3 names (old rs) ⌝ }
 {
     let outside = scan::field_outside(rs, names);
     if let Found::At(i) = outside {
@@ -94,9 +95,9 @@ fn in_order(rs: &[u32], names: usize) -> Checked
 // is too short, all of it is as it was. After any other its start is left free: at most as many numbers as there are records at top level and one more, each
 // as it was or at most the record count.
 pub fn check(rs: &[u32], names: usize, tops: &mut [u16]) -> Checked
-    ensures { λ r. ⌜ refusalOf r ≡ refusal names (now (rs .entry)) ⌝ }
-    ensures told { λ r. ⌜ (refusalOf r ≡ none → length (records (now (rs .entry))) < length (now (tops .entry)) → TellsStarts names (now (rs .entry)) (now (tops .exit))) ⌝ }
-    ensures leaves { λ _. ⌜ Leaves names (now (rs .entry)) (now (tops .entry)) (now (tops .exit)) ⌝ }
+    ensures { λ r. ⌜ refusalOf r ≡ refusal names (old rs) ⌝ }
+    ensures told { λ r. ⌜ (refusalOf r ≡ none → length (records (old rs)) < length (old tops) → TellsStarts names (old rs) (final tops)) ⌝ }
+    ensures leaves { λ _. ⌜ Leaves names (old rs) (old tops) (final tops) ⌝ }
 {
     if rs.len() % record::WIDTH != 0 {
         return Checked::Ragged;

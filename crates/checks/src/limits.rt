@@ -2,6 +2,7 @@
 ghost use mathlib.Core.Path.{_≡_};
 ghost use Prim.Native.Nat.{_<_, _≤_};
 ghost use lib.ListN.{length};
+ghost use Rattle.table.specs.EntryExit.{old};
 ghost use Rattle.tree.specs.Record.{records, nth};
 ghost use Rattle.checks.specs.Private.Limits.{byForm, partIn, idLimit, idColumn, limits, limitOf, Between, partsAt, Fields, Within};
 ghost use Rattle.checks.specs.Private.Clear.{Tells};
@@ -134,7 +135,7 @@ pub fn all(names: usize) -> Columns
 fn limit(t: &Columns, form: u32, j: usize) -> usize
     requires { ⌜ form ≤ 12 ⌝ }
     requires { ⌜ j < 10 ⌝ }
-    ensures { λ r. ⌜ r ≡ limitOf (now (t .entry)) form j ⌝ }
+    ensures { λ r. ⌜ r ≡ limitOf (old t) form j ⌝ }
 {
     t[j][wide(form)]
 }
@@ -143,7 +144,7 @@ fn limit(t: &Columns, form: u32, j: usize) -> usize
 fn between(t: &Columns, form: u32, j: usize, x: u32) -> bool
     requires { ⌜ form ≤ 12 ⌝ }
     requires { ⌜ j < 9 ⌝ }
-    ensures { λ r. ⌜ Tells r (Between (now (t .entry)) form j x) ⌝ }
+    ensures { λ r. ⌜ Tells r (Between (old t) form j x) ⌝ }
 {
     limit(t, form, j) <= wide(x) && wide(x) <= limit(t, form, j + 1)
 }
@@ -151,7 +152,7 @@ fn between(t: &Columns, form: u32, j: usize, x: u32) -> bool
 // Whether the fields of record i are within its form's limits, but for the least count, which is no limit of check 3.
 pub fn fit(t: &Columns, rs: &[u32], i: usize) -> bool
     requires { ⌜ i < length (records (now rs)) ⌝ }
-    ensures { λ r. ⌜ Tells r (Fields (now (t .entry)) (nth (now (rs .entry)) i)) ⌝ }
+    ensures { λ r. ⌜ Tells r (Fields (old t) (nth (old rs) i)) ⌝ }
 {
     let form = record::form(rs, i);
     if form::FORMS < form {
@@ -169,7 +170,7 @@ pub fn fit(t: &Columns, rs: &[u32], i: usize) -> bool
 // Whether record i is within its form's limits, where so many names are due.
 pub fn within(t: &Columns, rs: &[u32], i: usize, due: usize) -> bool
     requires { ⌜ i < length (records (now rs)) ⌝ }
-    ensures { λ r. ⌜ Tells r (Within (now (t .entry)) (nth (now (rs .entry)) i) due) ⌝ }
+    ensures { λ r. ⌜ Tells r (Within (old t) (nth (old rs) i) due) ⌝ }
 {
     if !fit(t, rs, i) {
         return false;
@@ -187,7 +188,7 @@ pub fn parts(t: &Columns, rs: &[u32], i: usize, j: usize) -> usize
     requires { ⌜ nth (now rs) i .form ≤ 12 ⌝ }
     requires { ⌜ j < 9 ⌝ }
     requires { ⌜ partsAt (now t) (nth (now rs) i) j ≤ 18446744073709551615 ⌝ }
-    ensures { λ r. ⌜ r ≡ partsAt (now (t .entry)) (nth (now (rs .entry)) i) j ⌝ }
+    ensures { λ r. ⌜ r ≡ partsAt (old t) (nth (old rs) i) j ⌝ }
 {
     let form = record::form(rs, i);
     limit(t, form, j) + limit(t, form, j + 1) * wide(record::count(rs, i))

@@ -1,6 +1,7 @@
 // Check 5: the nesting walk, which is run only where the one pass of checks does not pass the records (docs/SPEED.md, 57).
 ghost use mathlib.Core.Path.{_≡_};
 ghost use Prim.Native.Nat.{ℕ};
+ghost use Rattle.table.specs.EntryExit.{old};
 ghost use Rattle.tree.specs.Record.{records};
 ghost use Rattle.tree.specs.Check.{check5};
 ghost use Rattle.checks.specs.Private.Found.{foundOf};
@@ -21,7 +22,7 @@ pub enum Walk {
 
 // Walks the tree that the part starts with, at the nesting `level`.
 fn nest(rs: &[u32], level: usize) -> Walk
-    ensures { λ r. ⌜ Walked (records (now (rs .entry))) level r ⌝ }
+    ensures { λ r. ⌜ Walked (records (old rs)) level r ⌝ }
 {
     if record::len(rs) == 0 {
         return Walk::Ended;
@@ -53,7 +54,7 @@ fn nest(rs: &[u32], level: usize) -> Walk
 
 // 5: nesting of 65.
 pub fn too_deep(rs: &[u32]) -> Found
-    ensures { λ r. ⌜ ((N : ℕ) → foundOf r ≡ check5 N (now (rs .entry))) ⌝ }
+    ensures { λ r. ⌜ ((N : ℕ) → foundOf r ≡ check5 N (old rs)) ⌝ }
 {
     let n = record::len(rs);
     let mut used: usize = 0;

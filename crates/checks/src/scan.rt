@@ -4,6 +4,7 @@ ghost use mathlib.Core.Bool.{_&&_};
 ghost use Prim.Native.Nat.{ℕ, _-_, _<_, _≤_};
 ghost use lib.Dec.{eqb};
 ghost use lib.ListN.{length};
+ghost use Rattle.table.specs.EntryExit.{old};
 ghost use Rattle.tree.specs.Record.{records, nth};
 ghost use Rattle.tree.specs.Check.{check3, check4, check6, check7, check16, untested};
 ghost use Rattle.checks.specs.Private.Found.{foundOf};
@@ -19,7 +20,7 @@ pub enum Found {
 
 // 3: a field outside the table.
 pub fn field_outside(rs: &[u32], names: usize) -> Found
-    ensures { λ r. ⌜ foundOf r ≡ check3 names (now (rs .entry)) ⌝ }
+    ensures { λ r. ⌜ foundOf r ≡ check3 names (old rs) ⌝ }
 {
     let n = record::len(rs);
     let t = limits::all(names);
@@ -46,7 +47,7 @@ pub fn taken(places: usize) -> usize
 // 4: children missing at the end. Every record takes an open place and opens one for each child.
 pub fn child_missing(rs: &[u32]) -> Found
     requires { ⌜ length (records (now rs)) ≤ 4096 ⌝ }
-    ensures { λ r. ⌜ ((N : ℕ) → foundOf r ≡ check4 N (now (rs .entry))) ⌝ }
+    ensures { λ r. ⌜ ((N : ℕ) → foundOf r ≡ check4 N (old rs)) ⌝ }
 {
     let n = record::len(rs);
     let mut places: usize = 0;
@@ -63,7 +64,7 @@ pub fn child_missing(rs: &[u32]) -> Found
 
 // 6: a name's place held by another form. While none is, only the innermost open record has names to come: they stand first, and a name opens none.
 pub fn not_a_name(rs: &[u32]) -> Found
-    ensures { λ r. ⌜ ((N : ℕ) → foundOf r ≡ check6 N (now (rs .entry))) ⌝ }
+    ensures { λ r. ⌜ ((N : ℕ) → foundOf r ≡ check6 N (old rs)) ⌝ }
 {
     let n = record::len(rs);
     let mut due: usize = 0;
@@ -85,14 +86,14 @@ pub fn not_a_name(rs: &[u32]) -> Found
 
 pub fn is_empty_call(rs: &[u32], i: usize) -> bool
     requires { ⌜ i < length (records (now rs)) ⌝ }
-    ensures { λ r. ⌜ r ≡ eqb (nth (now (rs .entry)) i .form) 8 && eqb (nth (now (rs .entry)) i .count) 0 ⌝ }
+    ensures { λ r. ⌜ r ≡ eqb (nth (old rs) i .form) 8 && eqb (nth (old rs) i .count) 0 ⌝ }
 {
     record::form(rs, i) == form::CALL && record::count(rs, i) == 0
 }
 
 // 7: a call of nothing.
 pub fn empty_call(rs: &[u32]) -> Found
-    ensures { λ r. ⌜ ((N : ℕ) → foundOf r ≡ check7 N (now (rs .entry))) ⌝ }
+    ensures { λ r. ⌜ ((N : ℕ) → foundOf r ≡ check7 N (old rs)) ⌝ }
 {
     let n = record::len(rs);
     let mut i = 0;
@@ -107,7 +108,7 @@ pub fn empty_call(rs: &[u32]) -> Found
 
 pub fn is_untested(rs: &[u32], i: usize) -> bool
     requires { ⌜ i < length (records (now rs)) ⌝ }
-    ensures { λ r. ⌜ r ≡ untested (nth (now (rs .entry)) i) ⌝ }
+    ensures { λ r. ⌜ r ≡ untested (nth (old rs) i) ⌝ }
 {
     let f = record::form(rs, i);
     if f == form::WHEN {
@@ -118,7 +119,7 @@ pub fn is_untested(rs: &[u32], i: usize) -> bool
 
 // 16: a when or an unless without a test.
 pub fn untested(rs: &[u32]) -> Found
-    ensures { λ r. ⌜ ((N : ℕ) → foundOf r ≡ check16 N (now (rs .entry))) ⌝ }
+    ensures { λ r. ⌜ ((N : ℕ) → foundOf r ≡ check16 N (old rs)) ⌝ }
 {
     let n = record::len(rs);
     let mut i = 0;

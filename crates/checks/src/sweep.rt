@@ -5,6 +5,7 @@ ghost use mathlib.Core.Bool.{true, cond};
 ghost use mathlib.Core.List.{[]};
 ghost use Prim.Native.Nat.{_+_, _<_, _≤_};
 ghost use lib.ListN.{length};
+ghost use Rattle.table.specs.EntryExit.{old, final};
 ghost use Rattle.tree.specs.Record.{records};
 ghost use Rattle.checks.specs.Private.Held.{Steps};
 ghost use Rattle.checks.specs.Private.Clear.{Tells, Clear};
@@ -43,7 +44,7 @@ fn step(kept: &mut [u32], a: Innermost, children: usize) -> Innermost
     requires { ⌜ (a .word < 256 → 0 < a .under) ⌝ }
     requires { ⌜ a .under + 1 < length (now kept) ⌝ }
     requires { ⌜ children ≤ 513 ⌝ }
-    ensures { λ r. ⌜ Steps (now (kept .entry)) a children (now (kept .exit)) r ⌝ }
+    ensures { λ r. ⌜ Steps (old kept) a children (final kept) r ⌝ }
 {
     let under = a.under;
     let rest = a.word - CHILD;
@@ -66,9 +67,9 @@ fn step(kept: &mut [u32], a: Innermost, children: usize) -> Innermost
 pub fn clear(rs: &[u32], names: usize, tops: &mut [u16]) -> bool
     requires { ⌜ length (records (now rs)) ≤ 4096 ⌝ }
     requires { ⌜ length (records (now rs)) < length (now tops) ⌝ }
-    ensures { λ r. ⌜ Tells r (Clear names (now (rs .entry))) ⌝ }
-    ensures told { λ r. ⌜ (r ≡ true → StartsWith (now (tops .exit)) (topsIn [] 0 (records (now (rs .entry))))) ⌝ }
-    ensures stores { λ _. ⌜ Stores (now (rs .entry)) (now (tops .entry)) (now (tops .exit)) ⌝ }
+    ensures { λ r. ⌜ Tells r (Clear names (old rs)) ⌝ }
+    ensures told { λ r. ⌜ (r ≡ true → StartsWith (final tops) (topsIn [] 0 (records (old rs)))) ⌝ }
+    ensures stores { λ _. ⌜ Stores (old rs) (old tops) (final tops) ⌝ }
 {
     let n = record::len(rs);
     let t = limits::all(names);

@@ -8,6 +8,7 @@ use reading::reader::feed;
 use reading::reader::start;
 ghost use Prim.Native.Nat.{_≤_};
 ghost use lib.ListN.{length};
+ghost use Rattle.table.specs.EntryExit.{old, final};
 ghost use Rattle.facts.specs.Input.{More, Read, Printed};
 
 // What was read, and how many bytes came last.
@@ -17,8 +18,8 @@ struct Turn {
 }
 
 fn read_chunk(line: &mut [u8], classes: &mut [u8], records: &mut [u32], r: Reading) -> Turn
-    ensures { λ t. ⌜ More r (now (line .entry)) (now (classes .entry)) (now (records .entry))
-        (t .read) (now (line .exit)) (now (classes .exit)) (now (records .exit)) ⌝ }
+    ensures { λ t. ⌜ More r (old line) (old classes) (old records)
+        (t .read) (final line) (final classes) (final records) ⌝ }
 {
     let mut chunk = io::large_buffer();
     let bytes = io::read_full(0, &mut chunk);
@@ -29,7 +30,7 @@ fn read_chunk(line: &mut [u8], classes: &mut [u8], records: &mut [u32], r: Readi
 // A proved loop has to end, and nothing says that the input does. So the loop counts its turns down, from a number that no run uses up.
 fn read_all(line: &mut [u8], classes: &mut [u8], records: &mut [u32]) -> Reading
     requires { ⌜ 92 ≤ length (now line) ⌝ }
-    ensures { λ r. ⌜ Read r (now (line .exit)) (now (classes .exit)) (now (records .exit)) ⌝ }
+    ensures { λ r. ⌜ Read r (final line) (final classes) (final records) ⌝ }
 {
     let mut r = start();
     let mut turns = u64::MAX;
@@ -45,7 +46,7 @@ fn read_all(line: &mut [u8], classes: &mut [u8], records: &mut [u32]) -> Reading
 }
 
 fn text_of_input(out: &mut [u8; TEXT]) -> usize
-    ensures { λ n. ⌜ Printed (now (out .exit)) n ⌝ }
+    ensures { λ n. ⌜ Printed (final out) n ⌝ }
 {
     let mut line = [0u8; 92];
     let mut classes = [0u8; CLASS_TABLE];

@@ -2,12 +2,13 @@
 use crate::Flags;
 use crate::Part;
 ghost use mathlib.Core.Path.{_≡_};
+ghost use Rattle.table.specs.EntryExit.{old, final};
 ghost use Rattle.flags.specs.Part.{Room, atPart};
 
 // Before a part is visited. The answer is what `leave` puts back after it.
 pub fn enter(f: &mut Flags, p: Part) -> Flags
     requires { ⌜ Room p (now f) ⌝ }
-    ensures { λ r. ⌜ (r ≡ now (f .entry)) × (now (f .exit) ≡ atPart p (now (f .entry))) ⌝ }
+    ensures { λ r. ⌜ (r ≡ old f) × (final f ≡ atPart p (old f)) ⌝ }
 {
     let saved = *f;
     *f = saved.at_part(p);
@@ -15,7 +16,7 @@ pub fn enter(f: &mut Flags, p: Part) -> Flags
 }
 
 pub fn leave(f: &mut Flags, saved: Flags)
-    ensures { λ _. ⌜ now (f .exit) ≡ saved ⌝ }
+    ensures { λ _. ⌜ final f ≡ saved ⌝ }
 {
     *f = saved;
 }

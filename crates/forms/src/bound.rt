@@ -22,6 +22,7 @@ ghost use mathlib.Core.Path.{_≡_};
 ghost use mathlib.Core.Bool.{true, false, cond};
 ghost use Prim.Native.Nat.{suc, _+_, _≤_, _<_};
 ghost use lib.ListN.{length};
+ghost use Rattle.table.specs.EntryExit.{old, final};
 ghost use Rattle.semantic.specs.declared.IdentifierStatus.the-variants.{HeapAllocated};
 ghost use Rattle.pass.specs.Lambda.{orZero};
 ghost use Rattle.pass.specs.Run.{rowsMost, listEntriesMost, factsLength, listEntriesLength};
@@ -58,7 +59,7 @@ pub struct Entering {
 // Whether the entry at place j of a list is captured and mutated.
 fn is_heap(arguments: &[u32], before: ListAt, j: usize) -> bool
     requires { ⌜ Inside before × (length (now arguments) ≡ listEntriesLength) ⌝ }
-    ensures { λ r. ⌜ TellsHeap (now (arguments .entry)) before j r ⌝ }
+    ensures { λ r. ⌜ TellsHeap (old arguments) before j r ⌝ }
 {
     if wide(before.length) <= j {
         return false;
@@ -132,7 +133,7 @@ fn enter_name(
     work: &mut [u32],
 ) -> EnteredName
     requires { ⌜ Room p × Defined (now all) at p (now facts) (now work) × SlotsFit g j h ⌝ }
-    ensures { λ r. ⌜ EntersName heap g (now (all .entry)) at j h p (now (facts .entry)) (now (work .entry)) (withName r p) (now (facts .exit)) (now (work .exit)) ⌝ }
+    ensures { λ r. ⌜ EntersName heap g (old all) at j h p (old facts) (old work) (withName r p) (final facts) (final work) ⌝ }
 {
     let kind = g.kind;
     let depth = p.depth();
@@ -173,7 +174,7 @@ pub fn enter_names(
     work: &mut [u32],
 ) -> EnteredNames
     requires { ⌜ NamesFit (now all) names g p (now facts) (now arguments) (now work) ⌝ }
-    ensures { λ r. ⌜ EntersNames (now (all .entry)) names g p (now (facts .entry)) (now (arguments .entry)) (now (work .entry)) (withNames r p) (now (facts .exit)) (now (work .exit)) ⌝ }
+    ensures { λ r. ⌜ EntersNames (old all) names g p (old facts) (old arguments) (old work) (withNames r p) (final facts) (final work) ⌝ }
 {
     let first = names.first;
     let before = g.before;
@@ -198,7 +199,7 @@ pub fn enter_names(
 // The last use that an entry tells, by its record counted from 1.
 pub fn mark_last(last: u32, facts: &mut [u32])
     requires { ⌜ (last ≤ rowsMost) × (length (now facts) ≡ factsLength) ⌝ }
-    ensures { λ _. ⌜ MarksLast last (now (facts .entry)) (now (facts .exit)) ⌝ }
+    ensures { λ _. ⌜ MarksLast last (old facts) (final facts) ⌝ }
 {
     if last != 0 {
         semantic::amend::mark_last_usage(facts, wide(last - 1));
@@ -208,7 +209,7 @@ pub fn mark_last(last: u32, facts: &mut [u32])
 // The last uses of the names in the newest layer, which stand from row `low` on.
 pub fn mark_lasts(p: Pass, low: usize, facts: &mut [u32], work: &[u32])
     requires { ⌜ Marked p (now facts) (now work) × StartsLayer p (now work) low ⌝ }
-    ensures { λ _. ⌜ MarksLasts p (now (facts .entry)) (now (work .entry)) (now (facts .exit)) ⌝ }
+    ensures { λ _. ⌜ MarksLasts p (old facts) (old work) (final facts) ⌝ }
 {
     let scope = p.scope;
     let end = scope.length;
@@ -224,7 +225,7 @@ pub fn mark_lasts(p: Pass, low: usize, facts: &mut [u32], work: &[u32])
 // The binder at b, as an argument list keeps it, in row `to`.
 fn store_argument(all: &[u32], b: usize, to: usize, arguments: &mut [u32], work: &[u32])
     requires { ⌜ BinderFits (now all) b (now work) × (to < listEntriesMost) × (length (now arguments) ≡ listEntriesLength) ⌝ }
-    ensures { λ _. ⌜ StoresArgument (now (all .entry)) b to (now (arguments .entry)) (now (work .entry)) (now (arguments .exit)) ⌝ }
+    ensures { λ _. ⌜ StoresArgument (old all) b to (old arguments) (old work) (final arguments) ⌝ }
 {
     let e = load_entry(work, b);
     semantic::list_entries::store_list_entry(
@@ -238,7 +239,7 @@ fn store_argument(all: &[u32], b: usize, to: usize, arguments: &mut [u32], work:
 // The names of the newest layer as an argument list.
 pub fn store_layer(all: &[u32], p: Pass, arguments: &mut [u32], work: &[u32]) -> Pass
     requires { ⌜ LayerFits (now all) p (now arguments) (now work) ⌝ }
-    ensures { λ r. ⌜ StoresLayer (now (all .entry)) p (now (arguments .entry)) (now (work .entry)) r (now (arguments .exit)) ⌝ }
+    ensures { λ r. ⌜ StoresLayer (old all) p (old arguments) (old work) r (final arguments) ⌝ }
 {
     let scope = p.scope;
     let end = scope.length;
@@ -258,7 +259,7 @@ pub fn store_layer(all: &[u32], p: Pass, arguments: &mut [u32], work: &[u32]) ->
 // A let's names as an argument list.
 pub fn store_names(all: &[u32], names: Names, p: Pass, arguments: &mut [u32], work: &[u32]) -> Pass
     requires { ⌜ NamesStore (now all) names p (now arguments) (now work) ⌝ }
-    ensures { λ r. ⌜ StoresNames (now (all .entry)) names p (now (arguments .entry)) (now (work .entry)) r (now (arguments .exit)) ⌝ }
+    ensures { λ r. ⌜ StoresNames (old all) names p (old arguments) (old work) r (final arguments) ⌝ }
 {
     let first = names.first;
     let mut to = p.arguments_top;
@@ -276,7 +277,7 @@ pub fn store_names(all: &[u32], names: Names, p: Pass, arguments: &mut [u32], wo
 // A parameter's fact takes its entry's uses, and the id of what it hides.
 pub fn end_parameters(all: &[u32], names: Names, p: Pass, facts: &mut [u32], work: &[u32])
     requires { ⌜ NamesEnd (now all) names p (now facts) (now work) ⌝ }
-    ensures { λ _. ⌜ EndsParameters (now (all .entry)) names p (now (facts .entry)) (now (work .entry)) (now (facts .exit)) ⌝ }
+    ensures { λ _. ⌜ EndsParameters (old all) names p (old facts) (old work) (final facts) ⌝ }
 {
     let first = names.first;
     let mut j = 0;
@@ -292,7 +293,7 @@ pub fn end_parameters(all: &[u32], names: Names, p: Pass, facts: &mut [u32], wor
 // A let's names leave one by one, with their last uses marked.
 pub fn leave_names(all: &[u32], names: Names, p: Pass, facts: &mut [u32], work: &mut [u32]) -> Pass
     requires { ⌜ NamesEnd (now all) names p (now facts) (now work) ⌝ }
-    ensures { λ r. ⌜ LeavesNames (now (all .entry)) names p (now (facts .entry)) (now (work .entry)) r (now (facts .exit)) (now (work .exit)) ⌝ }
+    ensures { λ r. ⌜ LeavesNames (old all) names p (old facts) (old work) r (final facts) (final work) ⌝ }
 {
     let first = names.first;
     let mut q = p;

@@ -18,6 +18,7 @@ ghost use mathlib.Core.Bool.{_&&_};
 ghost use lib.Dec.{ltb};
 ghost use Prim.Native.Nat.{_+_, _*_, _≤_, _<_};
 ghost use lib.ListN.{length};
+ghost use Rattle.table.specs.EntryExit.{old, final};
 ghost use Rattle.pass.specs.Run.{rowsMost, factsLength};
 ghost use Rattle.semantic.specs.Rows.{rowWidth, putRow, CallSite};
 ghost use Rattle.semantic.specs.Leaves.{Stores};
@@ -30,7 +31,7 @@ ghost use Rattle.forms.specs.Calls.{constantRecord, Mentioned, IsLast, A
 // Whether the identifier's last use so far is the one at the record.
 fn is_last_use(all: &[u32], at: usize, p: Pass, work: &[u32]) -> bool
     requires { ⌜ Mentioned (now all) at p (now work) ⌝ }
-    ensures { λ r. ⌜ IsLast (now (all .entry)) at p (now (work .entry)) r ⌝ }
+    ensures { λ r. ⌜ IsLast (old all) at p (old work) r ⌝ }
 {
     let found = newest(p, work, tree::record::name(all, at));
     let Binder::At(b) = found else {
@@ -46,7 +47,7 @@ fn is_last_use(all: &[u32], at: usize, p: Pass, work: &[u32]) -> bool
 // An argument that is an identifier is marked where it is its name's last use so far.
 fn mark_argument(all: &[u32], at: usize, p: Pass, facts: &mut [u32], work: &[u32])
     requires { ⌜ ArgumentFits (now all) at p (now facts) (now work) ⌝ }
-    ensures { λ _. ⌜ MarksArgument (now (all .entry)) at p (now (facts .entry)) (now (work .entry)) (now (facts .exit)) ⌝ }
+    ensures { λ _. ⌜ MarksArgument (old all) at p (old facts) (old work) (final facts) ⌝ }
 {
     if tree::record::form(all, at) == IDENTIFIER {
         if is_last_use(all, at, p, work) {
@@ -58,7 +59,7 @@ fn mark_argument(all: &[u32], at: usize, p: Pass, facts: &mut [u32], work: &[u32
 // k arguments, the first at the record `first`.
 fn mark_arguments(all: &[u32], first: usize, k: usize, p: Pass, facts: &mut [u32], work: &[u32])
     requires { ⌜ ArgumentsFit (now all) first k p (now facts) (now work) ⌝ }
-    ensures { λ _. ⌜ MarksArguments (now (all .entry)) first k p (now (facts .entry)) (now (work .entry)) (now (facts .exit)) ⌝ }
+    ensures { λ _. ⌜ MarksArguments (old all) first k p (old facts) (old work) (final facts) ⌝ }
 {
     let mut at = first;
     let mut i = 0;
@@ -72,7 +73,7 @@ fn mark_arguments(all: &[u32], first: usize, k: usize, p: Pass, facts: &mut [u32
 // Whether the fact at the record refers to the define that the walk is in.
 pub fn is_self(at: usize, p: Pass, facts: &[u32]) -> bool
     requires { ⌜ (at < rowsMost) × (length (now facts) ≡ factsLength) ⌝ }
-    ensures { λ r. ⌜ TellsSelf at p (now (facts .entry)) r ⌝ }
+    ensures { λ r. ⌜ TellsSelf at p (old facts) r ⌝ }
 {
     p.context != NONE && semantic::kinds::refers_at(facts, at) == p.context
 }
@@ -92,7 +93,7 @@ fn call_kind(tail: bool, own: bool, k: u32) -> CallKind
 
 fn call_site(at: usize, kind: CallKind, span: Span, facts: &mut [u32])
     requires { ⌜ rowWidth * at + rowWidth ≤ length (now facts) ⌝ }
-    ensures { λ _. ⌜ Stores putRow (now (facts .entry)) at (CallSite (record { kind = kind; span = span })) (now (facts .exit)) ⌝ }
+    ensures { λ _. ⌜ Stores putRow (old facts) at (CallSite (record { kind = kind; span = span })) (final facts) ⌝ }
 {
     semantic::rows::store_call_site(facts, at, CallSiteInformation::new(kind, span));
 }
@@ -100,7 +101,7 @@ fn call_site(at: usize, kind: CallKind, span: Span, facts: &mut [u32])
 // Whether the tree at the record is a constant: an and of none is #t.
 fn is_constant(all: &[u32], at: usize) -> bool
     requires { ⌜ at < length (records (now all)) ⌝ }
-    ensures { λ r. ⌜ r ≡ constantRecord (nth (now (all .entry)) at) ⌝ }
+    ensures { λ r. ⌜ r ≡ constantRecord (nth (old all) at) ⌝ }
 {
     let form = tree::record::form(all, at);
     form == CONSTANT || form == AND && tree::record::count(all, at) == 0
@@ -109,7 +110,7 @@ fn is_constant(all: &[u32], at: usize) -> bool
 // A constant head leaves no fact.
 fn call_fact(all: &[u32], at: usize, tail: bool, k: u32, p: Pass, facts: &mut [u32])
     requires { ⌜ Called (now all) at p (now facts) ⌝ }
-    ensures { λ _. ⌜ MakesCall (now (all .entry)) at tail k p (now (facts .entry)) (now (facts .exit)) ⌝ }
+    ensures { λ _. ⌜ MakesCall (old all) at tail k p (old facts) (final facts) ⌝ }
 {
     let head = core_at(all, at + 1);
     if is_constant(all, head) {
@@ -142,7 +143,7 @@ fn mark_if_tail(
     work: &[u32],
 )
     requires { ⌜ ArgumentsFit (now all) first k p (now facts) (now work) ⌝ }
-    ensures { λ _. ⌜ MarksIfTail (now (all .entry)) first k eligible p (now (facts .entry)) (now (work .entry)) (now (facts .exit)) ⌝ }
+    ensures { λ _. ⌜ MarksIfTail (old all) first k eligible p (old facts) (old work) (final facts) ⌝ }
 {
     if eligible {
         mark_arguments(all, first, k, p, facts, work);
@@ -162,7 +163,7 @@ pub fn close_call(
     work: &[u32],
 )
     requires { ⌜ CallFits (now all) at first k p (now facts) (now work) ⌝ }
-    ensures { λ _. ⌜ ClosesCall (now (all .entry)) at first k tail counter p (now (facts .entry)) (now (work .entry)) (now (facts .exit)) ⌝ }
+    ensures { λ _. ⌜ ClosesCall (old all) at first k tail counter p (old facts) (old work) (final facts) ⌝ }
 {
     let eligible = is_tail(tail, p);
     mark_if_tail(all, first, k, eligible, p, facts, work);
@@ -172,7 +173,7 @@ pub fn close_call(
 // set!: on a second run the context ends where the target referred to it. Answers the context.
 pub fn clear_context(at: usize, p: Pass, facts: &[u32]) -> u32
     requires { ⌜ (at < rowsMost) × (length (now facts) ≡ factsLength) ⌝ }
-    ensures { λ r. ⌜ ClearsContext at p (now (facts .entry)) (inContext r p) ⌝ }
+    ensures { λ r. ⌜ ClearsContext at p (old facts) (inContext r p) ⌝ }
 {
     if is_self(at, p, facts) {
         return NONE;

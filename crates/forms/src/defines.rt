@@ -12,6 +12,7 @@ use walk::body::core_at;
 use walk::extent::step_over;
 use work::Pass;
 ghost use lib.ListN.{length};
+ghost use Rattle.table.specs.EntryExit.{old, final};
 ghost use Rattle.names.specs.Contract.{withName};
 ghost use Rattle.forms.specs.Contract.{withDefine, DefineFits, OpensDefine, EntersInnerValue, ClosesDefine, ChildFits, EntersChild, ChildrenFit, EntersChildren};
 
@@ -32,7 +33,7 @@ pub fn open_define(
     work: &mut [u32],
 ) -> EnteredDefine
     requires { ⌜ DefineFits (now all) at p (now facts) (now work) ⌝ }
-    ensures { λ r. ⌜ OpensDefine (now (all .entry)) at direct b p (now (facts .entry)) (now (work .entry)) (withDefine r p) (now (facts .exit)) (now (work .exit)) ⌝ }
+    ensures { λ r. ⌜ OpensDefine (old all) at direct b p (old facts) (old work) (withDefine r p) (final facts) (final work) ⌝ }
 {
     let id = tree::record::id(all, at + 1);
     if direct {
@@ -71,7 +72,7 @@ fn enter_inner_value(
     work: &mut [u32],
 ) -> EnteredName
     requires { ⌜ DefineFits (now all) at p (now facts) (now work) ⌝ }
-    ensures { λ r. ⌜ EntersInnerValue (now (all .entry)) at b p (now (facts .entry)) (now (work .entry)) (withName r p) (now (facts .exit)) (now (work .exit)) ⌝ }
+    ensures { λ r. ⌜ EntersInnerValue (old all) at b p (old facts) (old work) (withName r p) (final facts) (final work) ⌝ }
 {
     if b.lambda {
         return name_in(p);
@@ -100,7 +101,7 @@ pub fn close_define(
     work: &mut [u32],
 ) -> EnteredDefine
     requires { ⌜ DefineFits (now all) at p (now facts) (now work) ⌝ }
-    ensures { λ r. ⌜ ClosesDefine (now (all .entry)) at direct context b p (now (facts .entry)) (now (work .entry)) (withDefine r p) (now (facts .exit)) (now (work .exit)) ⌝ }
+    ensures { λ r. ⌜ ClosesDefine (old all) at direct context b p (old facts) (old work) (withDefine r p) (final facts) (final work) ⌝ }
 {
     let name = enter_inner_value(all, at, b, p, facts, work);
     if direct {
@@ -126,7 +127,7 @@ fn enter_child(
     work: &mut [u32],
 ) -> EnteredName
     requires { ⌜ ChildFits (length (now classes)) (now all) at p (now facts) (now work) ⌝ }
-    ensures { λ r. ⌜ EntersChild (now (classes .entry)) (now (all .entry)) at kind p (now (facts .entry)) (now (work .entry)) (withName r p) (now (facts .exit)) (now (work .exit)) ⌝ }
+    ensures { λ r. ⌜ EntersChild (old classes) (old all) at kind p (old facts) (old work) (withName r p) (final facts) (final work) ⌝ }
 {
     if tree::record::form(all, at) != tree::form::DEFINE {
         return name_in(p);
@@ -151,7 +152,8 @@ pub fn enter_children(
     work: &mut [u32],
 ) -> EnteredName
     requires { ⌜ ChildrenFit (length (now classes)) (now all) first k p (now facts) (now work) ⌝ }
-    ensures { λ r. ⌜ EntersChildren (now (classes .entry)) (now (all .entry)) first k kind p (now (facts .entry)) (now (work .entry)) (withName r p) (now (facts .exit)) (now (work .exit)) ⌝ }
+    ensures { λ r. ⌜ EntersChildren (old classes) (old all) first k kind p (old facts) (old work)
+        (withName r p) (final facts) (final work) ⌝ }
 {
     let mut e = name_in(p);
     let mut at = first;

@@ -29,6 +29,7 @@ use work::scope::open_scope;
 ghost use mathlib.Core.Path.{_≡_};
 ghost use Prim.Native.Nat.{_≤_, _<_};
 ghost use lib.ListN.{length};
+ghost use Rattle.table.specs.EntryExit.{old, final};
 ghost use Rattle.semantic.specs.Kinds.{functionFound};
 ghost use Rattle.pass.specs.Run.{listEntriesLength};
 ghost use Rattle.amending.specs.Contract.{SomeHeld};
@@ -39,7 +40,7 @@ ghost use Rattle.forms.specs.Lambdas.{ListRoom, NumbersCaptures, context
 // The captures after the lambda's list is numbered, where it has a fact.
 fn number_captures(v: FoundFunction, p: Pass, captured: &mut [u32], work: &mut [u32]) -> ScopeMap
     requires { ⌜ ListRoom v p × SomeHeld p (now captured) (now work) ⌝ }
-    ensures { λ r. ⌜ NumbersCaptures v p (now (captured .entry)) (now (work .entry)) r (now (captured .exit)) (now (work .exit)) ⌝ }
+    ensures { λ r. ⌜ NumbersCaptures v p (old captured) (old work) r (final captured) (final work) ⌝ }
 {
     let FoundFunction::Found(i) = v else {
         return p.captures;
@@ -67,7 +68,7 @@ fn context_within(v: FoundFunction, context: u32) -> u32
 // (docs/SPEED.md, 49).
 fn open_list(v: FoundFunction, p: Pass, captured: &mut [u32], work: &mut [u32]) -> Pass
     requires { ⌜ ListOpens v p (now captured) (now work) ⌝ }
-    ensures { λ r. ⌜ OpensList v p (now (captured .entry)) (now (work .entry)) r (now (captured .exit)) (now (work .exit)) ⌝ }
+    ensures { λ r. ⌜ OpensList v p (old captured) (old work) r (final captured) (final work) ⌝ }
 {
     let o = open_captures(p);
     let captures = number_captures(v, o, captured, work);
@@ -79,7 +80,7 @@ fn open_list(v: FoundFunction, p: Pass, captured: &mut [u32], work: &mut [u32]) 
 // What the parameters have in common.
 fn entering(v: FoundFunction, captured: &[u32]) -> Entering
     requires { ⌜ ListInside v × (length (now captured) ≡ listEntriesLength) ⌝ }
-    ensures { λ r. ⌜ EntersBy v (now (captured .entry)) r ⌝ }
+    ensures { λ r. ⌜ EntersBy v (old captured) r ⌝ }
 {
     let FoundFunction::Found(i) = v else {
         let none = no_list();
@@ -115,7 +116,8 @@ pub fn open_lambda(
     work: &mut [u32],
 ) -> Pass
     requires { ⌜ LambdaFits (now all) at names p (now facts) (now captured) (now arguments) (now work) ⌝ }
-    ensures { λ r. ⌜ OpensLambda (now (all .entry)) at names p (now (facts .entry)) (now (captured .entry)) (now (arguments .entry)) (now (work .entry)) r (now (facts .exit)) (now (captured .exit)) (now (work .exit)) ⌝ }
+    ensures { λ r. ⌜ OpensLambda (old all) at names p (old facts) (old captured) (old arguments) (old work)
+        r (final facts) (final captured) (final work) ⌝ }
 {
     let v = semantic::kinds::function_at(facts, at);
     let o = open_list(v, p, captured, work);
@@ -129,7 +131,7 @@ pub fn open_lambda(
 // (docs/SPEED.md, 48).
 fn close_layers(all: &[u32], names: Names, p: Pass, facts: &mut [u32], work: &mut [u32]) -> Pass
     requires { ⌜ NamesEnd (now all) names p (now facts) (now work) ⌝ }
-    ensures { λ r. ⌜ ClosesLayers (now (all .entry)) names p (now (facts .entry)) (now (work .entry)) r (now (facts .exit)) (now (work .exit)) ⌝ }
+    ensures { λ r. ⌜ ClosesLayers (old all) names p (old facts) (old work) r (final facts) (final work) ⌝ }
 {
     let low = newest_layer(p, work);
     mark_lasts(p, low, facts, work);
@@ -169,7 +171,8 @@ fn end_lists(
     work: &mut [u32],
 ) -> EndedLists
     requires { ⌜ ListsEnd (now all) at d v p (now captured) (now arguments) (now work) ⌝ }
-    ensures { λ r. ⌜ EndsLists (now (all .entry)) at d v p (now (captured .entry)) (now (arguments .entry)) (now (work .entry)) r (now (captured .exit)) (now (arguments .exit)) (now (work .exit)) ⌝ }
+    ensures { λ r. ⌜ EndsLists (old all) at d v p (old captured) (old arguments) (old work)
+        r (final captured) (final arguments) (final work) ⌝ }
 {
     let FoundFunction::Found(i) = v else {
         let names = d.names;
@@ -236,7 +239,8 @@ pub fn close_lambda(
     work: &mut [u32],
 ) -> Pass
     requires { ⌜ LambdaEnds (now all) at d p (now facts) (now captured) (now arguments) (now work) ⌝ }
-    ensures { λ r. ⌜ ClosesLambda (now (all .entry)) at d escapes p (now (facts .entry)) (now (captured .entry)) (now (arguments .entry)) (now (work .entry)) r (now (facts .exit)) (now (captured .exit)) (now (arguments .exit)) (now (work .exit)) ⌝ }
+    ensures { λ r. ⌜ ClosesLambda (old all) at d escapes p (old facts) (old captured) (old arguments) (old work)
+        r (final facts) (final captured) (final arguments) (final work) ⌝ }
 {
     let names = d.names;
     let found = semantic::kinds::function_at(facts, at);

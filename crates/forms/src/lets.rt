@@ -22,6 +22,7 @@ use work::scope::open_scope;
 ghost use mathlib.Core.Path.{_≡_};
 ghost use mathlib.Core.List.{List};
 ghost use Prim.Native.Nat.{ℕ, _<_};
+ghost use Rattle.table.specs.EntryExit.{old, final};
 ghost use Rattle.pass.specs.Lambda.{atBottom, openLayer, closeLayer};
 ghost use Rattle.work.specs.Works.{Spacious};
 ghost use Rattle.work.specs.Leaves.{Becomes};
@@ -31,7 +32,7 @@ ghost use Rattle.forms.specs.Lets.{AroundFits, TellsHeaps, TellsFunction
 // How many heap entries the lambda around has.
 fn heaps_around(f: Around, facts: &[u32], captured: &[u32]) -> Heaps
     requires { ⌜ AroundFits f (now facts) (now captured) ⌝ }
-    ensures { λ r. ⌜ TellsHeaps f (now (facts .entry)) (now (captured .entry)) r ⌝ }
+    ensures { λ r. ⌜ TellsHeaps f (old facts) (old captured) r ⌝ }
 {
     if f.code == 0 {
         return Heaps { code: 0 };
@@ -55,7 +56,7 @@ fn function_id(f: Around) -> u32
 
 fn let_arguments(facts: &[u32], at: usize) -> ListAt
     requires { ⌜ LetAt at (now facts) ⌝ }
-    ensures { λ r. ⌜ TellsLet at (now (facts .entry)) r ⌝ }
+    ensures { λ r. ⌜ TellsLet at (old facts) r ⌝ }
 {
     let found = semantic::kinds::let_at(facts, at);
     let FoundLet::Found(v) = found else {
@@ -88,7 +89,8 @@ pub fn open_let(
     work: &mut [u32],
 ) -> Pass
     requires { ⌜ LetFits (now all) at names height f p (now facts) (now captured) (now arguments) (now work) ⌝ }
-    ensures { λ r. ⌜ OpensLet (now (all .entry)) at names height f p (now (facts .entry)) (now (captured .entry)) (now (arguments .entry)) (now (work .entry)) r (now (facts .exit)) (now (work .exit)) ⌝ }
+    ensures { λ r. ⌜ OpensLet (old all) at names height f p (old facts) (old captured) (old arguments) (old work)
+        r (final facts) (final work) ⌝ }
 {
     let heaps = heaps_around(f, facts, captured);
     let before = let_arguments(facts, at);
@@ -117,7 +119,8 @@ fn make_let(
     work: &[u32],
 ) -> Pass
     requires { ⌜ MakeFits (now all) blank at names f p (now facts) (now arguments) (now work) ⌝ }
-    ensures { λ r. ⌜ MakesLet (now (all .entry)) blank at names height f p (now (facts .entry)) (now (arguments .entry)) (now (work .entry)) r (now (facts .exit)) (now (arguments .exit)) ⌝ }
+    ensures { λ r. ⌜ MakesLet (old all) blank at names height f p (old facts) (old arguments) (old work)
+        r (final facts) (final arguments) ⌝ }
 {
     if !blank {
         return p;
@@ -135,7 +138,7 @@ fn make_let(
 // That layer, where the let opened one.
 fn close_layer(opened: bool, p: Pass, work: &mut [u32]) -> Pass
     requires { ⌜ Spacious p (now work) ⌝ }
-    ensures { λ r. ⌜ Becomes p (now (work .entry)) (closeLayer opened) r (now (work .exit)) ⌝ }
+    ensures { λ r. ⌜ Becomes p (old work) (closeLayer opened) r (final work) ⌝ }
 {
     if opened {
         let low = newest_layer(p, work);
@@ -157,7 +160,8 @@ pub fn close_let(
     work: &mut [u32],
 ) -> Pass
     requires { ⌜ LetEnds (now all) at names f p (now facts) (now arguments) (now work) ⌝ }
-    ensures { λ r. ⌜ ClosesLet (now (all .entry)) opened at names height f p (now (facts .entry)) (now (arguments .entry)) (now (work .entry)) r (now (facts .exit)) (now (arguments .exit)) (now (work .exit)) ⌝ }
+    ensures { λ r. ⌜ ClosesLet (old all) opened at names height f p (old facts) (old arguments) (old work)
+        r (final facts) (final arguments) (final work) ⌝ }
 {
     let blank = semantic::kinds::is_blank(facts, at);
     let q = leave_names(all, names, p, facts, work);

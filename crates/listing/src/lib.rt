@@ -16,6 +16,7 @@ use work::WORK;
 ghost use mathlib.Core.Path.{_≡_};
 ghost use Prim.Native.Nat.{_+_, _*_, _≤_};
 ghost use lib.ListN.{length, take};
+ghost use Rattle.table.specs.EntryExit.{old, final};
 ghost use Rattle.tree.specs.Record.{width};
 ghost use Rattle.semantic.specs.Rows.{rowWidth};
 ghost use Rattle.pass.specs.Run.{factsLength};
@@ -36,7 +37,7 @@ pub const TEXT: usize = 128 * RECORDS + 128;
 // The line of a row, behind the first `end` bytes; answers where it ends.
 fn row_after(facts: &[u32], at: usize, out: &mut [u8], end: usize) -> usize
     requires { ⌜ (rowWidth * at + rowWidth ≤ length (now facts)) × (end + 128 ≤ length (now out)) ⌝ }
-    ensures { λ r. ⌜ RowAfter (now (facts .entry)) at (now (out .entry)) end (now (out .exit)) r ⌝ }
+    ensures { λ r. ⌜ RowAfter (old facts) at (old out) end (final out) r ⌝ }
 {
     let line = row_line(facts, at, &mut out[end..]);
     end + line
@@ -45,7 +46,7 @@ fn row_after(facts: &[u32], at: usize, out: &mut [u8], end: usize) -> usize
 // The lines of the first rows.
 fn rows_text(facts: &[u32], rows: usize, out: &mut [u8]) -> usize
     requires { ⌜ (rowWidth * rows ≤ length (now facts)) × (128 * rows ≤ length (now out)) ⌝ }
-    ensures { λ r. ⌜ RowsIn (now (facts .entry)) rows (now (out .exit)) r ⌝ }
+    ensures { λ r. ⌜ RowsIn (old facts) rows (final out) r ⌝ }
 {
     let mut end = 0;
     let mut i = 0;
@@ -59,7 +60,7 @@ fn rows_text(facts: &[u32], rows: usize, out: &mut [u8]) -> usize
 // Rows behind the first ones have no fact.
 fn facts_text(facts: &[u32], rows: usize, out: &mut [u8]) -> usize
     requires { ⌜ (length (now facts) ≡ factsLength) × (rows ≤ recordsMost) × (textLength ≤ length (now out)) ⌝ }
-    ensures { λ r. ⌜ FactsIn (now (facts .entry)) rows (now (out .exit)) r ⌝ }
+    ensures { λ r. ⌜ FactsIn (old facts) rows (final out) r ⌝ }
 {
     let end = rows_text(facts, rows, out);
     let last = summary(facts, &mut out[end..]);
@@ -68,7 +69,7 @@ fn facts_text(facts: &[u32], rows: usize, out: &mut [u8]) -> usize
 
 fn outcome_text(a: Answer, facts: &[u32], rows: usize, out: &mut [u8]) -> usize
     requires { ⌜ (length (now facts) ≡ factsLength) × (rows ≤ recordsMost) × (textLength ≤ length (now out)) ⌝ }
-    ensures { λ r. ⌜ OutcomeIn a (now (facts .entry)) rows (now (out .exit)) r ⌝ }
+    ensures { λ r. ⌜ OutcomeIn a (old facts) rows (final out) r ⌝ }
 {
     match a {
         Answer::Accepted => facts_text(facts, rows, out),
@@ -90,8 +91,8 @@ fn fresh_text(
 ) -> usize
     requires { ⌜ Few (now classes) (now records) (tables (now facts) (now captured) (now arguments) (now work)) names many ⌝ }
     requires { ⌜ textLength ≤ length (now out) ⌝ }
-    ensures { λ r. ⌜ FreshIn (take names (now (classes .entry))) (take (width * many) (now (records .entry)))
-        (tables (now (facts .exit)) (now (captured .exit)) (now (arguments .exit)) (now (work .exit))) (now (out .exit)) r ⌝ }
+    ensures { λ r. ⌜ FreshIn (take names (old classes)) (take (width * many) (old records))
+        (tables (final facts) (final captured) (final arguments) (final work)) (final out) r ⌝ }
 {
     let numbers = 6 * many;
     let part = &records[..numbers];
@@ -109,7 +110,7 @@ fn all_fit(
     arguments: &[u32],
     work: &[u32],
 ) -> bool
-    ensures { λ r. ⌜ r ≡ allFit (now (classes .entry)) (now (records .entry)) (tables (now (facts .entry)) (now (captured .entry)) (now (arguments .entry)) (now (work .entry))) ⌝ }
+    ensures { λ r. ⌜ r ≡ allFit (old classes) (old records) (tables (old facts) (old captured) (old arguments) (old work)) ⌝ }
 {
     if classes.len() != CLASS_TABLE {
         return false;
@@ -143,9 +144,9 @@ fn input_text(
     out: &mut [u8],
 ) -> usize
     requires { ⌜ textLength ≤ length (now out) ⌝ }
-    ensures { λ r. ⌜ InputIn names many (now (classes .entry)) (now (records .entry))
-        (tables (now (facts .entry)) (now (captured .entry)) (now (arguments .entry)) (now (work .entry)))
-        (tables (now (facts .exit)) (now (captured .exit)) (now (arguments .exit)) (now (work .exit))) (now (out .exit)) r ⌝ }
+    ensures { λ r. ⌜ InputIn names many (old classes) (old records)
+        (tables (old facts) (old captured) (old arguments) (old work))
+        (tables (final facts) (final captured) (final arguments) (final work)) (final out) r ⌝ }
 {
     if !all_fit(classes, records, facts, captured, arguments, work) {
         return refused_line(1, 0, out);
@@ -179,9 +180,9 @@ pub fn answer(
     work: &mut [u32],
     out: &mut [u8],
 ) -> usize
-    ensures { λ n. ⌜ Answered r (now (classes .entry)) (now (records .entry))
-        (tables (now (facts .entry)) (now (captured .entry)) (now (arguments .entry)) (now (work .entry))) (now (out .entry))
-        (tables (now (facts .exit)) (now (captured .exit)) (now (arguments .exit)) (now (work .exit))) (now (out .exit)) n ⌝ }
+    ensures { λ n. ⌜ Answered r (old classes) (old records)
+        (tables (old facts) (old captured) (old arguments) (old work)) (old out)
+        (tables (final facts) (final captured) (final arguments) (final work)) (final out) n ⌝ }
 {
     if out.len() < TEXT {
         return 0;
@@ -210,7 +211,7 @@ pub fn text(
     records: &[u32; RECORD_TABLE],
     out: &mut [u8; TEXT],
 ) -> usize
-    ensures { λ n. ⌜ TextIn r (now (classes .entry)) (now (records .entry)) (now (out .exit)) n ⌝ }
+    ensures { λ n. ⌜ TextIn r (old classes) (old records) (final out) n ⌝ }
 {
     let mut facts = [0u32; FACTS];
     let mut captured = [0u32; LIST_ENTRIES];

@@ -9,12 +9,13 @@ ghost use mathlib.Core.Bool.{true};
 ghost use mathlib.Core.Path.{_≡_};
 ghost use Prim.Native.Nat.{_+_, _≤_};
 ghost use lib.ListN.{length};
+ghost use Rattle.table.specs.EntryExit.{old};
 ghost use Rattle.listing_main.specs.Parts.{Ends};
 
 // Whether `---` and LF stand at the place.
 fn is_parting(input: &[u8], at: usize) -> bool
     requires { ⌜ at ≤ length (now input) ⌝ }
-    ensures { λ r. ⌜ (r ≡ true → at + 4 ≤ length (now (input .entry))) ⌝ }
+    ensures { λ r. ⌜ (r ≡ true → at + 4 ≤ length (old input)) ⌝ }
 {
     if input.len() - at < 4 {
         return false;
@@ -34,7 +35,7 @@ fn is_parting(input: &[u8], at: usize) -> bool
 // The place of the next parting, or the end.
 fn part_end(input: &[u8], at: usize) -> usize
     requires { ⌜ at ≤ length (now input) ⌝ }
-    ensures { λ r. ⌜ Ends (now (input .entry)) at r ⌝ }
+    ensures { λ r. ⌜ Ends (old input) at r ⌝ }
 {
     let mut i = at;
     while i < input.len() {

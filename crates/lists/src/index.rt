@@ -11,6 +11,7 @@ ghost use mathlib.Core.Path.{_≡_};
 ghost use mathlib.Core.List.{[]};
 ghost use Prim.Native.Nat.{_<_};
 ghost use lib.ListN.{length};
+ghost use Rattle.table.specs.EntryExit.{old, final};
 ghost use Rattle.pass.specs.Run.{rowsMost};
 ghost use Rattle.work.specs.Coded.{recordIn, recordOf};
 ghost use Rattle.work.specs.Works.{workLong};
@@ -28,7 +29,7 @@ pub const FEW: usize = 128;
 // The newest binder of the name, where it is captured.
 fn captured_binder(p: Pass, work: &[u32], name: u32) -> Binder
     requires { ⌜ SomeHere p (now work) ⌝ }
-    ensures { λ r. ⌜ Tells p (now (work .entry)) (λ s. recordIn (capturedNewest (s .scope) name)) (recordOf r) ⌝ }
+    ensures { λ r. ⌜ Tells p (old work) (λ s. recordIn (capturedNewest (s .scope) name)) (recordOf r) ⌝ }
 {
     let found = newest(p, work, name);
     let Binder::At(b) = found else {
@@ -45,7 +46,7 @@ fn captured_binder(p: Pass, work: &[u32], name: u32) -> Binder
 // What a name above the bottom layer gives to the list of a lambda with these parameters, by search. Few names are captured, so that is asked first.
 pub fn search(all: &[u32], names: Names, p: Pass, work: &[u32], name: u32) -> Binder
     requires { ⌜ SomeNames (now all) names × KnownHere (now all) p (now work) ⌝ }
-    ensures { λ r. ⌜ Offers (now (all .entry)) names p (now (work .entry)) [] name r ⌝ }
+    ensures { λ r. ⌜ Offers (old all) names p (old work) [] name r ⌝ }
 {
     let found = captured_binder(p, work, name);
     let Binder::At(b) = found else {
@@ -70,7 +71,7 @@ fn binder_of(code: u32) -> Binder
 // What the name gives, by the index where that has the name.
 pub fn offered(index: &[u32], all: &[u32], names: Names, p: Pass, work: &[u32], name: u32) -> Binder
     requires { ⌜ SomeNames (now all) names × KnownHere (now all) p (now work) ⌝ }
-    ensures { λ r. ⌜ Offers (now (all .entry)) names p (now (work .entry)) (now (index .entry)) name r ⌝ }
+    ensures { λ r. ⌜ Offers (old all) names p (old work) (old index) name r ⌝ }
 {
     let x = wide(name);
     if x < index.len() {
@@ -82,7 +83,7 @@ pub fn offered(index: &[u32], all: &[u32], names: Names, p: Pass, work: &[u32], 
 // The number for a binder: 0 where it is not captured.
 fn code_of(work: &[u32], b: u32) -> u32
     requires { ⌜ (length (now work) ≡ workLong) × (b < rowsMost) ⌝ }
-    ensures { λ r. ⌜ CodesBinder (now (work .entry)) b r ⌝ }
+    ensures { λ r. ⌜ CodesBinder (old work) b r ⌝ }
 {
     let e = load_entry(work, wide(b));
     if e.captured { b + 1 } else { 0 }
@@ -91,7 +92,7 @@ fn code_of(work: &[u32], b: u32) -> u32
 // The live name in row i is the newest of its name so far.
 fn put_row(p: Pass, work: &[u32], i: usize, index: &mut [u32])
     requires { ⌜ SomeHere p (now work) × (i < p .scope .length) ⌝ }
-    ensures { λ _. ⌜ PutsRow p (now (work .entry)) i (now (index .entry)) (now (index .exit)) ⌝ }
+    ensures { λ _. ⌜ PutsRow p (old work) i (old index) (final index) ⌝ }
 {
     let r = live_at(p, work, i);
     let x = wide(r.name);
@@ -103,7 +104,7 @@ fn put_row(p: Pass, work: &[u32], i: usize, index: &mut [u32])
 
 fn put_rows(p: Pass, work: &[u32], index: &mut [u32])
     requires { ⌜ SomeHere p (now work) × Zeros (now index) ⌝ }
-    ensures { λ _. ⌜ PutsRows p (now (work .entry)) (now (index .exit)) ⌝ }
+    ensures { λ _. ⌜ PutsRows p (old work) (final index) ⌝ }
 {
     let scope = p.scope;
     let end = scope.length;
@@ -116,7 +117,7 @@ fn put_rows(p: Pass, work: &[u32], index: &mut [u32])
 
 // A name of the index gives nothing.
 fn clear_name(index: &mut [u32], x: usize)
-    ensures { λ _. ⌜ ClearsName (now (index .entry)) x (now (index .exit)) ⌝ }
+    ensures { λ _. ⌜ ClearsName (old index) x (final index) ⌝ }
 {
     if index.len() <= x {
         return;
@@ -126,7 +127,7 @@ fn clear_name(index: &mut [u32], x: usize)
 
 fn clear_names(all: &[u32], names: Names, index: &mut [u32])
     requires { ⌜ SomeNames (now all) names ⌝ }
-    ensures { λ _. ⌜ ClearsNames (now (all .entry)) names (now (index .entry)) (now (index .exit)) ⌝ }
+    ensures { λ _. ⌜ ClearsNames (old all) names (old index) (final index) ⌝ }
 {
     let first = names.first;
     let mut i = 0;
@@ -139,7 +140,7 @@ fn clear_names(all: &[u32], names: Names, index: &mut [u32])
 // The index of a lambda with these parameters.
 pub fn index_names(all: &[u32], names: Names, p: Pass, work: &[u32], index: &mut [u32])
     requires { ⌜ SomeNames (now all) names × KnownHere (now all) p (now work) × Zeros (now index) ⌝ }
-    ensures { λ _. ⌜ Indexed (now (all .entry)) names p (now (work .entry)) (now (index .exit)) ⌝ }
+    ensures { λ _. ⌜ Indexed (old all) names p (old work) (final index) ⌝ }
 {
     put_rows(p, work, index);
     clear_names(all, names, index);

@@ -14,6 +14,7 @@ use work::scope::is_live_row;
 ghost use mathlib.Core.Path.{_≡_};
 ghost use Prim.Native.Nat.{_<_};
 ghost use lib.ListN.{length};
+ghost use Rattle.table.specs.EntryExit.{old, final};
 ghost use Rattle.tree.specs.Record.{records};
 ghost use Rattle.work.specs.Scope.{KnownHere};
 ghost use Rattle.names.specs.Contract.{Room, withName, nameIn, Defined, EntersName, DefinesBy, EntersValue, Settable};
@@ -64,7 +65,7 @@ pub fn enter_name(
     work: &mut [u32],
 ) -> EnteredName
     requires { ⌜ Room p × Defined (now all) at p (now facts) (now work) × (e .uses < 536870912) ⌝ }
-    ensures { λ r. ⌜ EntersName (now (all .entry)) at e fact p (now (facts .entry)) (now (work .entry)) (withName r p) (now (facts .exit)) (now (work .exit)) ⌝ }
+    ensures { λ r. ⌜ EntersName (old all) at e fact p (old facts) (old work) (withName r p) (final facts) (final work) ⌝ }
 {
     let name = tree::record::name(all, at);
     let place = work::scope::define_name(p, work, name, at);
@@ -85,7 +86,7 @@ fn define_fact(
     work: &[u32],
 ) -> SemanticInformation
     requires { ⌜ KnownHere (now all) p (now work) × (at < length (records (now all))) ⌝ }
-    ensures { λ r. ⌜ DefineFact b kind alias (now (all .entry)) at p (now (work .entry)) r ⌝ }
+    ensures { λ r. ⌜ DefineFact b kind alias (old all) at p (old work) r ⌝ }
 {
     let depth = p.depth();
     let hidden = work::scope::newest_id(all, p, work, tree::record::name(all, at));
@@ -112,7 +113,7 @@ pub fn enter_define(
     work: &mut [u32],
 ) -> EnteredName
     requires { ⌜ Room p × Defined (now all) at p (now facts) (now work) ⌝ }
-    ensures { λ r. ⌜ DefinesBy b kind alias (now (all .entry)) at p (now (facts .entry)) (now (work .entry)) (withName r p) (now (facts .exit)) (now (work .exit)) ⌝ }
+    ensures { λ r. ⌜ DefinesBy b kind alias (old all) at p (old facts) (old work) (withName r p) (final facts) (final work) ⌝ }
 {
     let fact = define_fact(all, at, kind, alias, b, p, work);
     enter_name(all, at, Entry::top_level(), fact, p, facts, work)
@@ -121,7 +122,7 @@ pub fn enter_define(
 // The fact of the name's newest entry is marked as shadowed, if it is a builtin's.
 fn shadow(name: u32, p: Pass, facts: &mut [u32], work: &[u32])
     requires { ⌜ Settable p (now facts) (now work) ⌝ }
-    ensures { λ _. ⌜ Shadows name p (now (facts .entry)) (now (work .entry)) (now (facts .exit)) ⌝ }
+    ensures { λ _. ⌜ Shadows name p (old facts) (old work) (final facts) ⌝ }
 {
     let found = work::scope::newest(p, work, name);
     let Binder::At(hidden) = found else {
@@ -140,7 +141,7 @@ pub fn enter_top_level_value(
     work: &mut [u32],
 ) -> EnteredName
     requires { ⌜ Room p × Defined (now all) at p (now facts) (now work) ⌝ }
-    ensures { λ r. ⌜ EntersValue b (now (all .entry)) at p (now (facts .entry)) (now (work .entry)) (withName r p) (now (facts .exit)) (now (work .exit)) ⌝ }
+    ensures { λ r. ⌜ EntersValue b (old all) at p (old facts) (old work) (withName r p) (final facts) (final work) ⌝ }
 {
     shadow(tree::record::name(all, at), p, facts, work);
     enter_define(

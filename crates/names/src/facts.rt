@@ -10,6 +10,7 @@ ghost use mathlib.Core.Bool.{cond};
 ghost use mathlib.Core.Path.{_≡_};
 ghost use Prim.Native.Nat.{_<_};
 ghost use lib.ListN.{length};
+ghost use Rattle.table.specs.EntryExit.{old};
 ghost use Rattle.tree.specs.Record.{records, nth};
 ghost use Rattle.semantic.specs.Information.{markBuiltin, markRequired};
 ghost use Rattle.semantic.specs.declared.IdentifierStatus.the-variants.{Captured, HeapAllocated};
@@ -116,7 +117,7 @@ pub fn taken_fact(depth: u32, t: Capture, v: ScopeInfo, span: Span) -> SemanticI
 
 pub fn span_at(all: &[u32], at: usize) -> Span
     requires { ⌜ at < length (records (now all)) ⌝ }
-    ensures { λ r. ⌜ r ≡ spanOf (nth (now (all .entry)) at) ⌝ }
+    ensures { λ r. ⌜ r ≡ spanOf (nth (old all) at) ⌝ }
 {
     Span {
         start: tree::record::from(all, at),

@@ -18,6 +18,7 @@ use work::scope::Binder;
 ghost use mathlib.Core.Path.{_≡_};
 ghost use Prim.Native.Nat.{_+_, _*_, _≤_, _<_};
 ghost use lib.ListN.{length};
+ghost use Rattle.table.specs.EntryExit.{old, final};
 ghost use Rattle.semantic.specs.Rows.{rowWidth};
 ghost use Rattle.pass.specs.Read.{depthOne, currentLayer, homeSlot, read};
 ghost use Rattle.pass.specs.Run.{rowsMost};
@@ -38,7 +39,7 @@ pub enum Rule {
 
 fn capture_rule(p: Pass, work: &[u32], name: u32, b: usize) -> Rule
     requires { ⌜ Spacious p (now work) ⌝ }
-    ensures { λ r. ⌜ DecidesCapture p (now (work .entry)) name b r ⌝ }
+    ensures { λ r. ⌜ DecidesCapture p (old work) name b r ⌝ }
 {
     let found = work::captures::newest_capture(p, work, name);
     let Found::At {
@@ -54,7 +55,7 @@ fn capture_rule(p: Pass, work: &[u32], name: u32, b: usize) -> Rule
 
 pub fn rule_of(p: Pass, work: &[u32], name: u32) -> Rule
     requires { ⌜ Decided p (now work) ⌝ }
-    ensures { λ r. ⌜ Decides p (now (work .entry)) name r ⌝ }
+    ensures { λ r. ⌜ Decides p (old work) name r ⌝ }
 {
     let found = work::scope::newest(p, work, name);
     let Binder::At(b) = found else {
@@ -72,8 +73,8 @@ pub fn rule_of(p: Pass, work: &[u32], name: u32) -> Rule
 
 fn read_global(all: &[u32], at: usize, prelude: bool, b: usize, facts: &mut [u32], work: &mut [u32])
     requires { ⌜ Bound (now all) at b (now facts) (now work) ⌝ }
-    ensures { λ _. ⌜ ReadsBy depthOne (ToldPrelude prelude) (now (all .entry)) at b
-        (now (facts .entry)) (now (work .entry)) (now (facts .exit)) (now (work .exit)) ⌝ }
+    ensures { λ _. ⌜ ReadsBy depthOne (ToldPrelude prelude) (old all) at b
+        (old facts) (old work) (final facts) (final work) ⌝ }
 {
     let e = work::entries::load_entry(work, b);
     work::entries::store_entry(work, b, e.used());
@@ -88,8 +89,9 @@ fn read_global(all: &[u32], at: usize, prelude: bool, b: usize, facts: &mut [u32
 
 // The entry e of the binder at b after its use; the binder's fact takes its uses.
 fn put_use(b: usize, e: Entry, facts: &mut [u32], work: &mut [u32])
-    requires { ⌜ (length (now work) ≡ workLong) × (b < rowsMost) × (e .uses < 536870912) × (rowWidth * b + rowWidth ≤ length (now facts)) ⌝ }
-    ensures { λ _. ⌜ PutsUse b e (now (facts .entry)) (now (work .entry)) (now (facts .exit)) (now (work .exit)) ⌝ }
+    requires { ⌜ (length (now work) ≡ workLong) × (b < rowsMost)
+        × (e .uses < 536870912) × (rowWidth * b + rowWidth ≤ length (now facts)) ⌝ }
+    ensures { λ _. ⌜ PutsUse b e (old facts) (old work) (final facts) (final work) ⌝ }
 {
     work::entries::store_entry(work, b, e);
     semantic::amend::with_usage_count(facts, b, e.uses);
@@ -97,8 +99,8 @@ fn put_use(b: usize, e: Entry, facts: &mut [u32], work: &mut [u32])
 
 fn read_local(all: &[u32], at: usize, depth: u32, b: usize, facts: &mut [u32], work: &mut [u32])
     requires { ⌜ Bound (now all) at b (now facts) (now work) ⌝ }
-    ensures { λ _. ⌜ ReadsBy currentLayer (ToldDepth depth) (now (all .entry)) at b
-        (now (facts .entry)) (now (work .entry)) (now (facts .exit)) (now (work .exit)) ⌝ }
+    ensures { λ _. ⌜ ReadsBy currentLayer (ToldDepth depth) (old all) at b
+        (old facts) (old work) (final facts) (final work) ⌝ }
 {
     let e = work::entries::load_entry(work, b);
     let f = e.used();
@@ -115,8 +117,8 @@ fn read_local(all: &[u32], at: usize, depth: u32, b: usize, facts: &mut [u32], w
 
 fn read_home(all: &[u32], at: usize, depth: u32, b: usize, facts: &mut [u32], work: &mut [u32])
     requires { ⌜ Bound (now all) at b (now facts) (now work) ⌝ }
-    ensures { λ _. ⌜ ReadsBy homeSlot (ToldDepth depth) (now (all .entry)) at b
-        (now (facts .entry)) (now (work .entry)) (now (facts .exit)) (now (work .exit)) ⌝ }
+    ensures { λ _. ⌜ ReadsBy homeSlot (ToldDepth depth) (old all) at b
+        (old facts) (old work) (final facts) (final work) ⌝ }
 {
     let e = work::entries::load_entry(work, b);
     let f = e.used();
@@ -145,7 +147,7 @@ fn note_taken(v: ScopeInfo, at: usize, before: Second) -> Second
 // The capture at the place is used, and the entry of the binder at b.
 fn use_taken(at: usize, b: usize, place: usize, work: &mut [u32]) -> Capture
     requires { ⌜ (at < rowsMost) × (b < rowsMost) × Takeable place (now work) ⌝ }
-    ensures { λ t. ⌜ UsesTaken at b place (now (work .entry)) t (now (work .exit)) ⌝ }
+    ensures { λ t. ⌜ UsesTaken at b place (old work) t (final work) ⌝ }
 {
     let t = work::captures::load_capture(work, place);
     work::captures::use_capture(work, place);
@@ -167,8 +169,8 @@ fn read_taken(
     work: &mut [u32],
 ) -> Second
     requires { ⌜ TakenBound (now all) at b place row p (now facts) (now captured) (now work) ⌝ }
-    ensures { λ r. ⌜ ReadsTaken (now (all .entry)) at b place row p
-        (now (facts .entry)) (now (captured .entry)) (now (work .entry)) r (now (facts .exit)) (now (work .exit)) ⌝ }
+    ensures { λ r. ⌜ ReadsTaken (old all) at b place row p
+        (old facts) (old captured) (old work) r (final facts) (final work) ⌝ }
 {
     let v = semantic::list_entries::load_info(captured, row);
     let t = use_taken(at, b, place, work);
@@ -191,8 +193,8 @@ pub fn read(
     work: &mut [u32],
 ) -> Second
     requires { ⌜ Readable (length (now classes)) (now all) at p (now facts) (now captured) (now work) ⌝ }
-    ensures { λ r. ⌜ Does (now (all .entry)) at p
-        (now (facts .entry)) (now (captured .entry)) (now (work .entry)) (read (now (classes .entry))) (withSecond r p) (now (facts .exit)) (now (work .exit)) ⌝ }
+    ensures { λ r. ⌜ Does (old all) at p
+        (old facts) (old captured) (old work) (read (old classes)) (withSecond r p) (final facts) (final work) ⌝ }
 {
     let name = tree::record::name(all, at);
     let prelude = is_class(classes, name, 1);
@@ -237,7 +239,7 @@ pub fn read(
 // set!: the newest entry of the name is used once more and mutated, and its binder's fact tells.
 pub fn mutate(name: u32, p: Pass, facts: &mut [u32], work: &mut [u32])
     requires { ⌜ Settable p (now facts) (now work) ⌝ }
-    ensures { λ _. ⌜ Mutates name p (now (facts .entry)) (now (work .entry)) (now (facts .exit)) (now (work .exit)) ⌝ }
+    ensures { λ _. ⌜ Mutates name p (old facts) (old work) (final facts) (final work) ⌝ }
 {
     let found = work::scope::newest(p, work, name);
     let Binder::At(b) = found else {

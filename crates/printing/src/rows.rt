@@ -13,6 +13,7 @@ use semantic::kinds::row_kind;
 use semantic::rows::row_at;
 ghost use Prim.Native.Nat.{_+_, _*_, _≤_};
 ghost use lib.ListN.{length, take};
+ghost use Rattle.table.specs.EntryExit.{old, final};
 ghost use Rattle.semantic.specs.Rows.{Blank, rowWidth, putRow};
 ghost use Rattle.semantic.specs.Leaves.{Tells};
 ghost use Rattle.printing.specs.Puts.{Puts, Line};
@@ -22,7 +23,7 @@ ghost use Rattle.printing.specs.Numbers.{variableEnd, variableText, func
 // The last fields of an identifier's line, from the place p on.
 fn variable_end(row: [u32; ROW], p: usize, out: &mut [u8]) -> usize
     requires { ⌜ p + 51 ≤ length (now out) ⌝ }
-    ensures { λ r. ⌜ Puts (line (variableEnd row)) 51 (now (out .entry)) p (now (out .exit)) r ⌝ }
+    ensures { λ r. ⌜ Puts (line (variableEnd row)) 51 (old out) p (final out) r ⌝ }
 {
     let f = option(out, p, b" refers=", row[variable::REFERS_TO]);
     let s = option(out, f, b" slot=", row[variable::STACK_OFFSET]);
@@ -32,7 +33,7 @@ fn variable_end(row: [u32; ROW], p: usize, out: &mut [u8]) -> usize
 
 fn variable_line(row: [u32; ROW], at: usize, out: &mut [u8]) -> usize
     requires { ⌜ 128 ≤ length (now out) ⌝ }
-    ensures { λ r. ⌜ Line (variableText at row) (now (out .exit)) r ⌝ }
+    ensures { λ r. ⌜ Line (variableText at row) (final out) r ⌝ }
 {
     let a = long_number(out, 0, b"at=", at as u64);
     let k = number(out, a, b" kind=", row[variable::KIND]);
@@ -43,7 +44,7 @@ fn variable_line(row: [u32; ROW], at: usize, out: &mut [u8]) -> usize
 
 fn function_line(row: [u32; ROW], at: usize, out: &mut [u8]) -> usize
     requires { ⌜ 128 ≤ length (now out) ⌝ }
-    ensures { λ r. ⌜ Line (functionText at row) (now (out .exit)) r ⌝ }
+    ensures { λ r. ⌜ Line (functionText at row) (final out) r ⌝ }
 {
     let a = long_number(out, 0, b"at=", at as u64);
     let c = number(out, a, b" captured=", row[function::CAPTURED_LENGTH]);
@@ -55,7 +56,7 @@ fn function_line(row: [u32; ROW], at: usize, out: &mut [u8]) -> usize
 // The line of a let or a call: a number, and a number or none.
 fn pair_line(at: usize, out: &mut [u8], first: &[u8], n: u32, second: &[u8], m: u32) -> usize
     requires { ⌜ (128 ≤ length (now out)) × (length (now first) ≤ 8) × (length (now second) ≤ 8) ⌝ }
-    ensures { λ r. ⌜ Line (pairText at (now (first .entry)) n (now (second .entry)) m) (now (out .exit)) r ⌝ }
+    ensures { λ r. ⌜ Line (pairText at (old first) n (old second) m) (final out) r ⌝ }
 {
     let a = long_number(out, 0, b"at=", at as u64);
     let f = number(out, a, first, n);
@@ -67,7 +68,7 @@ fn pair_line(at: usize, out: &mut [u8], first: &[u8], n: u32, second: &[u8], m: 
 pub fn row_line(facts: &[u32], at: usize, out: &mut [u8]) -> usize
     requires { ⌜ (rowWidth * at + rowWidth ≤ length (now facts)) × (128 ≤ length (now out)) ⌝ }
     ensures short { λ r. ⌜ r ≤ 128 ⌝ }
-    ensures { λ r. ⌜ Tells putRow Blank (rowText at) (now (facts .entry)) at (take r (now (out .exit))) ⌝ }
+    ensures { λ r. ⌜ Tells putRow Blank (rowText at) (old facts) at (take r (final out)) ⌝ }
 {
     let row = row_at(facts, at);
     let kind = row_kind(facts, at);

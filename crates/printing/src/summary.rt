@@ -8,6 +8,7 @@ use semantic::fields::call;
 ghost use mathlib.Core.Path.{_≡_};
 ghost use Prim.Native.Nat.{_+_, _*_, _≤_};
 ghost use lib.ListN.{length};
+ghost use Rattle.table.specs.EntryExit.{old, final};
 ghost use Rattle.tree.specs.Tree.{bit};
 ghost use Rattle.semantic.specs.Rows.{Blank, rowWidth, putRow};
 ghost use Rattle.semantic.specs.Leaves.{Tells};
@@ -29,14 +30,14 @@ fn one(b: bool) -> u32
 
 fn is_call(facts: &[u32], at: usize) -> bool
     requires { ⌜ rowWidth * at + rowWidth ≤ length (now facts) ⌝ }
-    ensures { λ r. ⌜ Tells putRow Blank isCall (now (facts .entry)) at r ⌝ }
+    ensures { λ r. ⌜ Tells putRow Blank isCall (old facts) at r ⌝ }
 {
     facts[ROW * at] == CALL_SITE
 }
 
 fn is_tail(facts: &[u32], at: usize) -> bool
     requires { ⌜ rowWidth * at + rowWidth ≤ length (now facts) ⌝ }
-    ensures { λ r. ⌜ Tells putRow Blank isTail (now (facts .entry)) at r ⌝ }
+    ensures { λ r. ⌜ Tells putRow Blank isTail (old facts) at r ⌝ }
 {
     if facts[ROW * at] != CALL_SITE {
         return false;
@@ -46,7 +47,7 @@ fn is_tail(facts: &[u32], at: usize) -> bool
 
 pub fn count_calls(facts: &[u32]) -> Calls
     requires { ⌜ length (now facts) ≤ 81920 ⌝ }
-    ensures { λ r. ⌜ Counted (now (facts .entry)) r ⌝ }
+    ensures { λ r. ⌜ Counted (old facts) r ⌝ }
 {
     let rows = facts.len() / ROW;
     let mut all = 0;
@@ -72,7 +73,7 @@ pub fn percent(all: u32, tail: u32) -> u64
 
 pub fn summary(facts: &[u32], out: &mut [u8]) -> usize
     requires { ⌜ (length (now facts) ≤ 81920) × (128 ≤ length (now out)) ⌝ }
-    ensures { λ r. ⌜ Summed (now (facts .entry)) (now (out .exit)) r ⌝ }
+    ensures { λ r. ⌜ Summed (old facts) (final out) r ⌝ }
 {
     let c = count_calls(facts);
     let all = c.all;

@@ -3,6 +3,7 @@ ghost use mathlib.Core.Path.{_≡_};
 ghost use mathlib.Core.List.{_∷_, []};
 ghost use Prim.Native.Nat.{_≤_};
 ghost use lib.ListN.{length, drop};
+ghost use Rattle.table.specs.EntryExit.{old};
 ghost use Rattle.printing.specs.Text.{recordMarks};
 ghost use Rattle.reading.specs.Reading.{fit, numberAt, fieldAt, numbersOf, isDigit as Reading·isDigit, digits as Reading·digits};
 ghost use Rattle.reading.specs.Found.{Starts, Found, ones, six, Next};
@@ -28,7 +29,7 @@ pub struct Six {
 // Whether the mark stands at the place.
 fn starts(l: &[u8], at: usize, mark: &[u8]) -> bool
     requires { ⌜ at ≤ length (now l) ⌝ }
-    ensures { λ r. ⌜ Starts (now (l .entry)) at (now (mark .entry)) r ⌝ }
+    ensures { λ r. ⌜ Starts (old l) at (old mark) r ⌝ }
 {
     let mut i = 0;
     while i < mark.len() {
@@ -55,7 +56,7 @@ fn is_digit(x: u8) -> bool
 // The digits from the place `at` on, read on from v.
 fn digits(l: &[u8], at: usize, v: u32) -> Field
     requires { ⌜ at ≤ length (now l) ⌝ }
-    ensures { λ r. ⌜ Found (now (l .entry)) (fit (Reading·digits v (drop at (now (l .entry))))) r ⌝ }
+    ensures { λ r. ⌜ Found (old l) (fit (Reading·digits v (drop at (old l)))) r ⌝ }
 {
     let mut value = v as u64;
     let mut i = at;
@@ -76,7 +77,7 @@ fn digits(l: &[u8], at: usize, v: u32) -> Field
 // The number at the place: a 0 alone, or digits of which the first is not 0.
 fn number(l: &[u8], at: usize) -> Field
     requires { ⌜ at ≤ length (now l) ⌝ }
-    ensures { λ r. ⌜ Found (now (l .entry)) (numberAt (drop at (now (l .entry)))) r ⌝ }
+    ensures { λ r. ⌜ Found (old l) (numberAt (drop at (old l))) r ⌝ }
 {
     if at == l.len() {
         return Field::Nothing;
@@ -94,7 +95,7 @@ fn number(l: &[u8], at: usize) -> Field
 // The number after the mark, which stands at the place.
 fn field_at(l: &[u8], at: usize, mark: &[u8]) -> Field
     requires { ⌜ at ≤ length (now l) ⌝ }
-    ensures { λ r. ⌜ Found (now (l .entry)) (fieldAt (now (mark .entry)) (drop at (now (l .entry)))) r ⌝ }
+    ensures { λ r. ⌜ Found (old l) (fieldAt (old mark) (drop at (old l))) r ⌝ }
 {
     if !starts(l, at, mark) {
         return Field::Nothing;
@@ -104,7 +105,7 @@ fn field_at(l: &[u8], at: usize, mark: &[u8]) -> Field
 
 // The number of a line of one field.
 pub fn single(l: &[u8], mark: &[u8]) -> Only
-    ensures { λ r. ⌜ numbersOf (now (mark .entry) ∷ []) (now (l .entry)) ≡ ones r ⌝ }
+    ensures { λ r. ⌜ numbersOf (old mark ∷ []) (old l) ≡ ones r ⌝ }
 {
     let Field::Value(n, end) = field_at(l, 0, mark) else {
         return Only::Nothing;
@@ -118,7 +119,7 @@ pub fn single(l: &[u8], mark: &[u8]) -> Only
 // The number after the mark is read too.
 fn next(l: &[u8], r: Six, mark: &[u8]) -> Six
     requires { ⌜ r .at ≤ length (now l) ⌝ }
-    ensures { λ q. ⌜ Next (now (l .entry)) (now (mark .entry)) r q ⌝ }
+    ensures { λ q. ⌜ Next (old l) (old mark) r q ⌝ }
 {
     let at = r.at;
     let a = r.numbers;
@@ -138,7 +139,7 @@ fn next(l: &[u8], r: Six, mark: &[u8]) -> Six
 
 // The numbers of a record's line.
 pub fn record(l: &[u8]) -> Six
-    ensures { λ r. ⌜ numbersOf recordMarks (now (l .entry)) ≡ six r ⌝ }
+    ensures { λ r. ⌜ numbersOf recordMarks (old l) ≡ six r ⌝ }
 {
     let start = Six {
         ok: true,

@@ -6,6 +6,7 @@ ghost use mathlib.Core.Path.{_≡_};
 ghost use mathlib.Core.List.{_∷_, [], _++_};
 ghost use Prim.Native.Nat.{_+_};
 ghost use lib.ListN.{set};
+ghost use Rattle.table.specs.EntryExit.{old, final};
 ghost use Rattle.reading.specs.Held.{shown, spoiled, Starts, First, Class, Entry, Turns, Fed, Finished, RowStored};
 
 // What was read so far. Numbers of lines and records stop at the largest that there is. Before the first line has ended the numbers of names, classes and
@@ -66,7 +67,7 @@ fn spoil(r: Reading) -> Reading
 }
 
 fn first_line(l: &[u8], r: Reading) -> Reading
-    ensures { λ q. ⌜ First (now (l .entry)) r q ⌝ }
+    ensures { λ q. ⌜ First (old l) r q ⌝ }
 {
     let Only::Value(n) = single(l, b"names=") else {
         return spoil(r);
@@ -82,7 +83,7 @@ fn first_line(l: &[u8], r: Reading) -> Reading
 }
 
 fn store_class(classes: &mut [u8], at: u64, c: u8)
-    ensures { λ _. ⌜ now (classes .exit) ≡ set (now (classes .entry)) at c ⌝ }
+    ensures { λ _. ⌜ final classes ≡ set (old classes) at c ⌝ }
 {
     let i = at as usize;
     if i < classes.len() {
@@ -91,7 +92,7 @@ fn store_class(classes: &mut [u8], at: u64, c: u8)
 }
 
 fn class_line(l: &[u8], classes: &mut [u8], r: Reading) -> Reading
-    ensures { λ q. ⌜ Class (now (l .entry)) r (now (classes .entry)) q (now (classes .exit)) ⌝ }
+    ensures { λ q. ⌜ Class (old l) r (old classes) q (final classes) ⌝ }
 {
     let Only::Value(c) = single(l, b"class=") else {
         return spoil(r);
@@ -111,7 +112,7 @@ fn class_line(l: &[u8], classes: &mut [u8], r: Reading) -> Reading
 }
 
 fn store_record(records: &mut [u32], at: u64, row: [u32; 6])
-    ensures { λ _. ⌜ RowStored (now (records .entry)) at row (now (records .exit)) ⌝ }
+    ensures { λ _. ⌜ RowStored (old records) at row (final records) ⌝ }
 {
     let i = at as usize;
     if i < records.len() / 6 {
@@ -120,7 +121,7 @@ fn store_record(records: &mut [u32], at: u64, row: [u32; 6])
 }
 
 fn record_line(l: &[u8], records: &mut [u32], r: Reading) -> Reading
-    ensures { λ q. ⌜ Entry (now (l .entry)) r (now (records .entry)) q (now (records .exit)) ⌝ }
+    ensures { λ q. ⌜ Entry (old l) r (old records) q (final records) ⌝ }
 {
     let s = record(l);
     if !s.ok {
@@ -140,7 +141,7 @@ fn record_line(l: &[u8], records: &mut [u32], r: Reading) -> Reading
 
 // An LF has come: the line is whole.
 fn end_line(l: &[u8], classes: &mut [u8], records: &mut [u32], r: Reading) -> Reading
-    ensures { λ q. ⌜ Turns (now (l .entry)) r (now (classes .entry)) (now (records .entry)) q (now (classes .exit)) (now (records .exit)) ⌝ }
+    ensures { λ q. ⌜ Turns (old l) r (old classes) (old records) q (final classes) (final records) ⌝ }
 {
     if r.lines == 0 {
         return first_line(l, r);
@@ -152,8 +153,8 @@ fn end_line(l: &[u8], classes: &mut [u8], records: &mut [u32], r: Reading) -> Re
 }
 
 fn one_byte(x: u8, line: &mut [u8], classes: &mut [u8], records: &mut [u32], r: Reading) -> Reading
-    ensures { λ q. ⌜ Fed (x ∷ []) r (now (line .entry)) (now (classes .entry)) (now (records .entry))
-        q (now (line .exit)) (now (classes .exit)) (now (records .exit)) ⌝ }
+    ensures { λ q. ⌜ Fed (x ∷ []) r (old line) (old classes) (old records)
+        q (final line) (final classes) (final records) ⌝ }
 {
     let n = r.length;
     if r.bad > 0 {
@@ -189,8 +190,8 @@ pub fn feed(
     records: &mut [u32],
     r: Reading,
 ) -> Reading
-    ensures { λ q. ⌜ Fed (now (chunk .entry)) r (now (line .entry)) (now (classes .entry)) (now (records .entry))
-        q (now (line .exit)) (now (classes .exit)) (now (records .exit)) ⌝ }
+    ensures { λ q. ⌜ Fed (old chunk) r (old line) (old classes) (old records)
+        q (final line) (final classes) (final records) ⌝ }
 {
     let mut q = r;
     let mut i = 0;

@@ -1,6 +1,7 @@
 // The numbers of the input, one after another.
 use semantic::NONE;
 ghost use Prim.Native.Nat.{_≤_};
+ghost use Rattle.table.specs.EntryExit.{old};
 ghost use Rattle.replay.specs.Reads.{Reads};
 
 const MINUS: u8 = 45;
@@ -63,7 +64,7 @@ fn digits(input: &[u8], at: usize, value: u32) -> Number
 
 // The next number; `-` is NONE. Anything else between numbers is passed by.
 pub fn next_number(input: &[u8], at: usize) -> Number
-    ensures { λ r. ⌜ Reads (now (input .entry)) at (r .found) (r .next) ⌝ }
+    ensures { λ r. ⌜ Reads (old input) at (r .found) (r .next) ⌝ }
 {
     let mut i = at;
     while i < input.len() {

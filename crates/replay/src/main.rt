@@ -9,6 +9,7 @@ use table::wide;
 ghost use mathlib.Core.Path.{_≡_};
 ghost use Prim.Native.Nat.{_≤_};
 ghost use lib.ListN.{length};
+ghost use Rattle.table.specs.EntryExit.{old, final};
 ghost use Rattle.io.specs.Counts.{Counts};
 ghost use Rattle.replay.specs.Reads.{Reads};
 
@@ -91,9 +92,9 @@ struct Case {
 
 // What does not fit the tables is cut.
 fn read_case(classes: &mut [u8], records: &mut [u32], input: &[u8], at: usize) -> Case
-    ensures { λ r. ⌜ Reads (now (input .entry)) at (r .found) (r .next) ⌝ }
-    ensures { λ r. ⌜ r .names ≤ length (now (classes .exit)) ⌝ }
-    ensures { λ r. ⌜ r .numbers ≤ length (now (records .exit)) ⌝ }
+    ensures { λ r. ⌜ Reads (old input) at (r .found) (r .next) ⌝ }
+    ensures { λ r. ⌜ r .names ≤ length (final classes) ⌝ }
+    ensures { λ r. ⌜ r .numbers ≤ length (final records) ⌝ }
 {
     let first = next_number(input, at);
     let names = least(wide(first.value), classes.len());
@@ -193,7 +194,7 @@ fn next_size() -> usize {
 
 // The next part; answers how many bytes there were. What does not fit is cut.
 fn read_part(input: &mut [u8]) -> usize
-    ensures { λ r. ⌜ Counts r (now (input .exit)) ⌝ }
+    ensures { λ r. ⌜ Counts r (final input) ⌝ }
 {
     let size = least(next_size(), input.len());
     io::read_full(0, &mut input[..size])

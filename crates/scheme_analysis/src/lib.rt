@@ -2,6 +2,7 @@
 // of different versions do not link; the header gives the functions their plain names.
 use analysis::Answer;
 ghost use mathlib.Core.Path.{_≡_};
+ghost use Rattle.table.specs.EntryExit.{old, final};
 ghost use Rattle.pass.specs.Run.{Fresh, Settled};
 ghost use Rattle.analysis.specs.Answer.{tables, refusalIn};
 ghost use Rattle.scheme_analysis.specs.Told.{Tells, numberTold, recordTold};
@@ -34,7 +35,8 @@ pub extern "C" fn scheme_analysis_fresh_v2(
     work: &mut [u32],
     at: &mut usize,
 ) -> u32
-    ensures { λ r. ⌜ Tells Fresh (now (classes .entry)) (now (records .entry)) (tables (now (facts .entry)) (now (captured .entry)) (now (arguments .entry)) (now (work .entry))) r (now (at .exit)) (tables (now (facts .exit)) (now (captured .exit)) (now (arguments .exit)) (now (work .exit))) ⌝ }
+    ensures { λ r. ⌜ Tells Fresh (old classes) (old records) (tables (old facts) (old captured) (old arguments) (old work))
+        r (final at) (tables (final facts) (final captured) (final arguments) (final work)) ⌝ }
 {
     let a = analysis::fresh(records, classes, facts, captured, arguments, work);
     *at = record_told(a);
@@ -51,7 +53,8 @@ pub extern "C" fn scheme_analysis_settled_v2(
     work: &mut [u32],
     at: &mut usize,
 ) -> u32
-    ensures { λ r. ⌜ Tells Settled (now (classes .entry)) (now (records .entry)) (tables (now (facts .entry)) (now (captured .entry)) (now (arguments .entry)) (now (work .entry))) r (now (at .exit)) (tables (now (facts .exit)) (now (captured .exit)) (now (arguments .exit)) (now (work .exit))) ⌝ }
+    ensures { λ r. ⌜ Tells Settled (old classes) (old records) (tables (old facts) (old captured) (old arguments) (old work))
+        r (final at) (tables (final facts) (final captured) (final arguments) (final work)) ⌝ }
 {
     let a = analysis::settled(records, classes, facts, captured, arguments, work);
     *at = record_told(a);

@@ -6,6 +6,7 @@ ghost use mathlib.Core.Path.{_≡_};
 ghost use mathlib.Core.List.{List};
 ghost use Prim.Native.Nat.{ℕ, _+_, _*_, _≤_, _<_};
 ghost use lib.ListN.{length};
+ghost use Rattle.table.specs.EntryExit.{old, final};
 ghost use Rattle.scope_map.specs.ScopeMap.{new, pushLayer, popLayer, define, remove};
 ghost use Rattle.scope_map.specs.Rows.{valuesMost, linksMost, rowAt, liveOf, written};
 ghost use Rattle.scope_map.specs.Hints.{mapLength, Roomy, withHint, Bounds, Enters, Leaves, Moves};
@@ -74,7 +75,7 @@ impl ScopeMap {
     // The first row of the newest layer. The rows from it on are the layer's names, in the order they were defined.
     pub fn newest_layer(self, t: &[u32]) -> usize
         requires { ⌜ Roomy (self .length) (now t) ⌝ }
-        ensures { λ r. ⌜ Starts self (now (t .entry)) r ⌝ }
+        ensures { λ r. ⌜ Starts self (old t) r ⌝ }
     {
         let depth = self.depth;
         let mut i = self.length;
@@ -91,7 +92,7 @@ impl ScopeMap {
     // The newest layer goes, unless it is the bottom one.
     pub fn pop_layer(self, t: &mut [u32]) -> Self
         requires { ⌜ Roomy (self .length) (now t) ⌝ }
-        ensures { λ r. ⌜ Becomes self (now (t .entry)) popLayer r (now (t .exit)) ⌝ }
+        ensures { λ r. ⌜ Becomes self (old t) popLayer r (final t) ⌝ }
     {
         let start = self.newest_layer(t);
         self.pop_from(t, start)
@@ -100,7 +101,7 @@ impl ScopeMap {
     // The same, where the first row of the newest layer is known.
     pub fn pop_from(self, t: &mut [u32], start: usize) -> Self
         requires { ⌜ Roomy (self .length) (now t) × Starts self (now t) start ⌝ }
-        ensures { λ r. ⌜ Becomes self (now (t .entry)) popLayer r (now (t .exit)) ⌝ }
+        ensures { λ r. ⌜ Becomes self (old t) popLayer r (final t) ⌝ }
     {
         if self.depth <= 1 {
             return self;
@@ -115,7 +116,7 @@ impl ScopeMap {
     // The newest of the name.
     pub fn get(self, t: &[u32], name: u32) -> Found
         requires { ⌜ Roomy (self .length) (now t) ⌝ }
-        ensures { λ r. ⌜ Gets self (now (t .entry)) name r ⌝ }
+        ensures { λ r. ⌜ Gets self (old t) name r ⌝ }
     {
         let mut i = bound(t, self.length, name);
         while 0 < i {
@@ -133,7 +134,7 @@ impl ScopeMap {
 
     pub fn depth_of(self, t: &[u32], name: u32) -> Distance
         requires { ⌜ Roomy (self .length) (now t) ⌝ }
-        ensures { λ r. ⌜ Tells self (now (t .entry)) (λ m. distanceOf m name) r ⌝ }
+        ensures { λ r. ⌜ Tells self (old t) (λ m. distanceOf m name) r ⌝ }
     {
         let found = self.get(t, name);
         let Found::At {
@@ -155,7 +156,7 @@ impl ScopeMap {
     // newest of the name decides.
     pub fn place(self, t: &[u32], name: u32) -> usize
         requires { ⌜ Roomy (self .length) (now t) ⌝ }
-        ensures { λ r. ⌜ Places self (now (t .entry)) name r ⌝ }
+        ensures { λ r. ⌜ Places self (old t) name r ⌝ }
     {
         let found = self.get(t, name);
         let Found::At {
@@ -175,7 +176,7 @@ impl ScopeMap {
     // In a layer that has the name the value is replaced. Answers the row that the name is in; a row after the last is one more.
     pub fn define_at(self, t: &mut [u32], name: u32, value: u32) -> usize
         requires { ⌜ Roomy (self .length + 1) (now t) × (value < valuesMost) ⌝ }
-        ensures { λ r. ⌜ DefinesAt self (now (t .entry)) name value r (now (t .exit)) ⌝ }
+        ensures { λ r. ⌜ DefinesAt self (old t) name value r (final t) ⌝ }
     {
         let place = self.place(t, name);
         let depth = self.depth;
@@ -205,7 +206,7 @@ impl ScopeMap {
 
     pub fn define(self, t: &mut [u32], name: u32, value: u32) -> Self
         requires { ⌜ Roomy (self .length + 1) (now t) × (value < valuesMost) ⌝ }
-        ensures { λ r. ⌜ Becomes self (now (t .entry)) (define name value) r (now (t .exit)) ⌝ }
+        ensures { λ r. ⌜ Becomes self (old t) (define name value) r (final t) ⌝ }
     {
         let place = self.define_at(t, name, value);
         self.with_row(place)
@@ -214,7 +215,7 @@ impl ScopeMap {
     // Out of the newest layer alone. The rows after the name's leave with it, and enter again one row down.
     pub fn remove(self, t: &mut [u32], name: u32) -> Self
         requires { ⌜ Roomy (self .length) (now t) ⌝ }
-        ensures { λ r. ⌜ Becomes self (now (t .entry)) (remove name) r (now (t .exit)) ⌝ }
+        ensures { λ r. ⌜ Becomes self (old t) (remove name) r (final t) ⌝ }
     {
         let place = self.place(t, name);
         let length = self.length;
@@ -233,7 +234,7 @@ impl ScopeMap {
     // Row i, by which a caller walks the live names.
     pub fn row_at(self, t: &[u32], i: usize) -> Row
         requires { ⌜ (i < self .length) × Roomy (self .length) (now t) ⌝ }
-        ensures { λ r. ⌜ liveOf r ≡ rowAt (now (t .entry)) i ⌝ }
+        ensures { λ r. ⌜ liveOf r ≡ rowAt (old t) i ⌝ }
     {
         Row {
             name: t[3 * i],
@@ -246,7 +247,7 @@ impl ScopeMap {
 // Where a search for the name among n rows starts: no row from here on has it.
 fn bound(t: &[u32], n: usize, name: u32) -> usize
     requires { ⌜ Roomy n (now t) ⌝ }
-    ensures { λ r. ⌜ Bounds n (now (t .entry)) name r ⌝ }
+    ensures { λ r. ⌜ Bounds n (old t) name r ⌝ }
 {
     if HINTED <= name {
         return n;
@@ -261,7 +262,7 @@ fn bound(t: &[u32], n: usize, name: u32) -> usize
 // Row i is written.
 fn put(t: &mut [u32], i: usize, name: u32, layer: u32, value: u32, link: u32)
     requires { ⌜ (3 * i + 3 ≤ length (now t)) × (value < valuesMost) × (link < linksMost) ⌝ }
-    ensures { λ _. ⌜ now (t .exit) ≡ written (now (t .entry)) i name layer value link ⌝ }
+    ensures { λ _. ⌜ final t ≡ written (old t) i name layer value link ⌝ }
 {
     t[3 * i] = name;
     t[3 * i + 1] = layer;
@@ -271,7 +272,7 @@ fn put(t: &mut [u32], i: usize, name: u32, layer: u32, value: u32, link: u32)
 // No row from row n on has the name.
 fn set_hint(t: &mut [u32], name: u32, n: u32)
     requires { ⌜ mapLength ≤ length (now t) ⌝ }
-    ensures { λ _. ⌜ now (t .exit) ≡ withHint (now (t .entry)) name n ⌝ }
+    ensures { λ _. ⌜ final t ≡ withHint (old t) name n ⌝ }
 {
     if name < HINTED {
         t[HINTS + wide(name)] = n;
@@ -281,7 +282,7 @@ fn set_hint(t: &mut [u32], name: u32, n: u32)
 // A row enters after n rows.
 fn enter(t: &mut [u32], n: usize, name: u32, layer: u32, value: u32)
     requires { ⌜ Roomy (n + 1) (now t) × (value < valuesMost) ⌝ }
-    ensures { λ _. ⌜ Enters (now (t .entry)) n name layer value (now (t .exit)) ⌝ }
+    ensures { λ _. ⌜ Enters (old t) n name layer value (final t) ⌝ }
 {
     let link = bound(t, n, name) as u32;
     put(t, n, name, layer, value, link);
@@ -291,7 +292,7 @@ fn enter(t: &mut [u32], n: usize, name: u32, layer: u32, value: u32)
 // Row n, the last, leaves: its name's hint is what it was before.
 fn leave(t: &mut [u32], n: usize)
     requires { ⌜ Roomy (n + 1) (now t) ⌝ }
-    ensures { λ _. ⌜ Leaves (now (t .entry)) n (n + 1) (now (t .exit)) ⌝ }
+    ensures { λ _. ⌜ Leaves (old t) n (n + 1) (final t) ⌝ }
 {
     let name = t[3 * n];
     let link = t[3 * n + 2] / VALUES;
@@ -301,7 +302,7 @@ fn leave(t: &mut [u32], n: usize)
 // The rows from row i on, of n, leave, the last first.
 fn leave_rows(t: &mut [u32], i: usize, n: usize)
     requires { ⌜ (i ≤ n) × Roomy n (now t) ⌝ }
-    ensures { λ _. ⌜ Leaves (now (t .entry)) i n (now (t .exit)) ⌝ }
+    ensures { λ _. ⌜ Leaves (old t) i n (final t) ⌝ }
 {
     let mut k = n;
     while i < k {
@@ -313,7 +314,7 @@ fn leave_rows(t: &mut [u32], i: usize, n: usize)
 // The rows from row i + 1 to row n enter after i rows, so that each moves down by one.
 fn enter_rows(t: &mut [u32], i: usize, n: usize)
     requires { ⌜ (i ≤ n) × Roomy (n + 1) (now t) ⌝ }
-    ensures { λ _. ⌜ Moves (now (t .entry)) i n (now (t .exit)) ⌝ }
+    ensures { λ _. ⌜ Moves (old t) i n (final t) ⌝ }
 {
     let mut k = i;
     while k < n {

@@ -1,5 +1,6 @@
 // What `ScopeMap` gives in the cases that its document names.
 ghost use Prim.Native.Nat.{_<_};
+ghost use Rattle.table.specs.EntryExit.{final};
 ghost use Rattle.scope_map.specs.Hints.{Roomy};
 ghost use Rattle.scope_map.specs.Held.{Held};
 ghost use Rattle.scope_map_main.specs.States.{twoLayers, replaced, Holds};
@@ -80,7 +81,7 @@ fn show(m: ScopeMap, t: &[u32; 13312])
 
 // The name 7 in two layers.
 fn two_layers(t: &mut [u32; 13312]) -> ScopeMap
-    ensures { λ r. ⌜ Held r (now (t .exit)) twoLayers ⌝ }
+    ensures { λ r. ⌜ Held r (final t) twoLayers ⌝ }
 {
     let a = ScopeMap::new();
     let b = a.define(t, 7, 70);
@@ -91,7 +92,7 @@ fn two_layers(t: &mut [u32; 13312]) -> ScopeMap
 // Another name after it, and its value replaced: the order stays.
 fn replaced(m: ScopeMap, t: &mut [u32; 13312]) -> ScopeMap
     requires { ⌜ Held m (now t) twoLayers ⌝ }
-    ensures { λ r. ⌜ Held r (now (t .exit)) replaced ⌝ }
+    ensures { λ r. ⌜ Held r (final t) replaced ⌝ }
 {
     let a = m.define(t, 6, 60);
     a.define(t, 7, 72)
@@ -99,7 +100,7 @@ fn replaced(m: ScopeMap, t: &mut [u32; 13312]) -> ScopeMap
 
 fn removed(m: ScopeMap, t: &mut [u32; 13312]) -> ScopeMap
     requires { ⌜ Holds m (now t) ⌝ }
-    ensures { λ r. ⌜ Holds r (now (t .exit)) ⌝ }
+    ensures { λ r. ⌜ Holds r (final t) ⌝ }
 {
     let r = m.remove(t, 7);
     show(r, t);
@@ -108,7 +109,7 @@ fn removed(m: ScopeMap, t: &mut [u32; 13312]) -> ScopeMap
 
 fn popped(m: ScopeMap, t: &mut [u32; 13312]) -> ScopeMap
     requires { ⌜ Holds m (now t) ⌝ }
-    ensures { λ r. ⌜ Holds r (now (t .exit)) ⌝ }
+    ensures { λ r. ⌜ Holds r (final t) ⌝ }
 {
     let r = m.pop_layer(t);
     show(r, t);

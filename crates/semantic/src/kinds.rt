@@ -15,6 +15,7 @@ use crate::rows::row_at;
 ghost use mathlib.Core.Path.{_≡_};
 ghost use Prim.Native.Nat.{_+_, _*_, _≤_};
 ghost use lib.ListN.{length, getD};
+ghost use Rattle.table.specs.EntryExit.{old};
 ghost use Rattle.semantic.specs.Rows.{Blank, rowWidth, putRow};
 ghost use Rattle.semantic.specs.Kinds.{rowKind, isBlank, isIdentifier, refersIn, functionIn, letIn, functionFound, letFound};
 ghost use Rattle.semantic.specs.Leaves.{Tells};
@@ -22,7 +23,7 @@ ghost use Rattle.semantic.specs.Leaves.{Tells};
 // Whether the row holds no fact.
 pub fn is_blank(facts: &[u32], at: usize) -> bool
     requires { ⌜ rowWidth * at + rowWidth ≤ length (now facts) ⌝ }
-    ensures { λ r. ⌜ Tells putRow Blank isBlank (now (facts .entry)) at r ⌝ }
+    ensures { λ r. ⌜ Tells putRow Blank isBlank (old facts) at r ⌝ }
 {
     facts[ROW * at] == fields::BLANK
 }
@@ -30,7 +31,7 @@ pub fn is_blank(facts: &[u32], at: usize) -> bool
 // Whether the row holds the fact of an identifier.
 pub fn is_variable(facts: &[u32], at: usize) -> bool
     requires { ⌜ rowWidth * at + rowWidth ≤ length (now facts) ⌝ }
-    ensures { λ r. ⌜ r ≡ isIdentifier (getD (now (facts .entry)) (rowWidth * at) 0) ⌝ }
+    ensures { λ r. ⌜ r ≡ isIdentifier (getD (old facts) (rowWidth * at) 0) ⌝ }
 {
     let first = facts[ROW * at];
     if first == fields::BLANK {
@@ -41,7 +42,7 @@ pub fn is_variable(facts: &[u32], at: usize) -> bool
 
 pub fn row_kind(facts: &[u32], at: usize) -> RowKind
     requires { ⌜ rowWidth * at + rowWidth ≤ length (now facts) ⌝ }
-    ensures { λ r. ⌜ Tells putRow Blank rowKind (now (facts .entry)) at r ⌝ }
+    ensures { λ r. ⌜ Tells putRow Blank rowKind (old facts) at r ⌝ }
 {
     let first = facts[ROW * at];
     match first {
@@ -56,7 +57,7 @@ pub fn row_kind(facts: &[u32], at: usize) -> RowKind
 // The id that the fact of an identifier refers to, or none.
 pub fn refers_at(facts: &[u32], at: usize) -> u32
     requires { ⌜ rowWidth * at + rowWidth ≤ length (now facts) ⌝ }
-    ensures { λ r. ⌜ Tells putRow Blank refersIn (now (facts .entry)) at r ⌝ }
+    ensures { λ r. ⌜ Tells putRow Blank refersIn (old facts) at r ⌝ }
 {
     if is_variable(facts, at) {
         return facts[ROW * at + variable::REFERS_TO];
@@ -67,7 +68,7 @@ pub fn refers_at(facts: &[u32], at: usize) -> u32
 // The fact of a lambda, if the row holds one.
 pub fn function_at(facts: &[u32], at: usize) -> FoundFunction
     requires { ⌜ rowWidth * at + rowWidth ≤ length (now facts) ⌝ }
-    ensures { λ r. ⌜ Tells putRow Blank functionIn (now (facts .entry)) at (functionFound r) ⌝ }
+    ensures { λ r. ⌜ Tells putRow Blank functionIn (old facts) at (functionFound r) ⌝ }
 {
     if facts[ROW * at] != fields::FUNCTION {
         return FoundFunction::Nothing;
@@ -91,7 +92,7 @@ pub fn function_at(facts: &[u32], at: usize) -> FoundFunction
 // The fact of a let, if the row holds one.
 pub fn let_at(facts: &[u32], at: usize) -> FoundLet
     requires { ⌜ rowWidth * at + rowWidth ≤ length (now facts) ⌝ }
-    ensures { λ r. ⌜ Tells putRow Blank letIn (now (facts .entry)) at (letFound r) ⌝ }
+    ensures { λ r. ⌜ Tells putRow Blank letIn (old facts) at (letFound r) ⌝ }
 {
     if facts[ROW * at] != fields::LET {
         return FoundLet::Nothing;

@@ -6,6 +6,7 @@ ghost use mathlib.Core.Path.{_≡_};
 ghost use mathlib.Core.Bool.{_&&_};
 ghost use Prim.Native.Nat.{_+_, _*_, _≤_};
 ghost use lib.ListN.{length};
+ghost use Rattle.table.specs.EntryExit.{old, final};
 ghost use Rattle.semantic.specs.Rows.{marks, noListEntry, listEntryWidth, putListEntry};
 ghost use Rattle.semantic.specs.ListEntries.{onInfo, withCaptureOffsets, withHeapOffsets};
 ghost use Rattle.semantic.specs.Leaves.{Amends, Tells, StoresListEntry};
@@ -19,7 +20,7 @@ fn marks(captured: bool, escapes: bool, enclosing: bool, mutated: bool) -> u32
 
 pub fn store_list_entry(t: &mut [u32], i: usize, name: u32, info: ScopeInfo)
     requires { ⌜ listEntryWidth * i + listEntryWidth ≤ length (now t) ⌝ }
-    ensures { λ _. ⌜ StoresListEntry (now (t .entry)) i name info (now (t .exit)) ⌝ }
+    ensures { λ _. ⌜ StoresListEntry (old t) i name info (final t) ⌝ }
 {
     let row = [
         name,
@@ -46,7 +47,7 @@ pub fn store_list_entry(t: &mut [u32], i: usize, name: u32, info: ScopeInfo)
 
 pub fn load_info(t: &[u32], i: usize) -> ScopeInfo
     requires { ⌜ listEntryWidth * i + listEntryWidth ≤ length (now t) ⌝ }
-    ensures { λ r. ⌜ Tells putListEntry noListEntry (λ x. x .info) (now (t .entry)) i r ⌝ }
+    ensures { λ r. ⌜ Tells putListEntry noListEntry (λ x. x .info) (old t) i r ⌝ }
 {
     let mut row = [0; LIST_ENTRY];
     table::get(t, LIST_ENTRY * i, &mut row);
@@ -72,7 +73,7 @@ pub fn load_info(t: &[u32], i: usize) -> ScopeInfo
 
 pub fn name_at(t: &[u32], i: usize) -> u32
     requires { ⌜ listEntryWidth * i + listEntryWidth ≤ length (now t) ⌝ }
-    ensures { λ r. ⌜ Tells putListEntry noListEntry (λ x. x .binder .name) (now (t .entry)) i r ⌝ }
+    ensures { λ r. ⌜ Tells putListEntry noListEntry (λ x. x .binder .name) (old t) i r ⌝ }
 {
     t[LIST_ENTRY * i]
 }
@@ -80,7 +81,7 @@ pub fn name_at(t: &[u32], i: usize) -> u32
 // Whether the entry is captured and mutated.
 pub fn is_heap(t: &[u32], i: usize) -> bool
     requires { ⌜ listEntryWidth * i + listEntryWidth ≤ length (now t) ⌝ }
-    ensures { λ r. ⌜ Tells putListEntry noListEntry (λ x. x .info .captured && x .info .mutated) (now (t .entry)) i r ⌝ }
+    ensures { λ r. ⌜ Tells putListEntry noListEntry (λ x. x .info .captured && x .info .mutated) (old t) i r ⌝ }
 {
     let marks = t[LIST_ENTRY * i + list_entry::MARKS];
     marks % 2 == 1 && marks / 8 % 2 == 1
@@ -88,7 +89,7 @@ pub fn is_heap(t: &[u32], i: usize) -> bool
 
 pub fn with_capture_offsets(t: &mut [u32], i: usize, offset: u32, read: u32)
     requires { ⌜ listEntryWidth * i + listEntryWidth ≤ length (now t) ⌝ }
-    ensures { λ _. ⌜ Amends putListEntry noListEntry (onInfo (withCaptureOffsets offset read)) (now (t .entry)) i (now (t .exit)) ⌝ }
+    ensures { λ _. ⌜ Amends putListEntry noListEntry (onInfo (withCaptureOffsets offset read)) (old t) i (final t) ⌝ }
 {
     let b = LIST_ENTRY * i;
     t[b + list_entry::CAPTURE_OFFSET] = offset;
@@ -97,7 +98,7 @@ pub fn with_capture_offsets(t: &mut [u32], i: usize, offset: u32, read: u32)
 
 pub fn with_heap_offsets(t: &mut [u32], i: usize, heap: u32, read: u32, parent: u32, local: u32)
     requires { ⌜ listEntryWidth * i + listEntryWidth ≤ length (now t) ⌝ }
-    ensures { λ _. ⌜ Amends putListEntry noListEntry (onInfo (withHeapOffsets heap read parent local)) (now (t .entry)) i (now (t .exit)) ⌝ }
+    ensures { λ _. ⌜ Amends putListEntry noListEntry (onInfo (withHeapOffsets heap read parent local)) (old t) i (final t) ⌝ }
 {
     let b = LIST_ENTRY * i;
     t[b + list_entry::HEAP_OFFSET] = heap;

@@ -10,12 +10,13 @@ use crate::numbers::kind_number;
 use crate::numbers::self_number;
 ghost use Prim.Native.Nat.{_+_, _*_, _≤_};
 ghost use lib.ListN.{length};
+ghost use Rattle.table.specs.EntryExit.{old, final};
 ghost use Rattle.semantic.specs.Rows.{Blank, Variable, Function, CallSite, Let, rowWidth, putRow};
 ghost use Rattle.semantic.specs.Leaves.{Stores, Tells, StoresFilled};
 
 pub fn row_at(facts: &[u32], at: usize) -> [u32; ROW]
     requires { ⌜ rowWidth * at + rowWidth ≤ length (now facts) ⌝ }
-    ensures { λ r. ⌜ Tells putRow Blank putRow (now (facts .entry)) at r ⌝ }
+    ensures { λ r. ⌜ Tells putRow Blank putRow (old facts) at r ⌝ }
 {
     let mut row = [0; ROW];
     table::get(facts, ROW * at, &mut row);
@@ -25,7 +26,7 @@ pub fn row_at(facts: &[u32], at: usize) -> [u32; ROW]
 // The row starts with these numbers; the rest is 0.
 fn put_row(facts: &mut [u32], at: usize, start: &[u32])
     requires { ⌜ (rowWidth * at + rowWidth ≤ length (now facts)) × (length (now start) ≤ rowWidth) ⌝ }
-    ensures { λ _. ⌜ StoresFilled (now (facts .entry)) at (now (start .entry)) (now (facts .exit)) ⌝ }
+    ensures { λ _. ⌜ StoresFilled (old facts) at (old start) (final facts) ⌝ }
 {
     let mut row = [0; ROW];
     table::put(&mut row, 0, start);
@@ -34,7 +35,7 @@ fn put_row(facts: &mut [u32], at: usize, start: &[u32])
 
 pub fn store_information(facts: &mut [u32], at: usize, i: SemanticInformation)
     requires { ⌜ rowWidth * at + rowWidth ≤ length (now facts) ⌝ }
-    ensures { λ _. ⌜ Stores putRow (now (facts .entry)) at (Variable i) (now (facts .exit)) ⌝ }
+    ensures { λ _. ⌜ Stores putRow (old facts) at (Variable i) (final facts) ⌝ }
 {
     let kind = i.kind;
     let row = [
@@ -64,7 +65,7 @@ pub fn store_information(facts: &mut [u32], at: usize, i: SemanticInformation)
 
 pub fn store_function(facts: &mut [u32], at: usize, i: FunctionInformation)
     requires { ⌜ rowWidth * at + rowWidth ≤ length (now facts) ⌝ }
-    ensures { λ _. ⌜ Stores putRow (now (facts .entry)) at (Function i) (now (facts .exit)) ⌝ }
+    ensures { λ _. ⌜ Stores putRow (old facts) at (Function i) (final facts) ⌝ }
 {
     let start = [
         fields::FUNCTION,
@@ -81,7 +82,7 @@ pub fn store_function(facts: &mut [u32], at: usize, i: FunctionInformation)
 
 pub fn store_let(facts: &mut [u32], at: usize, i: LetInformation)
     requires { ⌜ rowWidth * at + rowWidth ≤ length (now facts) ⌝ }
-    ensures { λ _. ⌜ Stores putRow (now (facts .entry)) at (Let i) (now (facts .exit)) ⌝ }
+    ensures { λ _. ⌜ Stores putRow (old facts) at (Let i) (final facts) ⌝ }
 {
     let start = [
         fields::LET,
@@ -95,7 +96,7 @@ pub fn store_let(facts: &mut [u32], at: usize, i: LetInformation)
 
 pub fn store_call_site(facts: &mut [u32], at: usize, i: CallSiteInformation)
     requires { ⌜ rowWidth * at + rowWidth ≤ length (now facts) ⌝ }
-    ensures { λ _. ⌜ Stores putRow (now (facts .entry)) at (CallSite i) (now (facts .exit)) ⌝ }
+    ensures { λ _. ⌜ Stores putRow (old facts) at (CallSite i) (final facts) ⌝ }
 {
     let kind = i.kind;
     let start = [

@@ -26,6 +26,7 @@ use walk::uses::Names;
 ghost use mathlib.Core.Path.{_≡_};
 ghost use Prim.Native.Nat.{_<_};
 ghost use lib.ListN.{length};
+ghost use Rattle.table.specs.EntryExit.{old, final};
 ghost use Rattle.pass.specs.Run.{rowsMost, factsLength};
 ghost use Rattle.work.specs.Passes.{inContext};
 ghost use Rattle.names.specs.Contract.{Room, Defined, EntersValue, Settable, Mutates};
@@ -47,7 +48,8 @@ pub fn visit_atom(
     work: &mut [u32],
 )
     requires { ⌜ AtomFits (length (now classes)) (now all) form at (passIn (now r)) (now facts) (now captured) (now work) ⌝ }
-    ensures { λ _. ⌜ VisitsAtom (now (classes .entry)) (now (all .entry)) at (passIn (now (r .entry))) (now (facts .entry)) (now (captured .entry)) (now (work .entry)) (passIn (now (r .exit))) (now (facts .exit)) (now (work .exit)) ⌝ }
+    ensures { λ _. ⌜ VisitsAtom (old classes) (old all) at (passIn (old r)) (old facts) (old captured) (old work)
+        (passIn (final r)) (final facts) (final work) ⌝ }
 {
     if form != tree::form::IDENTIFIER {
         return;
@@ -58,19 +60,19 @@ pub fn visit_atom(
 }
 
 pub fn context(r: &[usize; REGISTERS]) -> u32
-    ensures { λ x. ⌜ x ≡ passIn (now (r .entry)) .context ⌝ }
+    ensures { λ x. ⌜ x ≡ passIn (old r) .context ⌝ }
 {
     narrow(r[CONTEXT])
 }
 
 pub fn depth(r: &[usize; REGISTERS]) -> u32
-    ensures { λ x. ⌜ x ≡ passIn (now (r .entry)) .scope .depth ⌝ }
+    ensures { λ x. ⌜ x ≡ passIn (old r) .scope .depth ⌝ }
 {
     narrow(r[SCOPE_DEPTH])
 }
 
 pub fn set_context(r: &mut [usize; REGISTERS], context: u32)
-    ensures { λ _. ⌜ passIn (now (r .exit)) ≡ inContext context (passIn (now (r .entry))) ⌝ }
+    ensures { λ _. ⌜ passIn (final r) ≡ inContext context (passIn (old r)) ⌝ }
 {
     put(r, CONTEXT, wide(context));
 }
@@ -88,7 +90,8 @@ pub fn open_let(
     work: &mut [u32],
 )
     requires { ⌜ LetFits (now all) at names height f (passIn (now r)) (now facts) (now captured) (now arguments) (now work) ⌝ }
-    ensures { λ _. ⌜ OpensLet (now (all .entry)) at names height f (passIn (now (r .entry))) (now (facts .entry)) (now (captured .entry)) (now (arguments .entry)) (now (work .entry)) (passIn (now (r .exit))) (now (facts .exit)) (now (work .exit)) ⌝ }
+    ensures { λ _. ⌜ OpensLet (old all) at names height f (passIn (old r)) (old facts) (old captured) (old arguments) (old work)
+        (passIn (final r)) (final facts) (final work) ⌝ }
 {
     let p = load(r);
     let q = forms::lets::open_let(
@@ -121,7 +124,8 @@ pub fn close_let(
     work: &mut [u32],
 )
     requires { ⌜ LetEnds (now all) at names f (passIn (now r)) (now facts) (now arguments) (now work) ⌝ }
-    ensures { λ _. ⌜ ClosesLet (now (all .entry)) opened at names height f (passIn (now (r .entry))) (now (facts .entry)) (now (arguments .entry)) (now (work .entry)) (passIn (now (r .exit))) (now (facts .exit)) (now (arguments .exit)) (now (work .exit)) ⌝ }
+    ensures { λ _. ⌜ ClosesLet (old all) opened at names height f (passIn (old r)) (old facts) (old arguments) (old work)
+        (passIn (final r)) (final facts) (final arguments) (final work) ⌝ }
 {
     let p = load(r);
     let q = forms::lets::close_let(all, opened, at, names, height, f, p, facts, arguments, work);
@@ -139,7 +143,8 @@ pub fn open_define(
     work: &mut [u32],
 )
     requires { ⌜ DefineFits (now all) at (passIn (now r)) (now facts) (now work) ⌝ }
-    ensures { λ _. ⌜ OpensDefine (now (all .entry)) at direct b (passIn (now (r .entry))) (now (facts .entry)) (now (work .entry)) (passIn (now (r .exit))) (now (facts .exit)) (now (work .exit)) ⌝ }
+    ensures { λ _. ⌜ OpensDefine (old all) at direct b (passIn (old r)) (old facts) (old work)
+        (passIn (final r)) (final facts) (final work) ⌝ }
 {
     let p = load(r);
     let d = forms::defines::open_define(all, at, direct, b, p, facts, work);
@@ -158,7 +163,8 @@ pub fn close_define(
     work: &mut [u32],
 )
     requires { ⌜ DefineFits (now all) at (passIn (now r)) (now facts) (now work) ⌝ }
-    ensures { λ _. ⌜ ClosesDefine (now (all .entry)) at direct context b (passIn (now (r .entry))) (now (facts .entry)) (now (work .entry)) (passIn (now (r .exit))) (now (facts .exit)) (now (work .exit)) ⌝ }
+    ensures { λ _. ⌜ ClosesDefine (old all) at direct context b (passIn (old r)) (old facts) (old work)
+        (passIn (final r)) (final facts) (final work) ⌝ }
 {
     let p = load(r);
     let d = forms::defines::close_define(all, at, direct, context, b, p, facts, work);
@@ -177,7 +183,8 @@ pub fn open_lambda(
     work: &mut [u32],
 )
     requires { ⌜ LambdaFits (now all) at names (passIn (now r)) (now facts) (now captured) (now arguments) (now work) ⌝ }
-    ensures { λ _. ⌜ OpensLambda (now (all .entry)) at names (passIn (now (r .entry))) (now (facts .entry)) (now (captured .entry)) (now (arguments .entry)) (now (work .entry)) (passIn (now (r .exit))) (now (facts .exit)) (now (captured .exit)) (now (work .exit)) ⌝ }
+    ensures { λ _. ⌜ OpensLambda (old all) at names (passIn (old r)) (old facts) (old captured) (old arguments) (old work)
+        (passIn (final r)) (final facts) (final captured) (final work) ⌝ }
 {
     let p = load(r);
     let q = forms::lambda::open_lambda(all, at, names, p, facts, captured, arguments, work);
@@ -200,7 +207,8 @@ pub fn close_lambda(
     work: &mut [u32],
 )
     requires { ⌜ LambdaEnds (now all) at d (passIn (now r)) (now facts) (now captured) (now arguments) (now work) ⌝ }
-    ensures { λ _. ⌜ ClosesLambda (now (all .entry)) at d escapes (passIn (now (r .entry))) (now (facts .entry)) (now (captured .entry)) (now (arguments .entry)) (now (work .entry)) (passIn (now (r .exit))) (now (facts .exit)) (now (captured .exit)) (now (arguments .exit)) (now (work .exit)) ⌝ }
+    ensures { λ _. ⌜ ClosesLambda (old all) at d escapes (passIn (old r)) (old facts) (old captured) (old arguments) (old work)
+        (passIn (final r)) (final facts) (final captured) (final arguments) (final work) ⌝ }
 {
     let p = load(r);
     let q = forms::lambda::close_lambda(all, at, d, escapes, p, facts, captured, arguments, work);
@@ -223,7 +231,8 @@ pub fn enter_defines(
     work: &mut [u32],
 )
     requires { ⌜ ChildrenFit (length (now classes)) (now all) first k (passIn (now r)) (now facts) (now work) ⌝ }
-    ensures { λ _. ⌜ EntersChildren (now (classes .entry)) (now (all .entry)) first k kind (passIn (now (r .entry))) (now (facts .entry)) (now (work .entry)) (passIn (now (r .exit))) (now (facts .exit)) (now (work .exit)) ⌝ }
+    ensures { λ _. ⌜ EntersChildren (old classes) (old all) first k kind (passIn (old r)) (old facts) (old work)
+        (passIn (final r)) (final facts) (final work) ⌝ }
 {
     let p = load(r);
     let e = enter_children(classes, all, first, k, kind, p, facts, work);
@@ -242,7 +251,7 @@ pub fn close_call(
     work: &[u32],
 )
     requires { ⌜ CallFits (now all) at first k (passIn (now r)) (now facts) (now work) ⌝ }
-    ensures { λ _. ⌜ ClosesCall (now (all .entry)) at first k tail counter (passIn (now (r .entry))) (now (facts .entry)) (now (work .entry)) (now (facts .exit)) ⌝ }
+    ensures { λ _. ⌜ ClosesCall (old all) at first k tail counter (passIn (old r)) (old facts) (old work) (final facts) ⌝ }
 {
     let p = load(r);
     forms::calls::close_call(all, at, first, k, tail, counter, p, facts, work);
@@ -250,7 +259,7 @@ pub fn close_call(
 
 pub fn open_set(at: usize, r: &mut [usize; REGISTERS], facts: &[u32])
     requires { ⌜ (at < rowsMost) × (length (now facts) ≡ factsLength) ⌝ }
-    ensures { λ _. ⌜ ClearsContext at (passIn (now (r .entry))) (now (facts .entry)) (passIn (now (r .exit))) ⌝ }
+    ensures { λ _. ⌜ ClearsContext at (passIn (old r)) (old facts) (passIn (final r)) ⌝ }
 {
     let p = load(r);
     let context = clear_context(at, p, facts);
@@ -259,7 +268,7 @@ pub fn open_set(at: usize, r: &mut [usize; REGISTERS], facts: &[u32])
 
 pub fn close_set(name: u32, r: &[usize; REGISTERS], facts: &mut [u32], work: &mut [u32])
     requires { ⌜ Settable (passIn (now r)) (now facts) (now work) ⌝ }
-    ensures { λ _. ⌜ Mutates name (passIn (now (r .entry))) (now (facts .entry)) (now (work .entry)) (now (facts .exit)) (now (work .exit)) ⌝ }
+    ensures { λ _. ⌜ Mutates name (passIn (old r)) (old facts) (old work) (final facts) (final work) ⌝ }
 {
     let p = load(r);
     mutate(name, p, facts, work);
@@ -274,7 +283,7 @@ pub fn enter_top_level_value(
     work: &mut [u32],
 )
     requires { ⌜ Room (passIn (now r)) × Defined (now all) at (passIn (now r)) (now facts) (now work) ⌝ }
-    ensures { λ _. ⌜ EntersValue b (now (all .entry)) at (passIn (now (r .entry))) (now (facts .entry)) (now (work .entry)) (passIn (now (r .exit))) (now (facts .exit)) (now (work .exit)) ⌝ }
+    ensures { λ _. ⌜ EntersValue b (old all) at (passIn (old r)) (old facts) (old work) (passIn (final r)) (final facts) (final work) ⌝ }
 {
     let p = load(r);
     let e = names::define::enter_top_level_value(all, at, b, p, facts, work);

@@ -7,6 +7,7 @@ use work::Second;
 ghost use mathlib.Core.Path.{_≡_};
 ghost use Prim.Native.Nat.{_+_, _<_};
 ghost use lib.ListN.{length, set};
+ghost use Rattle.table.specs.EntryExit.{old, final};
 ghost use Rattle.work.specs.Passes.{inScope, inCaptures, withSecond};
 ghost use Rattle.names.specs.Contract.{withName};
 ghost use Rattle.steps.specs.Registers.{registersLength, narrowOf, Narrow, passIn};
@@ -50,7 +51,7 @@ pub fn wide(x: u32) -> usize
 }
 
 pub fn load(r: &[usize; REGISTERS]) -> Pass
-    ensures { λ p. ⌜ p ≡ passIn (now (r .entry)) ⌝ }
+    ensures { λ p. ⌜ p ≡ passIn (old r) ⌝ }
 {
     Pass {
         context: narrow(r[CONTEXT]),
@@ -74,7 +75,7 @@ pub fn load(r: &[usize; REGISTERS]) -> Pass
 }
 
 pub fn store(r: &mut [usize; REGISTERS], p: Pass)
-    ensures { λ _. ⌜ passIn (now (r .exit)) ≡ p ⌝ }
+    ensures { λ _. ⌜ passIn (final r) ≡ p ⌝ }
 {
     *r = [
         wide(p.context),
@@ -95,7 +96,7 @@ pub fn store(r: &mut [usize; REGISTERS], p: Pass)
 
 pub fn put(r: &mut [usize], i: usize, x: usize)
     requires { ⌜ i < length (now r) ⌝ }
-    ensures { λ _. ⌜ now (r .exit) ≡ set (now (r .entry)) i x ⌝ }
+    ensures { λ _. ⌜ final r ≡ set (old r) i x ⌝ }
 {
     r[i] = x;
 }
@@ -103,7 +104,7 @@ pub fn put(r: &mut [usize], i: usize, x: usize)
 // A number that is 32 bits wide in the pass, and the one after it.
 pub fn put_pair(r: &mut [usize], i: usize, x: u32, y: usize)
     requires { ⌜ i + 1 < length (now r) ⌝ }
-    ensures { λ _. ⌜ (now (r .exit) ≡ set (set (now (r .entry)) i x) (i + 1) y) × Narrow x ⌝ }
+    ensures { λ _. ⌜ (final r ≡ set (set (old r) i x) (i + 1) y) × Narrow x ⌝ }
 {
     put(r, i, wide(x));
     put(r, i + 1, y);
@@ -111,28 +112,28 @@ pub fn put_pair(r: &mut [usize], i: usize, x: u32, y: usize)
 
 pub fn put_scope(r: &mut [usize], m: ScopeMap)
     requires { ⌜ length (now r) ≡ registersLength ⌝ }
-    ensures { λ _. ⌜ passIn (now (r .exit)) ≡ inScope m (passIn (now (r .entry))) ⌝ }
+    ensures { λ _. ⌜ passIn (final r) ≡ inScope m (passIn (old r)) ⌝ }
 {
     put_pair(r, SCOPE_DEPTH, m.depth, m.length);
 }
 
 pub fn put_captures(r: &mut [usize], m: ScopeMap)
     requires { ⌜ length (now r) ≡ registersLength ⌝ }
-    ensures { λ _. ⌜ passIn (now (r .exit)) ≡ inCaptures m (passIn (now (r .entry))) ⌝ }
+    ensures { λ _. ⌜ passIn (final r) ≡ inCaptures m (passIn (old r)) ⌝ }
 {
     put_pair(r, CAPTURES_DEPTH, m.depth, m.length);
 }
 
 pub fn put_second(r: &mut [usize], s: Second)
     requires { ⌜ length (now r) ≡ registersLength ⌝ }
-    ensures { λ _. ⌜ passIn (now (r .exit)) ≡ withSecond s (passIn (now (r .entry))) ⌝ }
+    ensures { λ _. ⌜ passIn (final r) ≡ withSecond s (passIn (old r)) ⌝ }
 {
     put_pair(r, SECOND_NUMBER, s.number, s.at);
 }
 
 pub fn put_name(r: &mut [usize], e: EnteredName)
     requires { ⌜ length (now r) ≡ registersLength ⌝ }
-    ensures { λ _. ⌜ passIn (now (r .exit)) ≡ withName e (passIn (now (r .entry))) ⌝ }
+    ensures { λ _. ⌜ passIn (final r) ≡ withName e (passIn (old r)) ⌝ }
 {
     put(r, SCOPE_LENGTH, e.length);
     put(r, NINE, e.nine.code);

@@ -1,3 +1,4 @@
+pub mod EntryExit
 pub mod Layout
 pub mod Leaves
 pub mod Part

@@ -22,6 +22,7 @@ use work::Pass;
 ghost use mathlib.Core.Path.{_≡_};
 ghost use Prim.Native.Nat.{_-_, _<_};
 ghost use lib.ListN.{length, getD};
+ghost use Rattle.table.specs.EntryExit.{old, final};
 ghost use Rattle.tree.specs.Starts.{TellsStarts};
 ghost use Rattle.work.specs.Tied.{raw};
 ghost use Rattle.forms.specs.Contract.{DefineFits};
@@ -75,7 +76,7 @@ fn enter_top(
 // The record at which tree i starts.
 fn start(tops: &[u16], i: usize) -> usize
     requires { ⌜ i < length (now tops) ⌝ }
-    ensures { λ r. ⌜ r ≡ getD (now (tops .entry)) i 0 ⌝ }
+    ensures { λ r. ⌜ r ≡ getD (old tops) i 0 ⌝ }
 {
     index(tops[i])
 }
@@ -121,7 +122,7 @@ fn before_top_define(
 }
 
 fn after_top_define(lambda: bool, r: &mut [usize; REGISTERS])
-    ensures { λ _. ⌜ passIn (now (r .exit)) ≡ leavesTop lambda (passIn (now (r .entry))) ⌝ }
+    ensures { λ _. ⌜ passIn (final r) ≡ leavesTop lambda (passIn (old r)) ⌝ }
 {
     if lambda {
         set_context(r, NONE);
@@ -322,7 +323,8 @@ pub fn run_with_scope(
 ) -> Pass
     requires { ⌜ TellsStarts (length (now classes)) (now all) (now tops) ⌝ }
     requires { ⌜ Ready (now classes) (now all) (raw p (now facts) (now captured) (now arguments) (now work)) ⌝ }
-    ensures { λ r. ⌜ Runs (now (classes .entry)) (now (all .entry)) (raw p (now (facts .entry)) (now (captured .entry)) (now (arguments .entry)) (now (work .entry))) (raw r (now (facts .exit)) (now (captured .exit)) (now (arguments .exit)) (now (work .exit))) ⌝ }
+    ensures { λ r. ⌜ Runs (old classes) (old all) (raw p (old facts) (old captured) (old arguments) (old work))
+        (raw r (final facts) (final captured) (final arguments) (final work)) ⌝ }
 {
     let mut r = [0; REGISTERS];
     store(&mut r, p);

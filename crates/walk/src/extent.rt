@@ -1,11 +1,12 @@
 // How many records a tree has.
 ghost use mathlib.Core.List.{List};
 ghost use Prim.Native.Nat.{ℕ};
+ghost use Rattle.table.specs.EntryExit.{old};
 ghost use Rattle.walk.specs.Contract.{SomeTree, Extends, StepsOver};
 
 pub fn extent_at(all: &[u32], at: usize) -> usize
     requires { ⌜ SomeTree (now all) at ⌝ }
-    ensures { λ r. ⌜ Extends (now (all .entry)) at r ⌝ }
+    ensures { λ r. ⌜ Extends (old all) at r ⌝ }
 {
     let mut open = 1;
     let mut i = at;
@@ -19,7 +20,7 @@ pub fn extent_at(all: &[u32], at: usize) -> usize
 // How far on the next tree starts, where so many are to come. Where none is, no record of this one is passed (docs/SPEED.md, 47).
 pub fn step_over(all: &[u32], at: usize, left: usize) -> usize
     requires { ⌜ SomeTree (now all) at ⌝ }
-    ensures { λ r. ⌜ StepsOver (now (all .entry)) at left r ⌝ }
+    ensures { λ r. ⌜ StepsOver (old all) at left r ⌝ }
 {
     if left == 0 {
         return 0;

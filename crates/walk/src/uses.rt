@@ -7,6 +7,7 @@ ghost use mathlib.Core.Path.{_≡_};
 ghost use mathlib.Core.List.{List};
 ghost use Prim.Native.Nat.{ℕ, _<_};
 ghost use lib.ListN.{length};
+ghost use Rattle.table.specs.EntryExit.{old, final};
 ghost use Rattle.tree.specs.Record.{records, nth};
 ghost use Rattle.walk.specs.Bound.{isNamed, boundBy};
 ghost use Rattle.walk.specs.Contract.{SomeBody, UsesName, HoldsLambda, SomeNames, HoldsName};
@@ -21,7 +22,7 @@ pub struct Names {
 // Whether one of the names is x.
 pub fn holds(all: &[u32], names: Names, x: u32) -> bool
     requires { ⌜ SomeNames (now all) names ⌝ }
-    ensures { λ r. ⌜ HoldsName (now (all .entry)) names x r ⌝ }
+    ensures { λ r. ⌜ HoldsName (old all) names x r ⌝ }
 {
     let first = names.first;
     let mut i = 0;
@@ -37,7 +38,7 @@ pub fn holds(all: &[u32], names: Names, x: u32) -> bool
 // Whether the record is an identifier of the name.
 fn is_named(all: &[u32], i: usize, name: u32) -> bool
     requires { ⌜ i < length (records (now all)) ⌝ }
-    ensures { λ r. ⌜ r ≡ isNamed name (nth (now (all .entry)) i) ⌝ }
+    ensures { λ r. ⌜ r ≡ isNamed name (nth (old all) i) ⌝ }
 {
     tree::record::form(all, i) == IDENTIFIER && name == tree::record::name(all, i)
 }
@@ -45,7 +46,7 @@ fn is_named(all: &[u32], i: usize, name: u32) -> bool
 // How many names the record binds, which stand right after it.
 fn bound(all: &[u32], i: usize) -> usize
     requires { ⌜ i < length (records (now all)) ⌝ }
-    ensures { λ r. ⌜ r ≡ boundBy (nth (now (all .entry)) i) ⌝ }
+    ensures { λ r. ⌜ r ≡ boundBy (nth (old all) i) ⌝ }
 {
     let form = tree::record::form(all, i);
     if form == SET {
@@ -58,7 +59,7 @@ fn bound(all: &[u32], i: usize) -> usize
 // target of a set! is a use.
 pub fn uses_name(all: &[u32], first: usize, end: usize, name: u32) -> bool
     requires { ⌜ SomeBody (now all) first end ⌝ }
-    ensures { λ r. ⌜ UsesName (now (all .entry)) first end name r ⌝ }
+    ensures { λ r. ⌜ UsesName (old all) first end name r ⌝ }
 {
     let mut due = 0;
     let mut i = first;
@@ -78,7 +79,7 @@ pub fn uses_name(all: &[u32], first: usize, end: usize, name: u32) -> bool
 
 // Marks a name, if `marks` has it.
 pub fn mark(marks: &mut [u8], x: usize)
-    ensures { λ _. ⌜ MarksName (now (marks .entry)) x (now (marks .exit)) ⌝ }
+    ensures { λ _. ⌜ MarksName (old marks) x (final marks) ⌝ }
 {
     if marks.len() <= x {
         return;
@@ -89,7 +90,7 @@ pub fn mark(marks: &mut [u8], x: usize)
 // Marks the record's name, if the record is an identifier.
 fn mark_named(all: &[u32], i: usize, marks: &mut [u8])
     requires { ⌜ i < length (records (now all)) ⌝ }
-    ensures { λ _. ⌜ MarksNamed (nth (now (all .entry)) i) (now (marks .entry)) (now (marks .exit)) ⌝ }
+    ensures { λ _. ⌜ MarksNamed (nth (old all) i) (old marks) (final marks) ⌝ }
 {
     if tree::record::form(all, i) != IDENTIFIER {
         return;
@@ -100,7 +101,7 @@ fn mark_named(all: &[u32], i: usize, marks: &mut [u8])
 // Passes record i, with so many names due; answers how many then are.
 fn mark_record(all: &[u32], i: usize, due: usize, marks: &mut [u8]) -> usize
     requires { ⌜ i < length (records (now all)) ⌝ }
-    ensures { λ n. ⌜ MarksRecord (nth (now (all .entry)) i) due (now (marks .entry)) n (now (marks .exit)) ⌝ }
+    ensures { λ n. ⌜ MarksRecord (nth (old all) i) due (old marks) n (final marks) ⌝ }
 {
     if 0 < due {
         return due - 1;
@@ -112,7 +113,7 @@ fn mark_record(all: &[u32], i: usize, due: usize, marks: &mut [u8]) -> usize
 // Marks every name that `uses_name` finds there.
 pub fn mark_uses(all: &[u32], first: usize, end: usize, marks: &mut [u8])
     requires { ⌜ SomeBody (now all) first end × Unmarked (now marks) ⌝ }
-    ensures { λ _. ⌜ MarksUses (now (all .entry)) first end (now (marks .exit)) ⌝ }
+    ensures { λ _. ⌜ MarksUses (old all) first end (final marks) ⌝ }
 {
     let mut due = 0;
     let mut i = first;
@@ -124,7 +125,7 @@ pub fn mark_uses(all: &[u32], first: usize, end: usize, marks: &mut [u8])
 
 pub fn holds_lambda(all: &[u32], first: usize, end: usize) -> bool
     requires { ⌜ SomeBody (now all) first end ⌝ }
-    ensures { λ r. ⌜ HoldsLambda (now (all .entry)) first end r ⌝ }
+    ensures { λ r. ⌜ HoldsLambda (old all) first end r ⌝ }
 {
     let mut i = first;
     while i < end {

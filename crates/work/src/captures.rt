@@ -11,6 +11,7 @@ ghost use mathlib.Core.Path.{_≡_};
 ghost use mathlib.Core.List.{List};
 ghost use Prim.Native.Nat.{ℕ, _+_, _*_, _≤_, _<_};
 ghost use lib.ListN.{length, getD};
+ghost use Rattle.table.specs.EntryExit.{old, final};
 ghost use Rattle.table.specs.Region.{region};
 ghost use Rattle.scope_map.specs.Hints.{rowsLength};
 ghost use Rattle.scope_map.specs.Held.{Places};
@@ -39,7 +40,7 @@ pub struct Capture {
 // The newest capture of the name: its place, its layer, and its row of the captured entries.
 pub fn newest_capture(p: Pass, work: &[u32], name: u32) -> Found
     requires { ⌜ Spacious p (now work) ⌝ }
-    ensures { λ r. ⌜ GetsCapture p (now (work .entry)) name r ⌝ }
+    ensures { λ r. ⌜ GetsCapture p (old work) name r ⌝ }
 {
     let captures = p.captures;
     let start = CAPTURES;
@@ -49,7 +50,7 @@ pub fn newest_capture(p: Pass, work: &[u32], name: u32) -> Found
 
 pub fn load_capture(work: &[u32], place: usize) -> Capture
     requires { ⌜ (length (now work) ≡ workLong) × (place < listEntriesMost) ⌝ }
-    ensures { λ r. ⌜ LoadsCapture (now (work .entry)) place r ⌝ }
+    ensures { λ r. ⌜ LoadsCapture (old work) place r ⌝ }
 {
     let mut row = [0; TAKEN_ROW];
     table::get(work, TAKEN + TAKEN_ROW * place, &mut row);
@@ -65,8 +66,9 @@ pub fn load_capture(work: &[u32], place: usize) -> Capture
 
 // One use more of the capture at the place.
 pub fn use_capture(work: &mut [u32], place: usize)
-    requires { ⌜ (length (now work) ≡ workLong) × (place < listEntriesMost) × (getD (now work) (captureDataFirst + 2 * place + 1) 0 < 4294959104) ⌝ }
-    ensures { λ _. ⌜ UsesCapture (now (work .entry)) place (now (work .exit)) ⌝ }
+    requires { ⌜ (length (now work) ≡ workLong) × (place < listEntriesMost)
+        × (getD (now work) (captureDataFirst + 2 * place + 1) 0 < 4294959104) ⌝ }
+    ensures { λ _. ⌜ UsesCapture (old work) place (final work) ⌝ }
 {
     let i = TAKEN + TAKEN_ROW * place + 1;
     work[i] = work[i] + 2 * RECORDS;
@@ -75,7 +77,7 @@ pub fn use_capture(work: &mut [u32], place: usize)
 // The place of the capture that defining the name writes.
 fn capture_place(p: Pass, work: &[u32], name: u32) -> usize
     requires { ⌜ Spacious p (now work) ⌝ }
-    ensures { λ r. ⌜ Places (p .captures) (region (now (work .entry)) capturesFirst capturesLength) name r ⌝ }
+    ensures { λ r. ⌜ Places (p .captures) (region (old work) capturesFirst capturesLength) name r ⌝ }
 {
     let captures = p.captures;
     let start = CAPTURES;
@@ -86,7 +88,7 @@ fn capture_place(p: Pass, work: &[u32], name: u32) -> usize
 // The map alone: what is known of the capture is not written yet.
 fn define_row(p: Pass, work: &mut [u32], name: u32, r: usize) -> Pass
     requires { ⌜ Spacious p (now work) × (3 * p .captures .length + 3 ≤ rowsLength) × (r < listEntriesMost) ⌝ }
-    ensures { λ q. ⌜ DefinesRow p (now (work .entry)) name r q (now (work .exit)) ⌝ }
+    ensures { λ q. ⌜ DefinesRow p (old work) name r q (final work) ⌝ }
 {
     let captures = p.captures;
     let start = CAPTURES;
@@ -101,7 +103,7 @@ fn define_row(p: Pass, work: &mut [u32], name: u32, r: usize) -> Pass
 // All but the id are one number.
 fn put_capture(work: &mut [u32], place: usize, t: Capture)
     requires { ⌜ (length (now work) ≡ workLong) × (place < listEntriesMost) × Packable t ⌝ }
-    ensures { λ _. ⌜ now (work .exit) ≡ capturePut (now (work .entry)) place t ⌝ }
+    ensures { λ _. ⌜ final work ≡ capturePut (old work) place t ⌝ }
 {
     let rest = 2 * t.uses + t.enclosing as u32;
     let row = [t.id, t.binder + RECORDS * rest];
@@ -111,7 +113,7 @@ fn put_capture(work: &mut [u32], place: usize, t: Capture)
 // The captured entry in row r is the name's newest capture.
 pub fn define_capture(p: Pass, work: &mut [u32], name: u32, r: usize, t: Capture) -> Pass
     requires { ⌜ Spacious p (now work) × (3 * p .captures .length + 3 ≤ rowsLength) × (r < listEntriesMost) × Packable t ⌝ }
-    ensures { λ q. ⌜ DefinesCapture p (now (work .entry)) name r t q (now (work .exit)) ⌝ }
+    ensures { λ q. ⌜ DefinesCapture p (old work) name r t q (final work) ⌝ }
 {
     let place = capture_place(p, work, name);
     let q = define_row(p, work, name, r);
@@ -132,7 +134,7 @@ pub fn open_captures(p: Pass) -> Pass
 
 pub fn close_captures(p: Pass, work: &mut [u32]) -> Pass
     requires { ⌜ Spacious p (now work) ⌝ }
-    ensures { λ r. ⌜ Becomes p (now (work .entry)) closeCaptures r (now (work .exit)) ⌝ }
+    ensures { λ r. ⌜ Becomes p (old work) closeCaptures r (final work) ⌝ }
 {
     let captures = p.captures;
     let start = CAPTURES;
@@ -146,14 +148,14 @@ pub fn close_captures(p: Pass, work: &mut [u32]) -> Pass
 // The binder's record of the captured entry in row r.
 pub fn binder_at(work: &[u32], r: usize) -> usize
     requires { ⌜ (length (now work) ≡ workLong) × (r < listEntriesMost) ⌝ }
-    ensures { λ b. ⌜ TellsBinder (now (work .entry)) r b ⌝ }
+    ensures { λ b. ⌜ TellsBinder (old work) r b ⌝ }
 {
     wide(work[BINDERS + r])
 }
 
 pub fn set_binder(work: &mut [u32], r: usize, b: usize)
     requires { ⌜ (length (now work) ≡ workLong) × (r < listEntriesMost) × (b < 4294967296) ⌝ }
-    ensures { λ _. ⌜ StoresBinder (now (work .entry)) r b (now (work .exit)) ⌝ }
+    ensures { λ _. ⌜ StoresBinder (old work) r b (final work) ⌝ }
 {
     let value = narrow(b);
     work[BINDERS + r] = value;

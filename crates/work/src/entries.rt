@@ -6,6 +6,7 @@ use semantic::NONE;
 ghost use mathlib.Core.Path.{_≡_};
 ghost use Prim.Native.Nat.{_<_};
 ghost use lib.ListN.{length};
+ghost use Rattle.table.specs.EntryExit.{old, final};
 ghost use Rattle.pass.specs.State.{topLevelEntry, localEntry, heapEntry};
 ghost use Rattle.pass.specs.Run.{rowsMost};
 ghost use Rattle.work.specs.Coded.{coded};
@@ -102,7 +103,7 @@ impl Entry {
 
 pub fn load_entry(work: &[u32], at: usize) -> Entry
     requires { ⌜ (length (now work) ≡ workLong) × (at < rowsMost) ⌝ }
-    ensures { λ r. ⌜ LoadsEntry (now (work .entry)) at r ⌝ }
+    ensures { λ r. ⌜ LoadsEntry (old work) at r ⌝ }
 {
     let mut row = [0; ENTRY];
     table::get(work, ENTRIES + ENTRY * at, &mut row);
@@ -120,7 +121,7 @@ pub fn load_entry(work: &[u32], at: usize) -> Entry
 
 pub fn store_entry(work: &mut [u32], at: usize, e: Entry)
     requires { ⌜ (length (now work) ≡ workLong) × (at < rowsMost) × (e .uses < 536870912) ⌝ }
-    ensures { λ _. ⌜ StoresEntry (now (work .entry)) at e (now (work .exit)) ⌝ }
+    ensures { λ _. ⌜ StoresEntry (old work) at e (final work) ⌝ }
 {
     let row = [
         e.captured as u32 + 2 * (e.mutated as u32) + 4 * e.uses,

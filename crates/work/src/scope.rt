@@ -9,6 +9,7 @@ use table::wide;
 ghost use mathlib.Core.Path.{_≡_};
 ghost use mathlib.Core.List.{List};
 ghost use Prim.Native.Nat.{ℕ, _+_, _*_, _≤_, _<_};
+ghost use Rattle.table.specs.EntryExit.{old, final};
 ghost use Rattle.scope_map.specs.Hints.{rowsLength};
 ghost use Rattle.pass.specs.State.{newest};
 ghost use Rattle.pass.specs.Run.{rowsMost};
@@ -26,7 +27,7 @@ pub enum Binder {
 
 pub fn newest(p: Pass, work: &[u32], name: u32) -> Binder
     requires { ⌜ Spacious p (now work) ⌝ }
-    ensures { λ r. ⌜ Tells p (now (work .entry)) (λ s. recordIn (newest s name)) (recordOf r) ⌝ }
+    ensures { λ r. ⌜ Tells p (old work) (λ s. recordIn (newest s name)) (recordOf r) ⌝ }
 {
     let names = p.scope;
     let end = ENTRIES;
@@ -45,7 +46,7 @@ pub fn newest(p: Pass, work: &[u32], name: u32) -> Binder
 // The id of the name's newest binder, or NONE.
 pub fn newest_id(all: &[u32], p: Pass, work: &[u32], name: u32) -> u32
     requires { ⌜ KnownHere (now all) p (now work) ⌝ }
-    ensures { λ r. ⌜ TellsId (now (all .entry)) p (now (work .entry)) name r ⌝ }
+    ensures { λ r. ⌜ TellsId (old all) p (old work) name r ⌝ }
 {
     let found = newest(p, work, name);
     let Binder::At(b) = found else {
@@ -57,7 +58,7 @@ pub fn newest_id(all: &[u32], p: Pass, work: &[u32], name: u32) -> u32
 // The name enters the newest layer. Answers the row that it is in.
 pub fn define_name(p: Pass, work: &mut [u32], name: u32, at: usize) -> usize
     requires { ⌜ Spacious p (now work) × (3 * p .scope .length + 3 ≤ rowsLength) × (at < rowsMost) ⌝ }
-    ensures { λ r. ⌜ Defines p (now (work .entry)) name at r (now (work .exit)) ⌝ }
+    ensures { λ r. ⌜ Defines p (old work) name at r (final work) ⌝ }
 {
     let names = p.scope;
     let end = ENTRIES;
@@ -87,7 +88,7 @@ pub fn with_row(p: Pass, place: usize) -> Pass
 
 pub fn remove_name(p: Pass, work: &mut [u32], name: u32) -> Pass
     requires { ⌜ Spacious p (now work) ⌝ }
-    ensures { λ r. ⌜ Becomes p (now (work .entry)) (removed name) r (now (work .exit)) ⌝ }
+    ensures { λ r. ⌜ Becomes p (old work) (removed name) r (final work) ⌝ }
 {
     let names = p.scope;
     let end = ENTRIES;
@@ -111,7 +112,7 @@ pub fn open_scope(p: Pass) -> Pass
 // `low` is the first row of the newest layer's names.
 pub fn close_scope(p: Pass, low: usize, work: &mut [u32]) -> Pass
     requires { ⌜ Spacious p (now work) × StartsLayer p (now work) low ⌝ }
-    ensures { λ r. ⌜ Becomes p (now (work .entry)) closeScope r (now (work .exit)) ⌝ }
+    ensures { λ r. ⌜ Becomes p (old work) closeScope r (final work) ⌝ }
 {
     let names = p.scope;
     let end = ENTRIES;
@@ -124,7 +125,7 @@ pub fn close_scope(p: Pass, low: usize, work: &mut [u32]) -> Pass
 // The first row of the newest layer's names; they stand in the rows from it on, in the order they entered.
 pub fn newest_layer(p: Pass, work: &[u32]) -> usize
     requires { ⌜ Spacious p (now work) ⌝ }
-    ensures { λ r. ⌜ StartsLayer p (now (work .entry)) r ⌝ }
+    ensures { λ r. ⌜ StartsLayer p (old work) r ⌝ }
 {
     let names = p.scope;
     let end = ENTRIES;
@@ -134,7 +135,7 @@ pub fn newest_layer(p: Pass, work: &[u32]) -> usize
 // The live name in row i, the oldest being in row 0.
 pub fn live_at(p: Pass, work: &[u32], i: usize) -> Row
     requires { ⌜ Spacious p (now work) × (i < p .scope .length) ⌝ }
-    ensures { λ r. ⌜ TellsLive p (now (work .entry)) i r ⌝ }
+    ensures { λ r. ⌜ TellsLive p (old work) i r ⌝ }
 {
     let names = p.scope;
     let end = ENTRIES;
