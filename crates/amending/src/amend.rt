@@ -14,6 +14,7 @@ use lists::rows::store_list_entry;
 use scope_map::Found;
 use semantic::ListAt;
 use semantic::ScopeInfo;
+use semantic::fields::LIST_ENTRY;
 use table::wide;
 use walk::uses::Names;
 use walk::uses::holds_lambda;
@@ -223,8 +224,8 @@ fn clear_list_entries(captured: &mut [u32], work: &mut [u32], first: usize, end:
     requires { ⌜ (length (now captured) ≡ listEntriesLength) × (length (now work) ≡ workLong) × (first ≤ end) × (end ≤ listEntriesMost) ⌝ }
     ensures { λ _. ⌜ Rewrites (old captured) (old work) (cleared first end) (final captured) (final work) ⌝ }
 {
-    let start = 13 * first;
-    let stop = 13 * end;
+    let start = LIST_ENTRY * first;
+    let stop = LIST_ENTRY * end;
     table::clear(&mut captured[start..stop]);
     let mut r = first;
     while r < end {

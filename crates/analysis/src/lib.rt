@@ -1,5 +1,6 @@
 // The pass over lent tables: the fresh run and the settled run.
 use checks::Checked;
+use tree::record::WIDTH;
 use visits::run::run_with_scope;
 use work::BINDERS;
 use work::CAPTURES;
@@ -44,7 +45,7 @@ pub fn fit(
 ) -> bool
     ensures { λ r. ⌜ r ≡ fitting (old records) (tables (old facts) (old captured) (old arguments) (old work)) ⌝ }
 {
-    if records.len() % 6 != 0 {
+    if records.len() % WIDTH != 0 {
         return false;
     }
     if facts.len() != FACTS {

@@ -12,6 +12,7 @@ use printing::summary::summary;
 use reading::reader::Input;
 use reading::reader::Reading;
 use reading::reader::finish;
+use tree::record::WIDTH;
 use work::WORK;
 ghost use mathlib.Core.Path.{_≡_};
 ghost use Prim.Native.Nat.{_+_, _*_, _≤_};
@@ -30,7 +31,7 @@ pub const RECORDS: usize = 512;
 // How long the lent tables are: for the classes and the records of an input, and for its text.
 pub const CLASS_TABLE: usize = 1024;
 
-pub const RECORD_TABLE: usize = 6 * RECORDS;
+pub const RECORD_TABLE: usize = WIDTH * RECORDS;
 
 pub const TEXT: usize = 128 * RECORDS + 128;
 
@@ -94,7 +95,7 @@ fn fresh_text(
     ensures { λ r. ⌜ FreshIn (take names (old classes)) (take (width * many) (old records))
         (tables (final facts) (final captured) (final arguments) (final work)) (final out) r ⌝ }
 {
-    let numbers = 6 * many;
+    let numbers = WIDTH * many;
     let part = &records[..numbers];
     let first = &classes[..names];
     let a = fresh(part, first, facts, captured, arguments, work);

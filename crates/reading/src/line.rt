@@ -1,4 +1,5 @@
 // The numbers of one line, which stands without its LF.
+use tree::record::WIDTH;
 ghost use mathlib.Core.Path.{_≡_};
 ghost use mathlib.Core.List.{_∷_, []};
 ghost use Prim.Native.Nat.{_≤_};
@@ -23,7 +24,7 @@ pub enum Only {
 pub struct Six {
     pub ok: bool,
     pub at: usize,
-    pub numbers: [u32; 6],
+    pub numbers: [u32; WIDTH],
 }
 
 // Whether the mark stands at the place.
@@ -144,7 +145,7 @@ pub fn record(l: &[u8]) -> Six
     let start = Six {
         ok: true,
         at: 0,
-        numbers: [0; 6],
+        numbers: [0; WIDTH],
     };
     let form = next(l, start, b"form=");
     let id = next(l, form, b" id=");

@@ -2,6 +2,7 @@
 use crate::line::Only;
 use crate::line::record;
 use crate::line::single;
+use tree::record::WIDTH;
 ghost use mathlib.Core.Path.{_≡_};
 ghost use mathlib.Core.List.{_∷_, [], _++_};
 ghost use Prim.Native.Nat.{_+_};
@@ -111,12 +112,12 @@ fn class_line(l: &[u8], classes: &mut [u8], r: Reading) -> Reading
     }
 }
 
-fn store_record(records: &mut [u32], at: u64, row: [u32; 6])
+fn store_record(records: &mut [u32], at: u64, row: [u32; WIDTH])
     ensures { λ _. ⌜ RowStored (old records) at row (final records) ⌝ }
 {
     let i = at as usize;
-    if i < records.len() / 6 {
-        table::put(records, 6 * i, &row);
+    if i < records.len() / WIDTH {
+        table::put(records, WIDTH * i, &row);
     }
 }
 

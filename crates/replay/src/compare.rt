@@ -2,6 +2,8 @@
 use crate::input::least;
 use crate::input::next_number;
 use analysis::Answer;
+use semantic::fields::LIST_ENTRY;
+use semantic::fields::ROW;
 use table::wide;
 ghost use Prim.Native.Nat.{_*_, _≤_};
 
@@ -90,9 +92,9 @@ fn same_table(t: &[u32], width: usize, input: &[u8], at: usize) -> Same
 fn same_tables(facts: &[u32], captured: &[u32], arguments: &[u32], input: &[u8], at: usize) -> Same
     ensures { λ r. ⌜ at ≤ r .next ⌝ }
 {
-    let rows = same_table(facts, 20, input, at);
-    let lists = same_table(captured, 13, input, rows.next);
-    let names = same_table(arguments, 13, input, lists.next);
+    let rows = same_table(facts, ROW, input, at);
+    let lists = same_table(captured, LIST_ENTRY, input, rows.next);
+    let names = same_table(arguments, LIST_ENTRY, input, lists.next);
     Same {
         same: rows.same && lists.same && names.same,
         next: names.next,

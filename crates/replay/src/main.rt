@@ -6,6 +6,7 @@ use compare::same_answer;
 use input::least;
 use input::next_number;
 use table::wide;
+use tree::record::WIDTH;
 ghost use mathlib.Core.Path.{_≡_};
 ghost use Prim.Native.Nat.{_≤_};
 ghost use lib.ListN.{length};
@@ -100,7 +101,7 @@ fn read_case(classes: &mut [u8], records: &mut [u32], input: &[u8], at: usize) -
     let names = least(wide(first.value), classes.len());
     let after = read_classes(classes, names, input, first.next);
     let count_of = next_number(input, after);
-    let numbers = least(6 * wide(count_of.value), records.len());
+    let numbers = least(WIDTH * wide(count_of.value), records.len());
     let next = read_records(records, numbers, input, count_of.next);
     Case {
         found: first.found,
