@@ -14,7 +14,7 @@ use Rattle.execution.specs.References.{isSetOf, isInnerOf, any, isShared
 
 unfoldable pub isLive : Binder → List Binder → Bool
 isLive b [] = false
-isLive b (c ∷ sc) = (eqb (c .layer) (b .layer) && eqb (c .ident .name) (b .ident .name)) || isLive b sc
+isLive b (c ∷ sc) = (eqb (c .home .layer) (b .home .layer) && eqb (c .ident .name) (b .ident .name)) || isLive b sc
 
 unfoldable pub nineIn : List Event → Option ℕ
 nineIn [] = none
@@ -67,7 +67,7 @@ isEleven all b = b .isLet && (isEmpty (b .around) && isShared b all)
 -- another layer has a name in scope like b's
 unfoldable pub isDoubled : Binder → List Binder → Bool
 isDoubled b [] = false
-isDoubled b (c ∷ sc) = (eqb (c .ident .name) (b .ident .name) && not (eqb (c .layer) (b .layer))) || isDoubled b sc
+isDoubled b (c ∷ sc) = (eqb (c .ident .name) (b .ident .name) && not (eqb (c .home .layer) (b .home .layer))) || isDoubled b sc
 
 abbrev pub isSetWithin : ℕ → Binder → Mention → Bool
 isSetWithin i b o = isSetOf b o && member i (o .place .around)

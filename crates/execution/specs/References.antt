@@ -7,6 +7,7 @@ use mathlib.Core.Path.{_≡_}
 use lib.Dec.{eqb}
 use Rattle.tree.specs.Tree.{Ident, Trees}
 use Rattle.tree.specs.Define.{topLevel}
+use Rattle.tree.specs.Site.{lambdasIn}
 use Rattle.tree.specs.Check.{member}
 use Rattle.tree.specs.Accepted.{All}
 use Rattle.semantic.specs.Information.{NONE}
@@ -14,7 +15,7 @@ use Rattle.semantic.specs.Rows.{Row, Blank, Variable, Function, CallSite, Let}
 use Rattle.semantic.specs.declared.IdentifierStatus.{IdentifierStatus}
 use Rattle.semantic.specs.declared.IdentifierStatus.the-variants.{Global, Local, LetVar, Captured, Free, HeapAllocated}
 use Rattle.pass.specs.Read.{isPrelude}
-use Rattle.r7rs.specs.Binding.{Binder, Mention, events, mentionsIn, bindersIn, lambdasIn, meant, isInner}
+use Rattle.r7rs.specs.Binding.{Binder, Mention, events, mentionsIn, bindersIn, meant, isInner}
 use Rattle.r7rs.specs.Bottom.{definesOf, bottomEntry}
 use Rattle.lockstep.specs.Facts.{rowOf}
 
@@ -92,7 +93,7 @@ globalReference prelude layer none = reference (cond prelude Global Free) NONE l
 
 module _ (classes : List ℕ) (ts : Trees) where
   abbrev pub bottomReference : Mention → Reference
-  bottomReference m = globalReference (isPrelude classes (m .ident .name)) (m .place .layer) (bottomEntry ts (m .ident .name) (m .ident .at))
+  bottomReference m = globalReference (isPrelude classes (m .ident .name)) (m .place .site .layer) (bottomEntry ts (m .ident .name) (m .ident .at))
 
   abbrev pub allMentions : List Mention
   allMentions = mentionsIn (events ts)
@@ -105,26 +106,26 @@ module _ (classes : List ℕ) (ts : Trees) where
 
   abbrev pub freshBound : List Mention → Mention → Option Binder → Reference
   freshBound before m none = bottomReference m
-  freshBound before m (some b) = reference (freshKind before m b) (b .ident .id) (m .place .layer) (b .slot)
+  freshBound before m (some b) = reference (freshKind before m b) (b .ident .id) (m .place .site .layer) (b .home .slot)
 
   abbrev pub freshReference : List Mention → Mention → Reference
   freshReference before m = freshBound before m (meant m)
 
   abbrev pub freshBinder : Binder → Reference
-  freshBinder b = reference (cond (b .isLet) LetVar Local) NONE (b .layer) NONE
+  freshBinder b = reference (cond (b .isLet) LetVar Local) NONE (b .home .layer) NONE
 
   -- The settled run: a name that an inner lambda mentions and that is set lies in the heap, and a captured one has no slot
 
   abbrev pub settledOwn : Bool → Mention → Binder → Reference
-  settledOwn true m b = reference HeapAllocated (b .ident .id) (m .place .layer) (b .place)
-  settledOwn false m b = reference Local (b .ident .id) (m .place .layer) (b .slot)
+  settledOwn true m b = reference HeapAllocated (b .ident .id) (m .place .site .layer) (b .place)
+  settledOwn false m b = reference Local (b .ident .id) (m .place .site .layer) (b .home .slot)
 
   -- a set! of b comes before the end of m's innermost lambda
   abbrev pub isSetByEnd : List Mention → Mention → Binder → Bool
   isSetByEnd before m b = any (isSetOf b) before || any (λ o. isSetOf b o && isWithin (m .place .around) o) allMentions
 
   abbrev pub settledInner : List Mention → Mention → Binder → Reference
-  settledInner before m b = reference (cond (isSetByEnd before m b) HeapAllocated Captured) (b .ident .id) (m .place .layer) NONE
+  settledInner before m b = reference (cond (isSetByEnd before m b) HeapAllocated Captured) (b .ident .id) (m .place .site .layer) NONE
 
   abbrev pub settledBound : List Mention → Mention → Option Binder → Reference
   settledBound before m none = bottomReference m
@@ -134,7 +135,7 @@ module _ (classes : List ℕ) (ts : Trees) where
   settledReference before m = settledBound before m (meant m)
 
   abbrev pub settledBinder : Binder → Reference
-  settledBinder b = reference (cond (isShared b allMentions) HeapAllocated (cond (b .isLet) LetVar Local)) NONE (b .layer) NONE
+  settledBinder b = reference (cond (isShared b allMentions) HeapAllocated (cond (b .isLet) LetVar Local)) NONE (b .home .layer) NONE
 
 -- the facts T say, of each identifier read or set and of each parameter and let name, what `wanted` and `wantedBinder` say
 pub record Referred (ts : Trees) (T : List Row) (wanted : List Mention → Mention → Reference) (wantedBinder : Binder → Reference) : Type 0 where

@@ -1,4 +1,5 @@
--- Which parameter or let name each identifier means, and where names and expressions stand, by structure alone. R7RS 4.1.4 and 4.2.2.
+-- Which parameter or let name each identifier means, by structure alone. R7RS 4.1.4 and 4.2.2. What places and names have by document 01
+-- (tree/specs/Site.antt) is carried along and decides nothing here.
 use Prim.Native.Nat.{ℕ, suc, _+_}
 use mathlib.Core.List.{List, [], _∷_, _++_, reverseAux}
 use mathlib.Core.List.{List·Memᴰ as Member}
@@ -8,22 +9,21 @@ use mathlib.Core.Path.{_≡_}
 use lib.ListN.{length}
 use lib.Dec.{eqb, ltb}
 use Rattle.tree.specs.Tree.{Node, Ident, Tree, Trees, ident, const, if, letin, define, lambda, sequence, call, set!, nil, cons, many}
+use Rattle.tree.specs.Site.{Site, Home, topSite, raisedSite, lambdaSite, letSite, homeAt}
 
 -- a parameter or let name
 pub record Binder : Type 0 where
   pub ident : Ident
   pub isLet : Bool
   pub place : ℕ  -- among the names of its lambda or let, from 0
-  pub slot : ℕ  -- a parameter's place; a let name's is the height before that let, plus its place
-  pub layer : ℕ  -- the layer of the body that it is bound in
-  pub around : List ℕ  -- the lambdas around that body, innermost first: the first is the one that binds it, none is a top-level expression
+  pub around : List ℕ  -- the lambdas around the body it is bound in, innermost first: the first is the one that binds it, none is a top-level expression
+  pub home : Home
 
 -- where an expression stands
 pub record Place : Type 0 where
   pub scope : List Binder  -- the names in scope, innermost first
   pub around : List ℕ  -- the records of the lambdas around it, innermost first
-  pub layer : ℕ  -- 1 at top level, 2 in the body of a let outside every lambda, and one more for each lambda
-  pub height : ℕ  -- how many values its body has in the frame: parameters, let names, arguments and initial values
+  pub site : Site
 
 -- an identifier that is read or set
 pub record Mention : Type 0 where
@@ -31,36 +31,35 @@ pub record Mention : Type 0 where
   pub isSet : Bool
   pub place : Place
 
--- "The height starts at 0 for each top-level expression and at the parameter count for a lambda body. It grows by one per argument or initial
--- expression done and is rolled back."
 abbrev pub top : Place
-top = record { scope = []; around = []; layer = 1; height = 0 }
+top = record { scope = []; around = []; site = topSite }
 
+-- after k arguments or initial expressions
 abbrev pub raised : ℕ → Place → Place
-raised k p = record { scope = p .scope; around = p .around; layer = p .layer; height = p .height + k }
+raised k p = record { scope = p .scope; around = p .around; site = raisedSite k (p .site) }
 
--- a lambda's body, and a let's, without its names. "A lambda opens a layer. A let opens one only at depth 1."
+-- the body of a lambda with k parameters, and of a let with k names, without its names
 abbrev pub lambdaBody : Node → ℕ → Place → Place
-lambdaBody n k p = record { scope = p .scope; around = n .at ∷ p .around; layer = suc (p .layer); height = k }
+lambdaBody n k p = record { scope = p .scope; around = n .at ∷ p .around; site = lambdaSite k (p .site) }
 
 abbrev pub letBody : ℕ → Place → Place
-letBody k p = record { scope = p .scope; around = p .around; layer = cond (eqb (p .layer) 1) 2 (p .layer); height = p .height + k }
+letBody k p = record { scope = p .scope; around = p .around; site = letSite k (p .site) }
 
 -- the names that a body at p binds, from the place j on; s is the slot of the first
 unfoldable pub binders : Bool → ℕ → Place → ℕ → List Ident → List Binder
 binders l s p j [] = []
 binders l s p j (x ∷ xs) =
-    record { ident = x; isLet = l; place = j; slot = s + j; layer = p .layer; around = p .around } ∷ binders l s p (suc j) xs
+    record { ident = x; isLet = l; place = j; around = p .around; home = homeAt (p .site) (s + j) } ∷ binders l s p (suc j) xs
 
 abbrev pub parameters : Node → List Ident → Place → List Binder
 parameters n xs p = binders false 0 (lambdaBody n (length xs) p) 0 xs
 
 abbrev pub letNames : List Ident → Place → List Binder
-letNames xs p = binders true (p .height) (letBody (length xs) p) 0 xs
+letNames xs p = binders true (p .site .height) (letBody (length xs) p) 0 xs
 
 -- they are in scope
 abbrev pub within : List Binder → Place → Place
-within bs p = record { scope = reverseAux bs (p .scope); around = p .around; layer = p .layer; height = p .height }
+within bs p = record { scope = reverseAux bs (p .scope); around = p .around; site = p .site }
 
 -- What a walk over the tree meets
 pub data Event : Type 0 where
@@ -113,23 +112,6 @@ bindersIn [] = []
 bindersIn (enters b sc ∷ l) = b ∷ bindersIn l
 bindersIn (mentions m ∷ l) = bindersIn l
 bindersIn (ends i xs sc ∷ l) = bindersIn l
-
--- The lambdas of an expression that stands at the layer d: the record of each, and the layer that it is made at
-unfoldable mutual
-  pub lambdas : Tree → ℕ → List (ℕ × ℕ)
-  lambdas (ident x) d = []
-  lambdas (const n q) d = []
-  lambdas (if n a b c) d = lambdas a d ++ (lambdas b d ++ lambdas c d)
-  lambdas (letin n xs es b) d = lambdasIn es d ++ lambdas b (cond (eqb d 1) 2 d)
-  lambdas (define n x b) d = lambdas b d
-  lambdas (lambda n xs b) d = (n .at, d) ∷ lambdas b (suc d)
-  lambdas (sequence n es) d = lambdasIn es d
-  lambdas (call n h es) d = lambdas h d ++ lambdasIn es d
-  lambdas (set! n x e) d = lambdas e d
-
-  pub lambdasIn : Trees → ℕ → List (ℕ × ℕ)
-  lambdasIn nil d = []
-  lambdasIn (cons e es) d = lambdas e d ++ lambdasIn es d
 
 -- An identifier means the innermost parameter or let name in scope that has its name
 abbrev pub find : List Binder → ℕ → Option Binder

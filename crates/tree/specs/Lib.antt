@@ -4,6 +4,7 @@ pub mod Tree
 pub mod Core
 pub mod Define
 pub mod Expand
+pub mod Site
 pub mod Place
 pub mod First
 pub mod Check

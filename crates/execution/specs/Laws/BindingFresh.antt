@@ -110,8 +110,8 @@ set-before b (m ∷ l) = set-one b m (meant m) (usesOf l) ∙ ap (λ (q : Bool).
 -- The claim
 
 module _ (classes : List ℕ) (ts : Trees) (T : List Row) (L : ℕ → ℕ) (before : List Mention) (m : Mention) where
-  pub cell-refers : (o : Option Ident) → SaysCell classes T (cell ts) (m .ident) (m .place .layer) o
-      → referenceIn (getD T (m .ident .at) Blank) ≡ some (globalReference (isPrelude classes (m .ident .name)) (m .place .layer) o)
+  pub cell-refers : (o : Option Ident) → SaysCell classes T (cell ts) (m .ident) (m .place .site .layer) o
+      → referenceIn (getD T (m .ident .at) Blank) ≡ some (globalReference (isPrelude classes (m .ident .name)) (m .place .site .layer) o)
   cell-refers none t = refers t
   cell-refers (some d) t = refers t
 
@@ -123,7 +123,7 @@ module _ (classes : List ℕ) (ts : Trees) (T : List Row) (L : ℕ → ℕ) (bef
   meant-refers : (o : Option Binder) → meant m ≡ o → Of (Known L) o → All (Sound L) before → SaysOf classes T (cell ts) (usesOf before) m o
       → referenceIn (getD T (m .ident .at) Blank) ≡ some (freshBound classes ts before m o)
   meant-refers none e k a t = cell-refers (bottomEntry ts (m .ident .name) (m .ident .at)) t
-  meant-refers (some b) e (of-some k) a t = refers t ∙ ap (λ (q : IdentifierStatus). some (reference q (b .ident .id) (m .place .layer) (b .slot))) (kind-refers b e k a)
+  meant-refers (some b) e (of-some k) a t = refers t ∙ ap (λ (q : IdentifierStatus). some (reference q (b .ident .id) (m .place .site .layer) (b .home .slot))) (kind-refers b e k a)
 
 -- no refusal, so none of 9
 pub no-nine : (n : Noted) → refusedFirst n ≡ none → n .nine ≡ none

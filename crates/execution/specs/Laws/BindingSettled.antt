@@ -176,7 +176,7 @@ module _ (classes : List ℕ) (ts : Trees) (R : List Row) where
       → All (λ b. referenceIn (getD R (b .ident .at) Blank) ≡ some (settledBinder classes ts b)) (bindersIn l)
   told-bound [] t k a = tt
   told-bound (enters b sc ∷ l) t k a = (
-    refers (t .0) ∙ ap (λ (q : Bool). some (reference (cond q HeapAllocated (cond (b .isLet) LetVar Local)) NONE (b .layer) NONE)) (shared-is b (k .0) a),
+    refers (t .0) ∙ ap (λ (q : Bool). some (reference (cond q HeapAllocated (cond (b .isLet) LetVar Local)) NONE (b .home .layer) NONE)) (shared-is b (k .0) a),
     told-bound l (t .1) (k .1) a,
   )
   told-bound (mentions m ∷ l) t k a = told-bound l (t .1) k a
@@ -196,15 +196,16 @@ module _ (classes : List ℕ) (ts : Trees) (R : List Row) where
     told-refers none g k a z t = cell-refers classes ts R (levels ts) before m (bottomEntry ts (m .ident .name) (m .ident .at)) t
     told-refers (some b) g (of-some k) a z t = refers t ∙ ap some (go (isInner m b) refl)
       where
-        go : (i : Bool) → isInner m b ≡ i → reference (toldKind S m b) (b .ident .id) (m .place .layer)
-            (cond (isInner m b) NONE (cond (shared (S .U) (b .ident .at)) (b .place) (b .slot)))
+        go : (i : Bool) → isInner m b ≡ i → reference (toldKind S m b) (b .ident .id) (m .place .site .layer)
+            (cond (isInner m b) NONE (cond (shared (S .U) (b .ident .at)) (b .place) (b .home .slot)))
             ≡ cond (isInner m b) (settledInner classes ts before m b) (settledOwn classes ts (isShared b (mentionsIn (events ts))) m b)
         go true i =
-            rw i (ap (λ (q : Bool). reference (cond q HeapAllocated Captured) (b .ident .id) (m .place .layer) NONE) (set-by-end (m .place .around) b refl i z))
+            rw i (ap (λ (q : Bool). reference (cond q HeapAllocated Captured) (b .ident .id) (m .place .site .layer) NONE)
+            (set-by-end (m .place .around) b refl i z))
         go false i = rw (i, shared-is b k a) (own (isShared b (mentionsIn (events ts))))
           where
-            own : (q : Bool) → reference (cond q HeapAllocated Local) (b .ident .id) (m .place .layer) (cond q (b .place) (b .slot)) ≡ settledOwn classes ts q
-                m b
+            own : (q : Bool) → reference (cond q HeapAllocated Local) (b .ident .id) (m .place .site .layer) (cond q (b .place) (b .home .slot))
+                ≡ settledOwn classes ts q m b
             own true = refl
             own false = refl
 

@@ -5,13 +5,13 @@ use mathlib.Core.Path.{_≡_, ap, _∙_}
 use lib.ListN.{getD}
 use Rattle.tree.specs.Tree.{Trees}
 use Rattle.tree.specs.Define.{topLevel}
+use Rattle.tree.specs.Site.{lambdasIn}
 use Rattle.tree.specs.Accepted.{All}
 use Rattle.semantic.specs.Rows.{Row, Blank}
 use Rattle.pass.specs.Run.{fresh, settled}
 use Rattle.pass_laws.specs.Laws.All.{all-map}
 use Rattle.pass_laws.specs.Laws.Defined.{Defined, fresh-defined, settled-defined}
 use Rattle.pass_laws.specs.Laws.Depths.{MadeIn, fresh-makes, settled-makes}
-use Rattle.r7rs.specs.Binding.{lambdasIn}
 use Rattle.r7rs.specs.Bottom.{definesOf}
 use Rattle.execution.specs.References.{reference, referenceIn, depthIn, LambdasMade, definedName, DefinesNamed}
 use Rattle.execution.specs.Claims.{DefinedFresh, DefinedSettled}

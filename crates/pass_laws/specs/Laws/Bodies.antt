@@ -37,7 +37,7 @@ no-part = record { written = λ x o. absurd o; kept = λ x o. o; apart = λ x o 
 
 -- the same at another height
 pub at-height : {own : ℕ → Type 0} {bottom : List (Live Ident)} {before : List Use} {p : Place} {s : State} (h : ℕ) → Finds own bottom before p s
-    → Finds own bottom before (record { scope = p .scope; around = p .around; layer = p .layer; height = h }) s
+    → Finds own bottom before (record { scope = p .scope; around = p .around; site = record { layer = p .site .layer; height = h } }) s
 at-height h f = record { tables = f .tables; unused = f .unused; captures = f .captures; one = f .one; live = f .live; around = f .around; stands = f .stands }
 
 -- the names around a lambda are outside its body
@@ -78,12 +78,13 @@ module _ {own : ℕ → Type 0} {bottom : List (Live Ident)} {before : List Use}
         stands = f .stands;
       }
 
-  open-layer : (b : Bool) (k : ℕ) → eqb (p .layer) 1 ≡ b → Finds own bottom before p s
-      → Finds own bottom before (record { scope = p .scope; around = p .around; layer = cond b 2 (p .layer); height = p .height + k }) (openLayer b s)
+  open-layer : (b : Bool) (k : ℕ) → eqb (p .site .layer) 1 ≡ b → Finds own bottom before p s
+      → Finds own bottom before
+      (record { scope = p .scope; around = p .around; site = record { layer = cond b 2 (p .site .layer); height = p .site .height + k } }) (openLayer b s)
   unfolding openLayer openScope
-  open-layer false k e f = at-height (p .height + k) f
+  open-layer false k e f = at-height (p .site .height + k) f
   open-layer true k e f =
-      let one = eqb-true (p .layer) 1 e in
+      let one = eqb-true (p .site .layer) 1 e in
       record {
         tables = untouched no-part (f .tables) opens;
         unused = f .unused;
@@ -97,16 +98,16 @@ module _ {own : ℕ → Type 0} {bottom : List (Live Ident)} {before : List Use}
   -- a fresh let and a fresh lambda find no fact of their own
   module _ (classes : List ℕ) {left : ℕ → Type 0} (n : Node) (k : ℕ) (xs : List Ident) (m : NumNames k xs) (o : Covers own k (k + length xs)) (i : own (n .at))
       (l : (y : ℕ) → left y → own y) (a : (y : ℕ) → left y → k ≤ y → y < k + length xs → ⊥) (f : Finds own bottom before p s) where
-    pub into-let : (height : ℕ) → height ≡ p .height → (function : Option Node) → openLet n xs height function s .noted .nine ≡ none
+    pub into-let : (height : ℕ) → height ≡ p .site .height → (function : Option Node) → openLet n xs height function s .noted .nine ≡ none
         → Entered classes (letBody (length xs) p) bottom before left (letNames xs p) (p .scope) k (length xs) (openLet n xs height function s)
     unfolding openLet
     into-let height e function =
         let t = openLayer (atBottom s) s in
         let heaps = heapsAround t function in
         let opened : Finds own bottom before (letBody (length xs) p) t =
-        subst (λ (d : ℕ). Finds own bottom before (letBody (length xs) p) (openLayer (eqb d 1) s)) (sym (deep f)) (open-layer (eqb (p .layer) 1) (length xs) refl f) in
+        subst (λ (d : ℕ). Finds own bottom before (letBody (length xs) p) (openLayer (eqb d 1) s)) (sym (deep f)) (open-layer (eqb (p .site .layer) 1) (length xs) refl f) in
         let fresh : letArguments t (rowAt t (n .at)) ≡ [] = ap (letArguments t) (open-row (atBottom s) s (n .at) ∙ f .tables .blank (n .at) i) in
-        rw (e, fresh) (enter-all LetVar (p .height) heaps true (letBody (length xs) p) (two-deep (p .layer) (eqb (p .layer) 1) refl (f .one)) classes k xs 0 0 m o l a refl opened)
+        rw (e, fresh) (enter-all LetVar (p .site .height) heaps true (letBody (length xs) p) (two-deep (p .site .layer) (eqb (p .site .layer) 1) refl (f .one)) classes k xs 0 0 m o l a refl opened)
 
     pub into-lambda : openLambda n xs s .noted .nine ≡ none
         → Entered classes (lambdaBody n (length xs) p) bottom before left (parameters n xs p) (p .scope) k (length xs) (openLambda n xs s)

@@ -9,6 +9,7 @@ use lib.ListN.{length, getD}
 use lib.Dec.{ltb}
 use Rattle.tree.specs.Tree.{Ident, Node, Tree, Trees, ident, const, if, letin, define, lambda, sequence, call, set!, nil, cons, NumNames}
 use Rattle.tree.specs.Core.{core, cores}
+use Rattle.tree.specs.Site.{homeAt}
 use Rattle.tree.specs.Accepted.{All}
 use Rattle.scope_map.specs.ScopeMap.{ScopeMap, Live, hasAtTop, newestLayer}
 use Rattle.semantic.specs.Information.{new, markBuiltin, markRequired, markLastUsage, markShadowed}
@@ -198,7 +199,7 @@ names-deep : (E : List Entry) (isLet : Bool) (base : ℕ) (q : Place) (j : ℕ) 
 unfolding binders
 names-deep E isLet base q j [] sc a = tt
 names-deep E isLet base q j (x ∷ xs) sc a =
-    let b : Binder = record { ident = x; isLet = isLet; place = j; slot = base + j; layer = q .layer; around = q .around } in
+    let b : Binder = record { ident = x; isLet = isLet; place = j; around = q .around; home = homeAt (q .site) (base + j) } in
     (all-rest (λ b. 2 ≤ entryIn E (b .ident .at) .depth) (binders isLet base q (suc j) xs) (b ∷ sc) a .0, names-deep E isLet base q (suc j) xs (b ∷ sc) a)
 
 -- the names of the body that the walk is in
@@ -206,7 +207,7 @@ pub body-deep : {own : ℕ → Type 0} {bottom : List (Live Ident)} {before : Li
     → Finds own bottom before (inScope q (reverseAux (binders isLet base q 0 xs) sc)) s → Deep (s .scope .entries) xs
 body-deep {own} {before = before} {s} isLet base q xs sc f =
     names-deep (s .scope .entries) isLet base q 0 xs sc
-    (all-zip (Around (q .layer) (q .around)) (Stands own (s .scope .entries) before) (λ b. 2 ≤ entryAt s (b .ident .at) .depth) (λ b a k. omega (arith, a .above, k .held .depth))
+    (all-zip (Around (q .site .layer) (q .around)) (Stands own (s .scope .entries) before) (λ b. 2 ≤ entryAt s (b .ident .at) .depth) (λ b a k. omega (arith, a .above, k .held .depth))
     (reverseAux (binders isLet base q 0 xs) sc) (f .around) (f .stands))
 
 ended-counts : {own : ℕ → Type 0} {n : ℕ → ℕ} (xs : List Ident) (s : State) → Deep (s .scope .entries) xs → Counts own n s → Counts own n (endParameters xs s)

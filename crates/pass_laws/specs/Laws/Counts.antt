@@ -249,7 +249,7 @@ module _ (classes : List ℕ) {own left : ℕ → Type 0} {bottom : List (Live I
   mention = record { ident = x; isSet = isSet; place = p }
 
   -- a name of the body or of one around it: its row takes the entry's uses
-  bound-counts : (b : Binder) (e : Entry) (v : SemanticInformation) → Stands own (s .scope .entries) before b → 2 ≤ b .layer → e .usageCount ≡ suc (entryAt s (b .ident .at) .usageCount)
+  bound-counts : (b : Binder) (e : Entry) (v : SemanticInformation) → Stands own (s .scope .entries) before b → 2 ≤ b .home .layer → e .usageCount ≡ suc (entryAt s (b .ident .at) .usageCount)
       → v .«usage_count» ≡ 1 → Ahead isSet n h (some b)
       → Counts left (λ y. n y + credit (cellOf bottom) mention (some b) y)
       (insert (x .at) (Variable v) (amend (withUsageCount (e .usageCount)) (b .ident .at) (putEntry (b .ident .at) e s)))
@@ -262,7 +262,7 @@ module _ (classes : List ℕ) {own left : ℕ → Type 0} {bottom : List (Live I
       go true = omega arith
       go false = omega arith
 
-  by-counts : {b : Option Binder} {r : Rule} → Reads own (s .scope .entries) before p bottom (x .name) b r → Of (λ b. 2 ≤ b .layer) b → Ahead isSet n h b
+  by-counts : {b : Option Binder} {r : Rule} → Reads own (s .scope .entries) before p bottom (x .name) b r → Of (λ b. 2 ≤ b .home .layer) b → Ahead isSet n h b
       → Counts left (λ y. n y + credit (cellOf bottom) mention b y) (readBy classes r x s)
   by-counts (reads-none e) l a = rw e (free-counts x parts o c (isPrelude classes (x .name)) _ (f .tables .blank (x .at) o) a)
   by-counts (reads-global {d} e v) l a =
@@ -277,7 +277,7 @@ module _ (classes : List ℕ) {own left : ℕ → Type 0} {bottom : List (Live I
   unfolding read
   read-counts a = by-counts (rules f (x .name)) (above (search-for f (x .name) .meant)) a
     where
-      above : {b : Option Binder} → Of (λ b. Around (p .layer) (p .around) b × Stands own (s .scope .entries) before b) b → Of (λ b. 2 ≤ b .layer) b
+      above : {b : Option Binder} → Of (λ b. Around (p .site .layer) (p .around) b × Stands own (s .scope .entries) before b) b → Of (λ b. 2 ≤ b .home .layer) b
       above of-none = of-none
       above (of-some k) = of-some (k .0 .above)
 
@@ -308,7 +308,7 @@ module _ {own : ℕ → Type 0} {bottom : List (Live Ident)} {before : List Use}
         unused = c .unused;
       }
 
-  sets-counts : {o : Option Binder} {q : Option (Live Ident)} → Of (λ b. Around (p .layer) (p .around) b × Stands own (s .scope .entries) before b) o
+  sets-counts : {o : Option Binder} {q : Option (Live Ident)} → Of (λ b. Around (p .site .layer) (p .around) b × Stands own (s .scope .entries) before b) o
       → Got (Global own (s .scope .entries)) q → CountsBy own n (heldBy o n) (mutateAt (binderIn (liveIn o q)) s)
   sets-counts of-none got-none = c
   sets-counts of-none (got-some {e} g) = put-counts (e .value .at) _ n (g .apart) (λ l. absurd (omega (arith, g .depth))) (λ y d. refl)

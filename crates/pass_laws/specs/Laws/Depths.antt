@@ -11,12 +11,12 @@ use lib.Dec.{eqb}
 use Rattle.tree.specs.Tree.{Ident, Node, Tree, Trees, ident, const, if, letin, define, lambda, sequence, call, set!, nil, cons, many, size, sizes, Num, Nums, begins, ands, whens}
 use Rattle.tree.specs.Core.{cores}
 use Rattle.tree.specs.Define.{topLevel}
+use Rattle.tree.specs.Site.{lambdas, lambdasIn}
 use Rattle.tree.specs.Accepted.{All}
 use Rattle.scope_map.specs.ScopeMap.{ScopeMap}
 use Rattle.semantic.specs.Information.{NONE}
 use Rattle.semantic.specs.Rows.{Row, Blank, Variable, Function, CallSite, Let, ListEntry}
 use Rattle.semantic.specs.declared.FunctionInformation.{FunctionInformation}
-use Rattle.r7rs.specs.Binding.{lambdas, lambdasIn}
 use Rattle.pass.specs.State.{Capture, Facts, State, withContext, rowAt, depth}
 use Rattle.pass_laws.specs.Static.{letDepth}
 use Rattle.pass.specs.Lambda.{functionIn, amendFunction, functionEnds, closeScope, closeLambda, atBottom, openLambda, openLet}

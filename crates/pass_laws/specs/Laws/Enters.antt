@@ -10,6 +10,7 @@ use lib.ListN.{length, set, length-set}
 use lib.Seq.{getD-set-same}
 use lib.Dec.{ltb}
 use Rattle.tree.specs.Tree.{Ident, NumNames}
+use Rattle.tree.specs.Site.{homeAt}
 use Rattle.tree.specs.Accepted.{All}
 use Rattle.scope_map.specs.ScopeMap.{ScopeMap, Live, hasAtTop}
 use Rattle.semantic.specs.Information.{NONE, new}
@@ -35,7 +36,7 @@ use Rattle.pass_laws.specs.Laws.Reads.{Only, HasKey, KeyIn, tells}
 
 -- the place p with another scope
 abbrev pub inScope : Place → List Binder → Place
-inScope p sc = record { scope = sc; around = p .around; layer = p .layer; height = p .height }
+inScope p sc = record { scope = sc; around = p .around; site = p .site }
 
 -- the binders bs have entered, at the n records from k on
 pub record Entered (classes : List ℕ) (p : Place) (bottom : List (Live Ident)) (before : List Use) (left : ℕ → Type 0) (bs sc : List Binder) (k n : ℕ) (t : State) : Type 0 where
@@ -62,7 +63,7 @@ module _ (x : Ident) (e : Entry) (s : State) where
       go false = refl
 
 -- a name is bound where it stands
-pub around-own : (layer : ℕ) (lambdas : List ℕ) (b : Binder) → 2 ≤ layer → b .layer ≡ layer → b .around ≡ lambdas → Around layer lambdas b
+pub around-own : (layer : ℕ) (lambdas : List ℕ) (b : Binder) → 2 ≤ layer → b .home .layer ≡ layer → b .around ≡ lambdas → Around layer lambdas b
 around-own layer lambdas b two l a =
     let same : length (b .around) ≡ length lambdas = ap length a in
     record {
@@ -72,9 +73,9 @@ around-own layer lambdas b two l a =
       outer = λ e. absurd (omega (arith, ltb-true (length (b .around)) (length lambdas) e));
     }
 
-module _ (kind : IdentifierStatus) (base : ℕ) (heaps : Option ℕ) (isLet : Bool) (p : Place) (two : 2 ≤ p .layer) where
+module _ (kind : IdentifierStatus) (base : ℕ) (heaps : Option ℕ) (isLet : Bool) (p : Place) (two : 2 ≤ p .site .layer) where
   abbrev binderOf : ℕ → Ident → Binder
-  binderOf j x = record { ident = x; isLet = isLet; place = j; slot = base + j; layer = p .layer; around = p .around }
+  binderOf j x = record { ident = x; isLet = isLet; place = j; around = p .around; home = homeAt (p .site) (base + j) }
 
   module _ {own : ℕ → Type 0} {bottom : List (Live Ident)} {before : List Use} {sc : List Binder} {s : State} where
     new-held : (x : Ident) (j : ℕ) → Finds own bottom before (inScope p sc) s → own (x .at)
@@ -100,7 +101,7 @@ module _ (kind : IdentifierStatus) (base : ℕ) (heaps : Option ℕ) (isLet : Bo
           captures = ap (λ (m : ScopeMap Capture). m .live) (enter-captures x e s) ∙ f .captures;
           one = f .one;
           live = en .after ∙ ap (λ (m : ScopeMap Ident). inLayer (m .depth) (liveAt (m .depth) x ∷ m .live)) (f .live);
-          around = (around-own (p .layer) (p .around) (binderOf j x) two refl refl, f .around);
+          around = (around-own (p .site .layer) (p .around) (binderOf j x) two refl refl, f .around);
           stands = subst (λ (E : List Entry). All (Stands left E before) (binderOf j x ∷ sc)) (sym (enter-entries x e s)) (
             record { held = new-held x j f o; apart = λ l. parts .apart (x .at) l refl },
             all-map (λ b k.
@@ -112,8 +113,8 @@ module _ (kind : IdentifierStatus) (base : ℕ) (heaps : Option ℕ) (isLet : Bo
         }
 
   -- the row of a name that has entered
-  name-tells : (x : Ident) (j h : ℕ) (s : State) {T : List Row} → kind ≡ cond isLet LetVar Local → depth s ≡ p .layer → x .at < length (s .facts .rows)
-      → KeyIn T (x .at) (enterName kind base heaps [] false x j h s) → Tells T (x .at) (cond isLet LetVar Local) NONE (p .layer) NONE
+  name-tells : (x : Ident) (j h : ℕ) (s : State) {T : List Row} → kind ≡ cond isLet LetVar Local → depth s ≡ p .site .layer → x .at < length (s .facts .rows)
+      → KeyIn T (x .at) (enterName kind base heaps [] false x j h s) → Tells T (x .at) (cond isLet LetVar Local) NONE (p .site .layer) NONE
   unfolding enterName insert
   name-tells x j h s {T} e d l k =
       let r = Variable (new kind (depth s) (span x)) in

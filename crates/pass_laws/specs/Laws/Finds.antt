@@ -23,22 +23,22 @@ use Rattle.pass_laws.specs.Laws.Says.{usedInside, isSetIn}
 -- as a live name, above the bottom's
 abbrev pub livesOf : List Binder → List (Live Ident) → List (Live Ident)
 livesOf [] bottom = bottom
-livesOf (b ∷ sc) bottom = liveAt (b .layer) (b .ident) ∷ livesOf sc bottom
+livesOf (b ∷ sc) bottom = liveAt (b .home .layer) (b .ident) ∷ livesOf sc bottom
 
 -- it is bound around a place of this layer, in these lambdas: in the same body and layer, or both further out
 pub record Around (layer : ℕ) (lambdas : List ℕ) (b : Binder) : Type 0 where
-  pub above : 2 ≤ b .layer
+  pub above : 2 ≤ b .home .layer
   pub most : length (b .around) ≤ length lambdas
-  pub own : ltb (length (b .around)) (length lambdas) ≡ false → b .layer ≡ layer
-  pub outer : ltb (length (b .around)) (length lambdas) ≡ true → b .layer < layer
+  pub own : ltb (length (b .around)) (length lambdas) ≡ false → b .home .layer ≡ layer
+  pub outer : ltb (length (b .around)) (length lambdas) ≡ true → b .home .layer < layer
 
 abbrev pub entryIn : List Entry → ℕ → Entry
 entryIn E i = getD E i noEntry
 
 -- its entry, after the uses `before`
 pub record Held (E : List Entry) (before : List Use) (b : Binder) : Type 0 where
-  pub depth : entryIn E (b .ident .at) .depth ≡ b .layer
-  pub slot : entryIn E (b .ident .at) .stackOffset ≡ b .slot
+  pub depth : entryIn E (b .ident .at) .depth ≡ b .home .layer
+  pub slot : entryIn E (b .ident .at) .stackOffset ≡ b .home .slot
   pub captured : entryIn E (b .ident .at) .captured ≡ usedInside (b .ident .at) before
   pub mutated : entryIn E (b .ident .at) .mutated ≡ isSetIn (b .ident .at) before
 
@@ -69,9 +69,9 @@ pub record Finds (own : ℕ → Type 0) (bottom : List (Live Ident)) (before : L
   pub tables : Untouched own bottom s
   pub unused : (x : ℕ) → own x → Unused before x
   pub captures : s .captures .live ≡ []
-  pub one : 1 ≤ p .layer
-  pub live : names s ≡ inLayer (p .layer) (livesOf (p .scope) bottom)
-  pub around : All (Around (p .layer) (p .around)) (p .scope)
+  pub one : 1 ≤ p .site .layer
+  pub live : names s ≡ inLayer (p .site .layer) (livesOf (p .scope) bottom)
+  pub around : All (Around (p .site .layer) (p .around)) (p .scope)
   pub stands : All (Stands own (s .scope .entries) before) (p .scope)
 
 -- Lists
@@ -89,7 +89,7 @@ all-zip P Q (a ∷ l) p q = ((p .0, q .0), all-zip P Q l (p .1) (q .1))
 -- a live name that the search finds: of the scope, or of the bottom
 abbrev pub liveIn : Option Binder → Option (Live Ident) → Option (Live Ident)
 liveIn none o = o
-liveIn (some b) o = some (liveAt (b .layer) (b .ident))
+liveIn (some b) o = some (liveAt (b .home .layer) (b .ident))
 
 pub get-live : (sc : List Binder) (bottom : List (Live Ident)) (x : ℕ) → getIn (livesOf sc bottom) x ≡ liveIn (find sc x) (getIn bottom x)
 unfolding getIn
@@ -97,7 +97,7 @@ get-live [] bottom x = refl
 get-live (b ∷ sc) bottom x = go (eqb (b .ident .name) x) (get-live sc bottom x)
   where
     go : (q : Bool) → getIn (livesOf sc bottom) x ≡ liveIn (find sc x) (getIn bottom x)
-        → cond q (some (liveAt (b .layer) (b .ident))) (getIn (livesOf sc bottom) x) ≡ liveIn (cond q (some b) (find sc x)) (getIn bottom x)
+        → cond q (some (liveAt (b .home .layer) (b .ident))) (getIn (livesOf sc bottom) x) ≡ liveIn (cond q (some b) (find sc x)) (getIn bottom x)
     go true e = refl
     go false e = e
 
@@ -135,10 +135,10 @@ module _ (layer : ℕ) (h : 1 ≤ layer) where
   within-bottom own E [] a = tt
   within-bottom own E (e ∷ bottom) a = (omega (arith, a .0 .layer), within-bottom own E bottom (a .1))
 
-  pub layer-most : {lambdas : List ℕ} {b : Binder} → Around layer lambdas b → b .layer ≤ layer
+  pub layer-most : {lambdas : List ℕ} {b : Binder} → Around layer lambdas b → b .home .layer ≤ layer
   layer-most {lambdas} {b} a = go (ltb (length (b .around)) (length lambdas)) refl
     where
-      go : (q : Bool) → ltb (length (b .around)) (length lambdas) ≡ q → b .layer ≤ layer
+      go : (q : Bool) → ltb (length (b .around)) (length lambdas) ≡ q → b .home .layer ≤ layer
       go true e = omega (arith, a .outer e)
       go false e = omega (arith, a .own e)
 
@@ -147,22 +147,22 @@ module _ (layer : ℕ) (h : 1 ≤ layer) where
   within-lives lambdas (b ∷ sc) a bottom w = (layer-most (a .0), within-lives lambdas sc (a .1) bottom w)
 
 module _ {own : ℕ → Type 0} {bottom : List (Live Ident)} {before : List Use} {p : Place} {s : State} (f : Finds own bottom before p s) where
-  pub deep : depth s ≡ p .layer
+  pub deep : depth s ≡ p .site .layer
   deep = ap (λ (m : ScopeMap Ident). m .depth) (f .live)
 
   pub layered : Layered (names s)
   layered =
-      let w = within-bottom (p .layer) (f .one) own (s .scope .entries) bottom (f .tables .globals) in
-      let l : Layered (inLayer (p .layer) (livesOf (p .scope) bottom)) = record { one = f .one; within = within-lives (p .layer) (f .one) (p .around) (p .scope) (f .around) bottom w } in
+      let w = within-bottom (p .site .layer) (f .one) own (s .scope .entries) bottom (f .tables .globals) in
+      let l : Layered (inLayer (p .site .layer) (livesOf (p .scope) bottom)) = record { one = f .one; within = within-lives (p .site .layer) (f .one) (p .around) (p .scope) (f .around) bottom w } in
       subst Layered (sym (f .live)) l
 
   -- what a name means is around the place
-  pub around-of : (x : ℕ) → Of (Around (p .layer) (p .around)) (find (p .scope) x)
+  pub around-of : (x : ℕ) → Of (Around (p .site .layer) (p .around)) (find (p .scope) x)
   around-of x = find-all (p .scope) (f .around) x
 
   -- the name x: the parameter or let name that it means, and the entry that the search finds
   pub record Search (x : ℕ) : Type 0 where
-    pub meant : Of (λ b. Around (p .layer) (p .around) b × Stands own (s .scope .entries) before b) (find (p .scope) x)
+    pub meant : Of (λ b. Around (p .site .layer) (p .around) b × Stands own (s .scope .entries) before b) (find (p .scope) x)
     pub global : Got (Global own (s .scope .entries)) (getIn bottom x)
     pub found : getIn (names s .live) x ≡ liveIn (find (p .scope) x) (getIn bottom x)
 

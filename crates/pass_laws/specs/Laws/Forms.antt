@@ -44,7 +44,7 @@ module _ (classes : List ℕ) (T : List Row) (P : Presumption) (bottom : List (L
   -- an identifier that is read, and one that is set
 
   pub reads : {own : ℕ → Type 0} {before : List Use} {p : Place} {s : State} {b : Bool} (i : ℕ) (x : Ident) → x .at ≡ i → Covers own i (i + 1) → Finds own bottom before p s
-      → Done classes T P bottom (Minus own i (i + 1)) before p (mentions (readAt x p) ∷ []) i (i + 1) (read classes x s) (Rec T P (ctxOf (p .scope)) (p .layer) (p .height) b (ident x)) (λ n. Counts own n s)
+      → Done classes T P bottom (Minus own i (i + 1)) before p (mentions (readAt x p) ∷ []) i (i + 1) (read classes x s) (Rec T P (ctxOf (p .scope)) (p .site .layer) (p .site .height) b (ident x)) (λ n. Counts own n s)
   reads {before = before} {p} {s} i x e c f =
       let o = c (x .at) (omega arith) (omega arith) in
       let parts = take-one i (i + 1) (x .at) o (omega arith) (omega arith) in
@@ -55,12 +55,12 @@ module _ (classes : List ℕ) (T : List Row) (P : Presumption) (bottom : List (L
         says = λ ag. (said ag, tt);
         means = λ ag u.
             let m = ref-of classes T (cellOf bottom) P before x p (said ag) (around-of f (x .name)) (u .0) in
-            r-ident (m .is) (subst (Ref T P (p .layer) (m .fact)) (find-ctx (p .scope) (x .name)) (m .means));
+            r-ident (m .is) (subst (Ref T P (p .site .layer) (m .fact)) (find-ctx (p .scope) (x .name)) (m .means));
       }
 
   pub sets : {own : ℕ → Type 0} {before : List Use} {p : Place} {s : State} (i : ℕ) (x : Ident) → x .at ≡ i → Covers own i (i + 1) → Finds own bottom before p s
       → Done classes T P bottom (Minus own i (i + 1)) before p (mentions (setAt x p) ∷ []) i (i + 1) (read classes x (mutate (x .name) s))
-      (Fact T (x .at) (λ v. Aim T P (p .layer) v (lookup (ctxOf (p .scope)) (x .name)))) (λ n. Counts own n s)
+      (Fact T (x .at) (λ v. Aim T P (p .site .layer) v (lookup (ctxOf (p .scope)) (x .name)))) (λ n. Counts own n s)
   sets {before = before} {p} {s} i x e c f =
       let o = c (x .at) (omega arith) (omega arith) in
       let parts = take-one i (i + 1) (x .at) o (omega arith) (omega arith) in
@@ -71,13 +71,13 @@ module _ (classes : List ℕ) (T : List Row) (P : Presumption) (bottom : List (L
         says = λ ag. (said ag, tt);
         means = λ ag u.
             let m = aim-of classes T (cellOf bottom) P before x p (said ag) (around-of f (x .name)) (u .0) in
-            record { fact = m .fact; is = m .is; means = subst (Aim T P (p .layer) (m .fact)) (find-ctx (p .scope) (x .name)) (m .means) };
+            record { fact = m .fact; is = m .is; means = subst (Aim T P (p .site .layer) (m .fact)) (find-ctx (p .scope) (x .name)) (m .means) };
       }
 
   -- names that have entered
   pub names-done : {left : ℕ → Type 0} {before : List Use} {t : State} (isLet : Bool) (base : ℕ) (q : Place) (xs : List Ident) (sc : List Binder) (k : ℕ)
       → Entered classes q bottom before left (binders isLet base q 0 xs) sc k (length xs) t
-      → Done classes T P bottom left before (inScope q (reverseAux (binders isLet base q 0 xs) sc)) (entering (binders isLet base q 0 xs) sc) k (k + length xs) t (Noted T (q .layer) xs) (λ n. Counts left n t)
+      → Done classes T P bottom left before (inScope q (reverseAux (binders isLet base q 0 xs) sc)) (entering (binders isLet base q 0 xs) sc) k (k + length xs) t (Noted T (q .site .layer) xs) (λ n. Counts left n t)
   names-done {left} {before} {t} isLet base q xs sc k n =
       record {
         finds = with-uses (uses-entering before (binders isLet base q 0 xs) sc) (n .finds);
@@ -89,7 +89,7 @@ module _ (classes : List ℕ) (T : List Row) (P : Presumption) (bottom : List (L
   -- a lambda that has ended
   pub lambda-done : {left : ℕ → Type 0} {before : List Use} {p : Place} (i : ℕ) (n : Node) (xs : List Ident) (b : Tree) (escapes : Bool) (s : State) → n .at ≡ i
       → rowAt s (n .at) ≡ Blank → n .at < length (s .facts .rows) → Finds left bottom before p (closeLambda n xs b escapes s)
-      → Done classes T P bottom left before p (ends (n .at) xs (p .scope) ∷ []) i (i + 1) (closeLambda n xs b escapes s) (Made (getD T (n .at) Blank) (p .layer)) (λ c. Counts left c (closeLambda n xs b escapes s))
+      → Done classes T P bottom left before p (ends (n .at) xs (p .scope) ∷ []) i (i + 1) (closeLambda n xs b escapes s) (Made (getD T (n .at) Blank) (p .site .layer)) (λ c. Counts left c (closeLambda n xs b escapes s))
   lambda-done {before = before} i n xs b escapes s e r l f =
       let m = lambda-row n xs b escapes s r l in
       record {
@@ -142,15 +142,15 @@ module _ (classes : List ℕ) (T : List Row) (P : Presumption) (bottom : List (L
 
     -- its parts are done: s is the state after the initial expressions, t before the names enter, u after the body
     pub let-done : (b : Bool) {z s t u : State} (height : ℕ) (function : Option Node) (opened : Bool) → Num i (letin m xs es c) → Covers own i (i + size (letin m xs es c))
-        → Done classes T P bottom afterInitials before p (walkArguments es p) initialsAt bodyAt s (Args T P (ctxOf (p .scope)) (p .layer) (p .height) es) (λ n. Counts own n z)
+        → Done classes T P bottom afterInitials before p (walkArguments es p) initialsAt bodyAt s (Args T P (ctxOf (p .scope)) (p .site .layer) (p .site .height) es) (λ n. Counts own n z)
         → Moves (Off initialsAt bodyAt) s (openLet m xs height function t) → ((n : ℕ → ℕ) → Counts afterInitials n s → Counts afterNames n (openLet m xs height function t))
         → Finds afterInitials bottom used p t → opened ≡ atBottom t
         → openLet m xs height function t .noted .nine ≡ none
-        → Done classes T P bottom afterNames used body naming namesAt initialsAt (openLet m xs height function t) (Noted T (body .layer) xs) (λ n. Counts afterNames n (openLet m xs height function t))
+        → Done classes T P bottom afterNames used body naming namesAt initialsAt (openLet m xs height function t) (Noted T (body .site .layer) xs) (λ n. Counts afterNames n (openLet m xs height function t))
         → ((own : ℕ → Type 0) → Covers own bodyAt end → Changes own (openLet m xs height function t) u)
-        → Done classes T P bottom afterBody (used ++ usesIn naming) body (walk c body) bodyAt end u (Rec T P (ctxOf (body .scope)) (body .layer) (body .height) b c) (λ n. Counts afterNames n (openLet m xs height function t))
+        → Done classes T P bottom afterBody (used ++ usesIn naming) body (walk c body) bodyAt end u (Rec T P (ctxOf (body .scope)) (body .site .layer) (body .site .height) b c) (λ n. Counts afterNames n (openLet m xs height function t))
         → Done classes T P bottom (Minus own i (i + size (letin m xs es c))) before p (walk (letin m xs es c) p) i (i + size (letin m xs es c)) (closeLet opened m xs height function u)
-        (Rec T P (ctxOf (p .scope)) (p .layer) (p .height) b (letin m xs es c)) (λ n. Counts own n z)
+        (Rec T P (ctxOf (p .scope)) (p .site .layer) (p .site .height) b (letin m xs es c)) (λ n. Counts own n z)
     unfolding Num size walk
     let-done b {u = u} height function opened n o A w link g q e D past C =
         let X = both namesAt end (omega arith) (omega arith) (omega arith) (omega arith) A (w ⨟ by (past _ (λ x l u y z. omega arith))) link
@@ -165,4 +165,4 @@ module _ (classes : List ℕ) (T : List Row) (P : Presumption) (bottom : List (L
         (let-left m xs (letBody (length xs) p) (letNames xs p) g (X .finds) parts opened height function q e (X .finds .live ∙ sym (D .finds .live)))
         (λ n k. counts-quietly (parts .kept) k (let-quietly opened m xs height function u))
         (λ z ag. r-let (z .0) (n .1) (z .1 .0)
-        (subst (λ (Γ : Ctx). Rec T P Γ (letDepth (p .layer)) (p .height + length xs) b c) (enter-ctx true (p .height) (letBody (length xs) p) 0 xs (p .height) (omega arith) (p .scope)) (z .1 .1)))
+        (subst (λ (Γ : Ctx). Rec T P Γ (letDepth (p .site .layer)) (p .site .height + length xs) b c) (enter-ctx true (p .site .height) (letBody (length xs) p) 0 xs (p .site .height) (omega arith) (p .scope)) (z .1 .1)))

@@ -46,12 +46,12 @@ module _ (classes : List ℕ) (T : List Row) (P : Presumption) (bottom : List (L
   past {own} i t n o f s h = visit-changes classes t f s (tree-writes own i t n o) h
 
   abbrev RecAt : Place → Bool → Tree → Type 0
-  RecAt p b t = Rec T P (ctxOf (p .scope)) (p .layer) (p .height) b t
+  RecAt p b t = Rec T P (ctxOf (p .scope)) (p .site .layer) (p .site .height) b t
 
   mutual
     unfolding visit walk defines Num size
 
-    pub visits : (i : ℕ) (t : Tree) → Num i t → defines t ≡ [] → (f : Flags) (b : Bool) → f .tail ≡ b → {own : ℕ → Type 0} {before : List Use} {p : Place} {s : State} → f .height ≡ p .height
+    pub visits : (i : ℕ) (t : Tree) → Num i t → defines t ≡ [] → (f : Flags) (b : Bool) → f .tail ≡ b → {own : ℕ → Type 0} {before : List Use} {p : Place} {s : State} → f .height ≡ p .site .height
         → Covers own i (i + size t) → Finds own bottom before p s → visit classes t f s .noted .nine ≡ none
         → Done classes T P bottom (Minus own i (i + size t)) before p (walk t p) i (i + size t) (visit classes t f s) (RecAt p b t) (λ n. Counts own n s)
     visits i (ident x) n d f b t h o g e = reads classes T P bottom i x n o g
@@ -108,7 +108,7 @@ module _ (classes : List ℕ) (T : List Row) (P : Presumption) (bottom : List (L
         let g₃ : Finds (Minus own i₂ i₃) bottom (before ++ usesIn (walkArguments es p)) p s₃ = calmly no-part (A .finds) (λ free. context (s .context)) in
         let N = open-let classes {left = Minus (Minus own i₂ i₃) i₁ i₂} m i₁ xs (n .2) (λ x l u. (o x (omega arith) (omega arith), λ y z. omega arith))
         (o (m .at) (omega arith) (omega arith), λ y z. omega arith) (λ y z. z .0) (λ y z l u. z .1 l u) g₃ (f .height) h (f .function) e₄ in
-        let D = names-done classes T P bottom true (p .height) q xs (p .scope) i₁ N in
+        let D = names-done classes T P bottom true (p .site .height) q xs (p .scope) i₁ N in
         let C = visits i₃ c (n .4) (none-right (definesIn es) (defines c) d) k b t (omega (arith, n .1))
         (λ x l u. ((o x (omega arith) (omega arith), λ y z. omega arith), λ y z. omega arith)) (D .finds) e₅ in
         let-done classes T P bottom own before p i m xs es c b (f .height) (f .function) (atBottom s) n o
@@ -149,7 +149,7 @@ module _ (classes : List ℕ) (T : List Row) (P : Presumption) (bottom : List (L
         (by (past i₂ c (n .2) (λ x l u y z. omega arith) k s₁ h₁) ⨟ out-of-lambda m xs c (f .escape) s₂ (λ l u. omega arith)) (λ k c. c)
         (both i j (omega arith) (omega arith) (omega arith) (omega arith) C (out-of-lambda m xs c (f .escape) s₂ (λ l u. omega arith)) (λ k z. left-counts m xs c (f .escape) s₂ (parts .kept) (body-deep false 0 q xs (p .scope) (C .finds)) z) E))
         (λ z. r-lambda (z .1 .1 .is) (z .1 .1 .depth) (z .0)
-        (subst (λ (Γ : Ctx). Rec T P Γ (suc (p .layer)) (length xs) true c) (enter-ctx false 0 q 0 xs 0 (omega arith) (p .scope)) (z .1 .0)))
+        (subst (λ (Γ : Ctx). Rec T P Γ (suc (p .site .layer)) (length xs) true c) (enter-ctx false 0 q 0 xs 0 (omega arith) (p .scope)) (z .1 .0)))
     visits i (sequence (begins m) es) n d f b t {own} {before} {p} {s} h o g e =
         subst (λ (u : State). visitChildren classes es (inBegin f) u .noted .nine ≡ none
         → Done classes T P bottom (Minus own i (i + size (sequence (begins m) es))) before p (walkAll es p) i (i + size (sequence (begins m) es)) (visitChildren classes es (inBegin f) u) (RecAt p b (sequence (begins m) es)) (λ n. Counts own n s))
@@ -175,7 +175,7 @@ module _ (classes : List ℕ) (T : List Row) (P : Presumption) (bottom : List (L
         let j = i₂ + sizes es in
         let A = visits-in i₂ es (n .2) (none-right (defines c) (definesIn es) d) (argumentFlags f) refl h (λ x l u. o x (omega arith) (omega arith)) g e₁ in
         let C = visits i₁ c (n .1) (none-left (defines c) (definesIn es) d) k false refl (omega arith) (λ x l u. (o x (omega arith) (omega arith), λ y z. omega arith))
-        (at-height (p .height + many es) (A .finds)) e₂ in
+        (at-height (p .site .height + many es) (A .finds)) e₂ in
         let X = both i₁ j (omega arith) (omega arith) (omega arith) (omega arith) A (by (past i₁ c (n .1) (λ x l u y z. omega arith) k s₁ h₁)) (λ k c. c) C in
         let own-record : Minus (Minus own i₂ j) i₁ i₂ (m .at) = ((o (m .at) (omega arith) (omega arith), λ l u. omega arith), λ l u. omega arith) in
         let parts : Parts (Minus (Minus own i₂ j) i₁ i₂) (Only (m .at)) (Minus own i (i + size (call m c es))) =
@@ -185,7 +185,7 @@ module _ (classes : List ℕ) (T : List Row) (P : Presumption) (bottom : List (L
           apart = λ x z q. z .1 (omega arith) (omega arith);
         } in
         ended i (i + size (call m c es)) (omega arith) (omega arith) X (by (call-changes m c es f s₂ (λ q l u. omega arith)))
-        (at-height (p .height) (calmly parts (X .finds) (λ free. call-changes m c es f s₂ (λ q. refl)))) (λ k z. counts-quietly (parts .kept) z (call-quietly m c es f s₂))
+        (at-height (p .site .height) (calmly parts (X .finds) (λ free. call-changes m c es f s₂ (λ q. refl)))) (λ k z. counts-quietly (parts .kept) z (call-quietly m c es f s₂))
         (λ z ag. r-call (z .0) (z .1)
         (λ r. sym t ∙ call-row m c es f s₂ (C .finds .tables .blank (m .at) own-record) (C .finds .tables .rows (m .at) own-record) (getD T (m .at) Blank)
         (ag .at (m .at) (omega arith) (omega arith)) r))
@@ -202,10 +202,10 @@ module _ (classes : List ℕ) (T : List Row) (P : Presumption) (bottom : List (L
         (by (mutate-changes (x .name) s₂ ⨾ read-changes classes x _ (λ l u. omega arith))) (λ k c. c) X)
         (λ z. r-set (z .0) (z .1 .is) (z .1 .means))
 
-    pub visits-in : (i : ℕ) (ts : Trees) → Nums i ts → definesIn ts ≡ [] → (f : Flags) → f .tail ≡ false → {own : ℕ → Type 0} {before : List Use} {p : Place} {s : State} → f .height ≡ p .height
+    pub visits-in : (i : ℕ) (ts : Trees) → Nums i ts → definesIn ts ≡ [] → (f : Flags) → f .tail ≡ false → {own : ℕ → Type 0} {before : List Use} {p : Place} {s : State} → f .height ≡ p .site .height
         → Covers own i (i + sizes ts) → Finds own bottom before p s → visitArguments classes ts f s .noted .nine ≡ none
         → Done classes T P bottom (Minus own i (i + sizes ts)) before p (walkArguments ts p) i (i + sizes ts) (visitArguments classes ts f s)
-        (Args T P (ctxOf (p .scope)) (p .layer) (p .height) ts) (λ n. Counts own n s)
+        (Args T P (ctxOf (p .scope)) (p .site .layer) (p .site .height) ts) (λ n. Counts own n s)
     visits-in i nil n d f t {before = before} h o g e =
         record {
           finds = with-uses (sym (append-nil before)) (fewer (λ x z. z .0) g);
@@ -222,15 +222,15 @@ module _ (classes : List ℕ) (T : List Row) (P : Presumption) (bottom : List (L
         let j = k + sizes ts in
         let A = visits i c (n .0) (none-left (defines c) (definesIn ts) d) f false t h (λ x l u. o x (omega arith) (omega arith)) g e₁ in
         let R = visits-in k ts (n .1) (none-right (defines c) (definesIn ts) d) (pushed f) t (omega arith) (λ x l u. (o x (omega arith) (omega arith), λ y z. omega arith))
-        (at-height (p .height + 1) (A .finds)) e in
+        (at-height (p .site .height + 1) (A .finds)) e in
         let X = both i j (omega arith) (omega arith) (omega arith) (omega arith) A
         (by (arguments-visited classes ts (pushed f) s₁ (trees-writes _ k ts (n .1) (λ x l u y z. omega arith)) h₁)) (λ k c. c) R in
         ended i (i + sizes (cons c ts)) (omega arith) (omega arith) X (by same)
-        (at-height (p .height) (fewer (λ x z. ((z .0, λ l u. z .1 (omega arith) (omega arith)), λ l u. z .1 (omega arith) (omega arith))) (X .finds)))
+        (at-height (p .site .height) (fewer (λ x z. ((z .0, λ l u. z .1 (omega arith) (omega arith)), λ l u. z .1 (omega arith) (omega arith))) (X .finds)))
         (λ k c. counts-fewer (λ x z. ((z .0, λ l u. z .1 (omega arith) (omega arith)), λ l u. z .1 (omega arith) (omega arith))) c)
-        (λ z ag. a-cons (z .0) (subst (λ (k : ℕ). Args T P (ctxOf (p .scope)) (p .layer) k ts) (add-one (p .height)) (z .1)))
+        (λ z ag. a-cons (z .0) (subst (λ (k : ℕ). Args T P (ctxOf (p .scope)) (p .site .layer) k ts) (add-one (p .site .height)) (z .1)))
 
-    visits-tested : (i : ℕ) (q : Bool) (m : Node) (ts : Trees) → Nums i ts → definesIn ts ≡ [] → (f : Flags) (b : Bool) → f .tail ≡ b → {own : ℕ → Type 0} {before : List Use} {p : Place} {s : State} → f .height ≡ p .height
+    visits-tested : (i : ℕ) (q : Bool) (m : Node) (ts : Trees) → Nums i ts → definesIn ts ≡ [] → (f : Flags) (b : Bool) → f .tail ≡ b → {own : ℕ → Type 0} {before : List Use} {p : Place} {s : State} → f .height ≡ p .site .height
         → Covers own i (i + sizes ts) → Finds own bottom before p s → visitTested classes ts f s .noted .nine ≡ none
         → Done classes T P bottom (Minus own i (i + sizes ts)) before p (walkAll ts p) i (i + sizes ts) (visitTested classes ts f s)
         (RecAt p b (sequence (whens q m) ts)) (λ n. Counts own n s)
@@ -260,10 +260,10 @@ module _ (classes : List ℕ) (T : List Row) (P : Presumption) (bottom : List (L
         (by (children-visited classes ts (inBegin f) s₁ (trees-writes _ k ts (n .1) (λ x l u y z. omega arith)) h₁)) (λ k c. c) R)
         (λ z. r-when (z .0) (z .1))) e
 
-    pub visits-all : (i : ℕ) (ts : Trees) → Nums i ts → definesIn ts ≡ [] → (f : Flags) (b : Bool) → f .tail ≡ b → {own : ℕ → Type 0} {before : List Use} {p : Place} {s : State} → f .height ≡ p .height
+    pub visits-all : (i : ℕ) (ts : Trees) → Nums i ts → definesIn ts ≡ [] → (f : Flags) (b : Bool) → f .tail ≡ b → {own : ℕ → Type 0} {before : List Use} {p : Place} {s : State} → f .height ≡ p .site .height
         → Covers own i (i + sizes ts) → Finds own bottom before p s → visitChildren classes ts f s .noted .nine ≡ none
         → Done classes T P bottom (Minus own i (i + sizes ts)) before p (walkAll ts p) i (i + sizes ts) (visitChildren classes ts f s)
-        (Seq T P (ctxOf (p .scope)) (p .layer) (p .height) b ts) (λ n. Counts own n s)
+        (Seq T P (ctxOf (p .scope)) (p .site .layer) (p .site .height) b ts) (λ n. Counts own n s)
     visits-all i nil n d f b t {before = before} h o g e =
         record {
           finds = with-uses (sym (append-nil before)) (fewer (λ x z. z .0) g);
@@ -273,7 +273,7 @@ module _ (classes : List ℕ) (T : List Row) (P : Presumption) (bottom : List (L
         }
     visits-all i (cons c nil) n d f b t {own} {before} {p} {s} h o g e =
         let C = visits i c (n .0) (none-left (defines c) [] d) (childFlags true f) b t h (λ x l u. o x (omega arith) (omega arith)) g e in
-        subst (λ (l : List Event). Done classes T P bottom (Minus own i (i + sizes (cons c nil))) before p l i (i + sizes (cons c nil)) (visit classes c (childFlags true f) s) (Seq T P (ctxOf (p .scope)) (p .layer) (p .height) b (cons c nil)) (λ n. Counts own n s))
+        subst (λ (l : List Event). Done classes T P bottom (Minus own i (i + sizes (cons c nil))) before p l i (i + sizes (cons c nil)) (visit classes c (childFlags true f) s) (Seq T P (ctxOf (p .scope)) (p .site .layer) (p .site .height) b (cons c nil)) (λ n. Counts own n s))
         (sym (append-nil (walk c p)))
         (closed i (i + sizes (cons c nil)) (omega arith) (omega arith) (λ x z. (z .0, λ l u. z .1 (omega arith) (omega arith))) C s-one)
     visits-all i (cons c (cons u us)) n d f b t {own} {before} {p} {s} h o g e =

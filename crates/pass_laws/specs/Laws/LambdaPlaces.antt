@@ -8,8 +8,8 @@ use Rattle.tree.specs.Tree.{Tree, Trees, ident, const, if, letin, define, lambd
 use Rattle.tree.specs.Core.{core, cores}
 use Rattle.tree.specs.Laws.Core.{to-core}
 use Rattle.tree.specs.Define.{_⊕_, topOf, topLevel}
+use Rattle.tree.specs.Site.{lambdas, lambdasIn}
 use Rattle.tree.specs.Accepted.{All}
-use Rattle.r7rs.specs.Binding.{lambdas, lambdasIn}
 use Rattle.pass_laws.specs.Static.{letDepth}
 use Rattle.pass_laws.specs.Laws.All.{all-++, all-of, all-map, all-zip}
 use Rattle.pass_laws.specs.Laws.Tops.{Spread, spread-end}

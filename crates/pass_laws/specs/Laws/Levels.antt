@@ -190,7 +190,7 @@ module _ (L : ℕ → ℕ) where
         let k₃ = k₂ + sizes es in
         let j = k + size (letin m xs es b) in
         let q = letBody (length xs) p in
-        let names = known-binders true (p .height) q 0 k₁ xs (n .2)
+        let names = known-binders true (p .site .height) q 0 k₁ xs (n .2)
         (λ i l u. omega (arith, h i (omega arith) (omega arith), levels-out k₂ es (n .3) i (λ x y. omega arith), level-out k₃ b (n .4) i (λ x y. omega arith)))
         in
         let known = known-names (letNames xs p) (p .scope) names a in

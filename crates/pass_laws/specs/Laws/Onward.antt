@@ -106,7 +106,7 @@ other-held {E} {b = b} i e n h =
     }
 
 -- the entry of a name above the bottom is there
-held-in : {E : List Entry} {before : List Use} {b : Binder} → 2 ≤ b .layer → Held E before b → b .ident .at < length E
+held-in : {E : List Entry} {before : List Use} {b : Binder} → 2 ≤ b .home .layer → Held E before b → b .ident .at < length E
 held-in {E} {b = b} two h = go (decLt (b .ident .at) (length E))
   where
     go : Dec (b .ident .at < length E) → b .ident .at < length E
@@ -137,7 +137,8 @@ module _ {i : ℕ} {inner assigned : Bool} {before after : List Use} (u : UsedAt
   pub still-unused : {x : ℕ} → ¬ (x ≡ i) → Unused before x → Unused after x
   still-unused n v = record { captured = sym (captured-other n) ∙ v .captured; mutated = sym (mutated-other n) ∙ v .mutated }
 
-  pub use-held : (E : List Entry) (e : Entry) → UsedAs inner assigned (entryIn E i) e → (b : Binder) → 2 ≤ b .layer → Held E before b → Held (set E i e) after b
+  pub use-held : (E : List Entry) (e : Entry) → UsedAs inner assigned (entryIn E i) e → (b : Binder) → 2 ≤ b .home .layer → Held E before b
+      → Held (set E i e) after b
   use-held E e q b two h = go (ℕ-discrete (b .ident .at) i)
     where
       go : Dec (b .ident .at ≡ i) → Held (set E i e) after b

@@ -39,7 +39,7 @@ pub data Reads (own : ℕ → Type 0) (E : List Entry) (before : List Use) (p : 
 
 module _ {own : ℕ → Type 0} {bottom : List (Live Ident)} {before : List Use} {p : Place} {s : State} (f : Finds own bottom before p s) where
   -- the rule for an entry, which is that of a name in scope
-  rule-bound : (x : ℕ) (b : Binder) (d : ℕ) (i : Bool) → Around (p .layer) (p .around) b → Stands own (s .scope .entries) before b → d ≡ b .layer
+  rule-bound : (x : ℕ) (b : Binder) (d : ℕ) (i : Bool) → Around (p .site .layer) (p .around) b → Stands own (s .scope .entries) before b → d ≡ b .home .layer
       → ltb (length (b .around)) (length (p .around)) ≡ i
       → Reads own (s .scope .entries) before p bottom x (some b)
       (cond (eqb d 1) (depthOne (b .ident)) (cond (eqb d (depth s)) (currentLayer (b .ident)) (captureRule (b .ident) (get (s .captures) x))))
@@ -48,7 +48,7 @@ module _ {own : ℕ → Type 0} {bottom : List (Live Ident)} {before : List Use}
       rw (ne-eqb d 1 (λ z. omega (arith, a .above)), ne-eqb d (depth s) (λ z. omega (arith, deep f, a .outer i)), f .captures) (reads-outer k i)
   rule-bound x b d false a k h i = rw (ne-eqb d 1 (λ z. omega (arith, a .above)), eq-eqb d (depth s) (h ∙ a .own i ∙ sym (deep f))) (reads-own k i)
 
-  rule-for : (x : ℕ) {o : Option Binder} → Of (λ b. Around (p .layer) (p .around) b × Stands own (s .scope .entries) before b) o → (q : Option (Live Ident)) → getIn bottom x ≡ q
+  rule-for : (x : ℕ) {o : Option Binder} → Of (λ b. Around (p .site .layer) (p .around) b × Stands own (s .scope .entries) before b) o → (q : Option (Live Ident)) → getIn bottom x ≡ q
       → Got (Global own (s .scope .entries)) q → Reads own (s .scope .entries) before p bottom x o (entryRule s x (binderIn (liveIn o q)))
   rule-for x of-none none e g = reads-none (ap binderIn e)
   rule-for x of-none (some l) e (got-some g) = rw (eq-eqb _ 1 (g .depth)) (reads-global (ap binderIn e) (g .apart))

@@ -24,7 +24,7 @@ use Rattle.pass_laws.specs.Laws.Sets.{setAt}
 -- The scope of the static meaning is R7RS's
 
 abbrev pub boundOf : Binder → Bound
-boundOf b = record { binder = b .ident; depth = b .layer; slot = b .slot }
+boundOf b = record { binder = b .ident; depth = b .home .layer; slot = b .home .slot }
 
 abbrev pub ctxOf : List Binder → Ctx
 ctxOf [] = []
@@ -44,11 +44,11 @@ find-ctx (b ∷ sc) x = go (eqb (b .ident .name) x) (find-ctx sc x)
 
 -- names that enter from the slot s on
 pub enter-ctx : (isLet : Bool) (base : ℕ) (p : Place) (j : ℕ) (xs : List Ident) (s : ℕ) → s ≡ base + j → (sc : List Binder)
-    → ctxOf (reverseAux (binders isLet base p j xs) sc) ≡ enterAll xs (p .layer) s (ctxOf sc)
+    → ctxOf (reverseAux (binders isLet base p j xs) sc) ≡ enterAll xs (p .site .layer) s (ctxOf sc)
 unfolding binders
 enter-ctx isLet base p j [] s e sc = refl
 enter-ctx isLet base p j (x ∷ xs) s e sc =
-    enter-ctx isLet base p (suc j) xs (suc s) (omega arith) _ ∙ ap (λ (k : ℕ). enterAll xs (p .layer) (suc s) (record { binder = x; depth = p .layer; slot = k } ∷ ctxOf sc)) (sym e)
+    enter-ctx isLet base p (suc j) xs (suc s) (omega arith) _ ∙ ap (λ (k : ℕ). enterAll xs (p .site .layer) (suc s) (record { binder = x; depth = p .site .layer; slot = k } ∷ ctxOf sc)) (sym e)
 
 -- References
 
@@ -72,7 +72,7 @@ own-kind before m b i = rw i (go (usedInside (b .ident .at) before && (m .isSet 
 outer-kind : (before : List Use) (m : Mention) (b : Binder) → isInner m b ≡ true → kindOf before m b ≡ Captured
 outer-kind before m b i = rw i
 
-refers : {T : List Row} {i d : ℕ} {k : IdentifierStatus} (b : Binder) (t : Tells T i k (b .ident .id) d (b .slot)) → Refers d (t .fact) (boundOf b)
+refers : {T : List Row} {i d : ℕ} {k : IdentifierStatus} (b : Binder) (t : Tells T i k (b .ident .id) d (b .home .slot)) → Refers d (t .fact) (boundOf b)
 refers b t = record { depth = t .depth; refers = t .refers; slot = t .slot }
 
 module _ (classes : List ℕ) (T : List Row) (cell : Ident → Option Ident) where
@@ -81,39 +81,39 @@ module _ (classes : List ℕ) (T : List Row) (cell : Ident → Option Ident) whe
   cell-fact x layer (some d) t = record { fact = t .fact; is = t .is; means = ap isCell (t .kind) }
 
   module _ (P : Presumption) (before : List Use) (x : Ident) (p : Place) where
-    ref-bound : (b : Binder) → SaysOf classes T cell before (readAt x p) (some b) → Around (p .layer) (p .around) b → Presumed P (readAt x p) (some b)
-        → Fact T (x .at) (λ v. Ref T P (p .layer) v (some (boundOf b)))
+    ref-bound : (b : Binder) → SaysOf classes T cell before (readAt x p) (some b) → Around (p .site .layer) (p .around) b → Presumed P (readAt x p) (some b)
+        → Fact T (x .at) (λ v. Ref T P (p .site .layer) v (some (boundOf b)))
     ref-bound b t a u = record { fact = t .fact; is = t .is; means = go (isInner (readAt x p) b) refl }
       where
-        go : (i : Bool) → isInner (readAt x p) b ≡ i → Ref T P (p .layer) (t .fact) (some (boundOf b))
+        go : (i : Bool) → isInner (readAt x p) b ≡ i → Ref T P (p .site .layer) (t .fact) (some (boundOf b))
         go true i = ref-outer (t .kind ∙ outer-kind before (readAt x p) b i) (refers b t) (a .above) (a .outer i) (u .readInside refl i)
         go false i = ref-own (ap isOwn (t .kind) ∙ own-kind before (readAt x p) b i) (refers b t) (a .own i)
 
-    pub ref-of : {o : Option Binder} → SaysOf classes T cell before (readAt x p) o → Of (Around (p .layer) (p .around)) o → Presumed P (readAt x p) o
-        → Fact T (x .at) (λ v. Ref T P (p .layer) v (boundIn o))
+    pub ref-of : {o : Option Binder} → SaysOf classes T cell before (readAt x p) o → Of (Around (p .site .layer) (p .around)) o → Presumed P (readAt x p) o
+        → Fact T (x .at) (λ v. Ref T P (p .site .layer) v (boundIn o))
     ref-of t of-none u =
-        let c = cell-fact x (p .layer) (cell x) t in
+        let c = cell-fact x (p .site .layer) (cell x) t in
         record { fact = c .fact; is = c .is; means = ref-cell (c .means) }
     ref-of t (of-some {b} a) u = ref-bound b t a u
 
-    aim-bound : (b : Binder) → SaysOf classes T cell before (setAt x p) (some b) → Around (p .layer) (p .around) b → Presumed P (setAt x p) (some b)
-        → Fact T (x .at) (λ v. Aim T P (p .layer) v (some (boundOf b)))
+    aim-bound : (b : Binder) → SaysOf classes T cell before (setAt x p) (some b) → Around (p .site .layer) (p .around) b → Presumed P (setAt x p) (some b)
+        → Fact T (x .at) (λ v. Aim T P (p .site .layer) v (some (boundOf b)))
     aim-bound b t a u = record { fact = t .fact; is = t .is; means = go (isInner (setAt x p) b) refl }
       where
-        go : (i : Bool) → isInner (setAt x p) b ≡ i → Aim T P (p .layer) (t .fact) (some (boundOf b))
+        go : (i : Bool) → isInner (setAt x p) b ≡ i → Aim T P (p .site .layer) (t .fact) (some (boundOf b))
         go true i = aim-outer (t .kind ∙ outer-kind before (setAt x p) b i) (refers b t) (a .above) (a .outer i) (u .setInside refl i)
         go false i = aim-own (ap isOwn (t .kind) ∙ own-kind before (setAt x p) b i) (refers b t) (a .own i) (u .setOwn refl i)
 
-    pub aim-of : {o : Option Binder} → SaysOf classes T cell before (setAt x p) o → Of (Around (p .layer) (p .around)) o → Presumed P (setAt x p) o
-        → Fact T (x .at) (λ v. Aim T P (p .layer) v (boundIn o))
+    pub aim-of : {o : Option Binder} → SaysOf classes T cell before (setAt x p) o → Of (Around (p .site .layer) (p .around)) o → Presumed P (setAt x p) o
+        → Fact T (x .at) (λ v. Aim T P (p .site .layer) v (boundIn o))
     aim-of t of-none u =
-        let c = cell-fact x (p .layer) (cell x) t in
+        let c = cell-fact x (p .site .layer) (cell x) t in
         record { fact = c .fact; is = c .is; means = aim-cell (c .means) }
     aim-of t (of-some {b} a) u = aim-bound b t a u
 
 -- the rows of names tell their depth
 pub noted-of : (classes : List ℕ) (T : List Row) (cell : Ident → Option Ident) (before : List Use) (isLet : Bool) (base : ℕ) (p : Place) (j : ℕ) (xs : List Ident) (sc : List Binder)
-    → Says classes T cell before (entering (binders isLet base p j xs) sc) → Noted T (p .layer) xs
+    → Says classes T cell before (entering (binders isLet base p j xs) sc) → Noted T (p .site .layer) xs
 unfolding binders entering
 noted-of classes T cell before isLet base p j [] sc t = noted-nil
 noted-of classes T cell before isLet base p j (x ∷ xs) sc t =

@@ -114,13 +114,13 @@ module _ (classes : List ℕ) (T : List Row) (cell : Ident → Option Ident) whe
   SaysCell x layer none = Tells T (x .at) (cond (isPrelude classes (x .name)) Global Free) NONE layer NONE
 
   abbrev pub SaysOf : List Use → Mention → Option Binder → Type 0
-  SaysOf before m none = SaysCell (m .ident) (m .place .layer) (cell (m .ident))
-  SaysOf before m (some b) = Tells T (m .ident .at) (kindOf before m b) (b .ident .id) (m .place .layer) (b .slot)
+  SaysOf before m none = SaysCell (m .ident) (m .place .site .layer) (cell (m .ident))
+  SaysOf before m (some b) = Tells T (m .ident .at) (kindOf before m b) (b .ident .id) (m .place .site .layer) (b .home .slot)
 
   -- along the walk
   abbrev pub Says : List Use → List Event → Type 0
   Says before [] = Unit {0}
-  Says before (enters b sc ∷ l) = Tells T (b .ident .at) (binderKind b) NONE (b .layer) NONE × Says before l
+  Says before (enters b sc ∷ l) = Tells T (b .ident .at) (binderKind b) NONE (b .home .layer) NONE × Says before l
   Says before (mentions m ∷ l) = SaysOf before m (meant m) × Says (before ++ useOf m (meant m)) l
   Says before (ends i xs sc ∷ l) = Says before l
 
@@ -139,7 +139,7 @@ says-cell classes T c d before (enters b sc ∷ l) e p = (p .0, says-cell classe
 says-cell classes T c d before (mentions m ∷ l) e p = (go (meant m) (p .0), says-cell classes T c d (before ++ useOf m (meant m)) l (e .1) (p .1))
   where
     go : (o : Option Binder) → SaysOf classes T c before m o → SaysOf classes T d before m o
-    go none q = subst (SaysCell classes T c (m .ident) (m .place .layer)) (e .0) q
+    go none q = subst (SaysCell classes T c (m .ident) (m .place .site .layer)) (e .0) q
     go (some b) q = q
 says-cell classes T c d before (ends i xs sc ∷ l) e p = says-cell classes T c d before l e p
 

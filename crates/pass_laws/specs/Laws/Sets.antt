@@ -49,7 +49,7 @@ module _ {own : ℕ → Type 0} {bottom : List (Live Ident)} {before : List Use}
       })
       (p .scope) (all-zip _ _ (p .scope) (f .around) (f .stands))
 
-  sets : {o : Option Binder} {q : Option (Live Ident)} → Of (λ b. Around (p .layer) (p .around) b × Stands own (s .scope .entries) before b) o
+  sets : {o : Option Binder} {q : Option (Live Ident)} → Of (λ b. Around (p .site .layer) (p .around) b × Stands own (s .scope .entries) before b) o
       → Got (Global own (s .scope .entries)) q → Finds own bottom (before ++ mutation x o) p (mutateAt (binderIn (liveIn o q)) s)
   unfolding insert amend putEntry
   sets of-none got-none = rw append-nil f
@@ -104,7 +104,7 @@ module _ (x : Ident) (p : Place) (before : List Use) where
   set-says : (classes : List ℕ) (T : List Row) (cell : Ident → Option Ident) (o : Option Binder) → SaysOf classes T cell (before ++ mutation x o) (readAt x p) o
       → SaysOf classes T cell before (setAt x p) o
   set-says classes T cell none e = e
-  set-says classes T cell (some b) e = subst (λ (k : IdentifierStatus). Tells T (x .at) k (b .ident .id) (p .layer) (b .slot)) (set-kind b) e
+  set-says classes T cell (some b) e = subst (λ (k : IdentifierStatus). Tells T (x .at) k (b .ident .id) (p .site .layer) (b .home .slot)) (set-kind b) e
 
 -- the target of a set!, after its expression
 module _ (classes : List ℕ) {own left : ℕ → Type 0} {bottom : List (Live Ident)} {before : List Use} {p : Place} {s : State} (x : Ident)

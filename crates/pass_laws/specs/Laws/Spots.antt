@@ -11,6 +11,7 @@ use lib.Dec.{eqb}
 use Rattle.tree.specs.Tree.{Ident, Tree, Trees, ident, const, if, letin, define, lambda, sequence, call, set!, nil, cons, many, size, sizes, NumNames, Num, Nums}
 use Rattle.tree.specs.Laws.Tree.{size-pos}
 use Rattle.tree.specs.Define.{topLevel}
+use Rattle.tree.specs.Site.{homeAt}
 use Rattle.tree.specs.Accepted.{All}
 use Rattle.r7rs.specs.Binding.{Binder, Place, Mention, Event, enters, mentions, ends, raised, lambdaBody, letBody, binders, parameters, letNames, within, mentionsIn, bindersIn, entering, walk, walkArguments, walkAll, events, top}
 use Rattle.r7rs.specs.Bottom.{Define, defineOf, definesOf}
@@ -101,7 +102,7 @@ once-names : (isLet : Bool) (base : ℕ) (q : Place) (k j : ℕ) (xs : List Iden
 unfolding NumNames binders entering
 once-names isLet base q k j [] sc n = once-none k (k + 0)
 once-names isLet base q k j (x ∷ xs) sc n =
-    let b : Binder = record { ident = x; isLet = isLet; place = j; slot = base + j; layer = q .layer; around = q .around } in
+    let b : Binder = record { ident = x; isLet = isLet; place = j; around = q .around; home = homeAt (q .site) (base + j) } in
     once-as _ (λ y. omega arith) (once-both k (k + length (x ∷ xs)) (omega (arith, n .0)) (omega (arith, n .0)) (omega arith) (omega arith) (λ y l u v z. omega (arith, n .0))
     (once-at (x .at)) (once-names isLet base q (k + 1) (suc j) xs (b ∷ sc) (n .1)))
 
@@ -124,7 +125,7 @@ mutual
       let naming = entering (letNames xs p) (p .scope) in
       once-as _ (λ y. omega (arith, names-append (walkArguments es p) (naming ++ walk b q) y, names-append naming (walk b q) y))
       (once-both k j (omega arith) (omega arith) (omega arith) (omega arith) (λ y l u v z. omega arith) (once-both {f = namesAt naming} k₁ (k₂ + sizes es) (omega arith) (omega arith) (omega arith) (omega arith) (λ y l u v z. omega arith)
-      (once-names true (p .height) (letBody (length xs) p) k₁ 0 xs (p .scope) (n .2)) (once-in k₂ es (n .3) p)) (once (k₂ + sizes es) b (n .4) q))
+      (once-names true (p .site .height) (letBody (length xs) p) k₁ 0 xs (p .scope) (n .2)) (once-in k₂ es (n .3) p)) (once (k₂ + sizes es) b (n .4) q))
   once k (define m x b) n p = once-wide k (k + size (define m x b)) (omega arith) (omega arith) (once (k + 2) b (n .2) p)
   once k (lambda m xs b) n p =
       let j = k + size (lambda m xs b) in

@@ -53,7 +53,7 @@ module _ (ps : List ℕ) (s : State) where
       → capturedIn ps s (livesOf (reverseAux (binders isLet base q j xs) sc) bottom) ≡ capturedIn ps s (livesOf sc bottom)
   unfolding binders
   parameters-out isLet base q j [] sc bottom m = refl
-  parameters-out isLet base q j (x ∷ xs) sc bottom m = parameters-out isLet base q (suc j) xs _ bottom (m .1) ∙ named-out (q .layer) x (livesOf sc bottom) (m .0)
+  parameters-out isLet base q j (x ∷ xs) sc bottom m = parameters-out isLet base q (suc j) xs _ bottom (m .1) ∙ named-out (q .site .layer) x (livesOf sc bottom) (m .0)
 
   pub bottom-out : (l : List (Live Ident)) → All (λ (e : Live Ident). e .layer ≤ 1) l → capturedIn ps s l ≡ []
   unfolding capturedIn
@@ -100,10 +100,10 @@ find-past isLet base q j (y ∷ ys) sc x h =
 -- The count
 
 module _ {own : ℕ → Type 0} {bottom : List (Live Ident)} {before : List Use} {seen : List Mention} {s : State} (base : ℕ) (q : Place) (xs : List Ident) (sc : List Binder)
-    (f : Finds own bottom before (record { scope = reverseAux (binders false base q 0 xs) sc; around = q .around; layer = q .layer; height = q .height }) s)
+    (f : Finds own bottom before (record { scope = reverseAux (binders false base q 0 xs) sc; around = q .around; site = q .site }) s)
     (k : Seen own before seen (reverseAux (binders false base q 0 xs) sc)) where
   abbrev In : Binder → Type 0
-  In b = (2 ≤ b .layer) × (entryAt s (b .ident .at) .captured ≡ any (isInnerOf b) seen)
+  In b = (2 ≤ b .home .layer) × (entryAt s (b .ident .at) .captured ≡ any (isInnerOf b) seen)
 
   abbrev Held : Binder → Type 0
   Held b = Stands own (s .scope .entries) before b × (usedInside (b .ident .at) before ≡ any (isInnerOf b) seen)
@@ -113,7 +113,7 @@ module _ {own : ℕ → Type 0} {bottom : List (Live Ident)} {before : List Use}
       let inner = reverseAux (binders false base q 0 xs) sc in
       let held = all-zip _ Held inner (f .around) (all-zip _ _ inner (f .stands) (k .said)) in
       all-rest In (binders false base q 0 xs) sc
-      (all-map {P = λ b. Around (q .layer) (q .around) b × Held b} {Q = In} (λ b h. (h .0 .above, h .1 .0 .held .captured ∙ h .1 .1)) inner held)
+      (all-map {P = λ b. Around (q .site .layer) (q .around) b × Held b} {Q = In} (λ b h. (h .0 .above, h .1 .0 .held .captured ∙ h .1 .1)) inner held)
 
   abbrev ps : List ℕ
   ps = map nameIn xs
@@ -143,7 +143,7 @@ module _ {own : ℕ → Type 0} {bottom : List (Live Ident)} {before : List Use}
       let b = g .binder in
       let l = capturedIn ps s (livesOf rest bottom) in
       let here = added-length (hasName (c .ident .name) xs) (any (isInnerOf b) seen) (newest s (c .ident .name)) b l (newest-of c b (g .is)) (g .holds .1) in
-      rw (lt-ltb 1 (c .layer) (a .0 .0 .0), member-name (c .ident .name) xs, g .is) (here ∙ ap (λ (n : ℕ). bit (not (hasName (c .ident .name) xs) && any (isInnerOf b) seen) + n) (count rest (a .1)))
+      rw (lt-ltb 1 (c .home .layer) (a .0 .0 .0), member-name (c .ident .name) xs, g .is) (here ∙ ap (λ (n : ℕ). bit (not (hasName (c .ident .name) xs) && any (isInnerOf b) seen) + n) (count rest (a .1)))
 
   pub captured-length : length (capturedVars ps s) ≡ listLength seen xs sc sc
   unfolding capturedVars

@@ -105,7 +105,7 @@ entered {left = left} {before} {seen} {s} isLet base q xs sc w o u p k v =
 -- a lambda ends
 pub ended : {own left : ℕ → Type 0} {bottom : List (Live Ident)} {before : List Use} {seen : List Mention} {s : State} (n : Node) (xs : List Ident) (b : Tree) (escapes : Bool)
     (q : Place) (sc : List Binder) → ((x : ℕ) → left x → own x) → rowAt s (n .at) ≡ Blank
-    → Finds own bottom before (record { scope = reverseAux (binders false 0 q 0 xs) sc; around = q .around; layer = q .layer; height = q .height }) s
+    → Finds own bottom before (record { scope = reverseAux (binders false 0 q 0 xs) sc; around = q .around; site = q .site }) s
     → Seen own before seen (reverseAux (binders false 0 q 0 xs) sc) → Counts left before seen (ends (n .at) xs sc ∷ []) sc s (closeLambda n xs b escapes s)
 unfolding tenFrom
 ended {before = before} {seen} {s} n xs b escapes q sc w r f v =

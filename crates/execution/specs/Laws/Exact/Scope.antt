@@ -8,6 +8,7 @@ use native.Mathlib.Omega.{arith}
 use borrow.Author.Tests.{lt-ltb, ne-eqb}
 use lib.Dec.{eqb}
 use Rattle.tree.specs.Tree.{Ident}
+use Rattle.tree.specs.Site.{homeAt}
 use Rattle.scope_map.specs.ScopeMap.{ScopeMap, Live, hasIn, hasAtTop}
 use Rattle.semantic.specs.Rows.{ListEntry}
 use Rattle.semantic.specs.declared.IdentifierStatus.{IdentifierStatus}
@@ -72,14 +73,15 @@ unfolding hasIn
 low-absent d x [] h w = refl
 low-absent d x (e ∷ l) h w = rw (ne-eqb (e .layer) d (λ q. omega (arith, w .0))) (low-absent d x l h (w .1))
 
-live-has : (b : Binder) (sc : List Binder) (bottom : List (Live Ident)) → 2 ≤ b .layer → Within 1 bottom
-    → hasIn (b .layer) (b .ident .name) (livesOf sc bottom) ≡ isLive b sc
+live-has : (b : Binder) (sc : List Binder) (bottom : List (Live Ident)) → 2 ≤ b .home .layer → Within 1 bottom
+    → hasIn (b .home .layer) (b .ident .name) (livesOf sc bottom) ≡ isLive b sc
 unfolding hasIn isLive
-live-has b [] bottom h w = low-absent (b .layer) (b .ident .name) bottom h w
-live-has b (c ∷ sc) bottom h w = ap (λ (q : Bool). (eqb (c .layer) (b .layer) && eqb (c .ident .name) (b .ident .name)) || q) (live-has b sc bottom h w)
+live-has b [] bottom h w = low-absent (b .home .layer) (b .ident .name) bottom h w
+live-has b (c ∷ sc) bottom h w =
+    ap (λ (q : Bool). (eqb (c .home .layer) (b .home .layer) && eqb (c .ident .name) (b .ident .name)) || q) (live-has b sc bottom h w)
 
 pub entered-lives : (isLet : Bool) (base : ℕ) (p : Place) (j : ℕ) (xs : List Ident) (sc : List Binder) (bottom : List (Live Ident))
-    → enteredIn (p .layer) xs (livesOf sc bottom) ≡ livesOf (reverseAux (binders isLet base p j xs) sc) bottom
+    → enteredIn (p .site .layer) xs (livesOf sc bottom) ≡ livesOf (reverseAux (binders isLet base p j xs) sc) bottom
 unfolding binders
 entered-lives isLet base p j [] sc bottom = refl
 entered-lives isLet base p j (x ∷ xs) sc bottom = entered-lives isLet base p (suc j) xs _ bottom
@@ -108,15 +110,15 @@ module _ (kind : IdentifierStatus) (base : ℕ) (heaps : Option ℕ) (before : L
   name-nine false x j h s l n = enter-nine x _ s l n
 
   -- names enter at the place p, from the place i among the names of their lambda or let on
-  module _ (isLet : Bool) (slot : ℕ) (p : Place) (two : 2 ≤ p .layer) (bottom : List (Live Ident)) (low : Within 1 bottom) where
-    pub names-nine : (xs : List Ident) (i j h : ℕ) (s : State) (sc : List Binder) → names s ≡ inLayer (p .layer) (livesOf sc bottom) → s .noted .nine ≡ none
-        → enterNames kind base heaps before xs j h s .noted .nine ≡ nineIn (entering (binders isLet slot p i xs) sc)
+  module _ (isLet : Bool) (slot : ℕ) (p : Place) (two : 2 ≤ p .site .layer) (bottom : List (Live Ident)) (low : Within 1 bottom) where
+    pub names-nine : (xs : List Ident) (i j h : ℕ) (s : State) (sc : List Binder) → names s ≡ inLayer (p .site .layer) (livesOf sc bottom)
+        → s .noted .nine ≡ none → enterNames kind base heaps before xs j h s .noted .nine ≡ nineIn (entering (binders isLet slot p i xs) sc)
     unfolding enterNames binders entering nineIn
     names-nine [] i j h s sc e n = n
     names-nine (x ∷ xs) i j h s sc e n = go (isLive b sc) refl (λ m k. names-nine xs (suc i) (suc j) _ t (b ∷ sc) m k)
       where
         b : Binder
-        b = record { ident = x; isLet = isLet; place = i; slot = slot + i; layer = p .layer; around = p .around }
+        b = record { ident = x; isLet = isLet; place = i; around = p .around; home = homeAt (p .site) (slot + i) }
 
         t : State
         t = enterName kind base heaps before (isHeap before j) x j h s
@@ -133,7 +135,7 @@ module _ (kind : IdentifierStatus) (base : ℕ) (heaps : Option ℕ) (before : L
             ∙ ap (λ (q : Bool). cond q (some (x .at)) none) (ap (λ (m : ScopeMap Ident). hasAtTop m (x .name)) e ∙ live-has b sc bottom two low)
 
         go : (q : Bool) → isLive b sc ≡ q
-            → (names t ≡ inLayer (p .layer) (livesOf (b ∷ sc) bottom) → t .noted .nine ≡ none → rest t ≡ nineIn (entering (binders isLet slot p (suc i) xs) (b ∷ sc)))
+            → (names t ≡ inLayer (p .site .layer) (livesOf (b ∷ sc) bottom) → t .noted .nine ≡ none → rest t ≡ nineIn (entering (binders isLet slot p (suc i) xs) (b ∷ sc)))
             → rest t ≡ cond q (some (x .at)) (nineIn (entering (binders isLet slot p (suc i) xs) (b ∷ sc)))
         go true q k =
             keeps-noted (names-changes kind base heaps before xs (suc j) _ t (names-any xs)) .firstNine (x .at) (here ∙ ap (λ (q : Bool). cond q (some (x .at)) none) q)

@@ -10,6 +10,7 @@ use borrow.Author.Tests.{eqb-true, eq-eqb, ne-eqb}
 use lib.ListN.{length, getD}
 use lib.Dec.{eqb, ltb}
 use Rattle.tree.specs.Tree.{Ident}
+use Rattle.tree.specs.Site.{homeAt}
 use Rattle.tree.specs.Accepted.{All}
 use Rattle.scope_map.specs.ScopeMap.{Live}
 use Rattle.r7rs.specs.Binding.{Binder, Place, Mention, Event, enters, mentions, ends, binders, entering, meant, isInner, Use, useOf}
@@ -116,7 +117,7 @@ module _ {own left : ℕ → Type 0} {before : List Use} {seen : List Mention} (
   unfolding binders
   seen-in isLet base q j [] sc o u k = seen-fewer k
   seen-in isLet base q j (x ∷ xs) sc o u k =
-      let b : Binder = record { ident = x; isLet = isLet; place = j; slot = base + j; layer = q .layer; around = q .around } in
+      let b : Binder = record { ident = x; isLet = isLet; place = j; around = q .around; home = homeAt (q .site) (base + j) } in
       seen-in isLet base q (suc j) xs (b ∷ sc) (o .1) u (record { unseen = k .unseen; said = (u (x .at) (o .0) ∙ sym (k .unseen b (o .0)), k .said) })
 
 -- other uses that are the same
@@ -144,7 +145,7 @@ same-test x y = go (ℕ-discrete x y)
     go (no n) = ne-eqb x y n ∙ sym (ne-eqb y x (λ e. n (sym e)))
 
 -- of two names around a place that are bound in one layer, a mention there is inner of both or of none
-same-inner : {layer : ℕ} {lambdas : List ℕ} (b c : Binder) → Around layer lambdas b → Around layer lambdas c → b .layer ≡ c .layer
+same-inner : {layer : ℕ} {lambdas : List ℕ} (b c : Binder) → Around layer lambdas b → Around layer lambdas c → b .home .layer ≡ c .home .layer
     → ltb (length (b .around)) (length lambdas) ≡ ltb (length (c .around)) (length lambdas)
 same-inner {layer} {lambdas} b c p q e = go (ltb (length (b .around)) (length lambdas)) (ltb (length (c .around)) (length lambdas)) refl refl
   where
@@ -160,7 +161,7 @@ module _ {own : ℕ → Type 0} {bottom : List (Live Ident)} {before : List Use}
   at = record { ident = x; isSet = isSet; place = p }
 
   abbrev InScope : Binder → Type 0
-  InScope b = Around (p .layer) (p .around) b × Stands own (s .scope .entries) before b
+  InScope b = Around (p .site .layer) (p .around) b × Stands own (s .scope .entries) before b
 
   mention-said : {o : Option Binder} → Of InScope o → (b : Binder) → InScope b → usedInside (b .ident .at) before ≡ any (isInnerOf b) seen
       → usedInside (b .ident .at) (before ++ (useOf at o ++ [])) ≡ (isInner at b && isIt b o) || any (isInnerOf b) seen

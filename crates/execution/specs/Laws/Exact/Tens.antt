@@ -43,7 +43,7 @@ presumed = record { readInside = λ x. Unit {0}; setOwn = λ x. Unit {0}; setIns
 module _ (classes : List ℕ) (bottom : List (Live Ident)) where
   -- What a visit leaves to the next
 
-  module _ {own : ℕ → Type 0} {before : List Use} {p : Place} {s : State} (i : ℕ) (f : Flags) (h : f .height ≡ p .height) where
+  module _ {own : ℕ → Type 0} {before : List Use} {p : Place} {s : State} (i : ℕ) (f : Flags) (h : f .height ≡ p .site .height) where
     pub found : (t : Tree) → Num i t → defines t ≡ [] → Covers own i (i + size t) → Finds own bottom before p s → visit classes t f s .noted .nine ≡ none
         → Finds (Minus own i (i + size t)) bottom (before ++ usesIn (walk t p)) p (visit classes t f s)
     found t n d o g e = visits classes [] presumed bottom i t n d f (f .tail) refl h o g e .finds
@@ -56,7 +56,7 @@ module _ (classes : List ℕ) (bottom : List (Live Ident)) where
   mutual
     unfolding visit walk defines Num size
 
-    pub tens : (i : ℕ) (t : Tree) → Num i t → defines t ≡ [] → (f : Flags) {own : ℕ → Type 0} {before : List Use} {seen : List Mention} {p : Place} {s : State} → f .height ≡ p .height
+    pub tens : (i : ℕ) (t : Tree) → Num i t → defines t ≡ [] → (f : Flags) {own : ℕ → Type 0} {before : List Use} {seen : List Mention} {p : Place} {s : State} → f .height ≡ p .site .height
         → Covers own i (i + size t) → Finds own bottom before p s → Seen own before seen (p .scope) → visit classes t f s .noted .nine ≡ none
         → Counts (Minus own i (i + size t)) before seen (walk t p) (p .scope) s (visit classes t f s)
     tens i (ident x) n d f {s = s} h o g w e =
@@ -114,7 +114,7 @@ module _ (classes : List ℕ) (bottom : List (Live Ident)) where
         let g₃ : Finds (Minus own i₂ i₃) bottom (before ++ usesIn (walkArguments es p)) p s₃ = calmly no-part g₂ (λ free. context (s .context)) in
         let N = bodies.into-let classes {left = Minus (Minus own i₂ i₃) i₁ i₂} m i₁ xs (n .2) names-left
         (o (m .at) (omega arith) (omega arith), λ y z. omega arith) (λ y z. z .0) (λ y z l u. z .1 l u) g₃ (f .height) h (f .function) e₄ in
-        let E = entered {left = Minus (Minus own i₂ i₃) i₁ i₂} true (p .height) q xs (p .scope) (λ y z. z .0) (names-writes (Minus own i₂ i₃) i₁ xs (n .2) names-left) (λ x z. g₃ .unused x z .captured)
+        let E = entered {left = Minus (Minus own i₂ i₃) i₁ i₂} true (p .site .height) q xs (p .scope) (λ y z. z .0) (names-writes (Minus own i₂ i₃) i₁ xs (n .2) names-left) (λ x z. g₃ .unused x z .captured)
         (open-let-preserves plain-steps m xs (f .height) (f .function) s₃) entering-noted (A .met) in
         let g₄ = with-uses (uses-entering (before ++ usesIn (walkArguments es p)) (letNames xs p) (p .scope)) (N .finds) in
         let C = tens i₃ c (n .4) (none-right (definesIn es) (defines c) d) k (omega (arith, n .1)) o₃ g₄ (E .met) e₅ in
@@ -172,7 +172,7 @@ module _ (classes : List ℕ) (bottom : List (Live Ident)) where
         let o₂ : Covers own i₂ j = λ x l u. o x (omega arith) (omega arith) in
         let o₁ : Covers (Minus own i₂ j) i₁ i₂ = λ x l u. (o x (omega arith) (omega arith), λ y z. omega arith) in
         let A = tens-in i₂ es (n .2) es-none (argumentFlags f) refl h o₂ g w e₁ in
-        let g₁ = at-height (p .height + many es) (found-in i₂ (argumentFlags f) h es (n .2) es-none refl o₂ g e₁) in
+        let g₁ = at-height (p .site .height + many es) (found-in i₂ (argumentFlags f) h es (n .2) es-none refl o₂ g e₁) in
         let C = tens i₁ c (n .1) (none-left (defines c) (definesIn es) d) k (omega arith) o₁ g₁ (A .met) e₂ in
         out [] (p .scope) (λ x z. ((z .0, λ l u. z .1 (omega arith) (omega arith)), λ l u. z .1 (omega arith) (omega arith))) (both A C) (call-preserves plain-steps m c es f s₂) last
     tens i (set! m x c) n d f {own} {before} {seen} {p} {s} h o g w e =
@@ -189,7 +189,7 @@ module _ (classes : List ℕ) (bottom : List (Live Ident)) where
         (preceded (clear-preserves plain-steps x s) (keeps-noted (clear-changes {free = ⊥} {own = Any} x s)) (both C X))
 
     pub tens-in : (i : ℕ) (ts : Trees) → Nums i ts → definesIn ts ≡ [] → (f : Flags) → f .tail ≡ false → {own : ℕ → Type 0} {before : List Use} {seen : List Mention} {p : Place} {s : State}
-        → f .height ≡ p .height → Covers own i (i + sizes ts) → Finds own bottom before p s → Seen own before seen (p .scope) → visitArguments classes ts f s .noted .nine ≡ none
+        → f .height ≡ p .site .height → Covers own i (i + sizes ts) → Finds own bottom before p s → Seen own before seen (p .scope) → visitArguments classes ts f s .noted .nine ≡ none
         → Counts (Minus own i (i + sizes ts)) before seen (walkArguments ts p) (p .scope) s (visitArguments classes ts f s)
     tens-in i nil n d f b h o g w e = fewer (λ y z. z .0) (nothing plain no-later w)
     tens-in i (cons c ts) n d f b {own} {before} {seen} {p} {s} h o g w e =
@@ -201,12 +201,12 @@ module _ (classes : List ℕ) (bottom : List (Live Ident)) where
         let c-none = none-left (defines c) (definesIn ts) d in
         let o₁ : Covers own i k = λ x l u. o x (omega arith) (omega arith) in
         let A = tens i c (n .0) c-none f h o₁ g w e₁ in
-        let g₁ = at-height (p .height + 1) (found i f h c (n .0) c-none o₁ g e₁) in
+        let g₁ = at-height (p .site .height + 1) (found i f h c (n .0) c-none o₁ g e₁) in
         let R = tens-in k ts (n .1) (none-right (defines c) (definesIn ts) d) (pushed f) b (omega arith) (λ x l u. (o x (omega arith) (omega arith), λ y z. omega arith)) g₁ (A .met) e in
         fewer (λ x z. ((z .0, λ l u. z .1 (omega arith) (omega arith)), λ l u. z .1 (omega arith) (omega arith))) (both A R)
 
     tens-tested : (i : ℕ) (ts : Trees) → Nums i ts → definesIn ts ≡ [] → (f : Flags) {own : ℕ → Type 0} {before : List Use} {seen : List Mention} {p : Place} {s : State}
-        → f .height ≡ p .height → Covers own i (i + sizes ts) → Finds own bottom before p s → Seen own before seen (p .scope) → visitTested classes ts f s .noted .nine ≡ none
+        → f .height ≡ p .site .height → Covers own i (i + sizes ts) → Finds own bottom before p s → Seen own before seen (p .scope) → visitTested classes ts f s .noted .nine ≡ none
         → Counts (Minus own i (i + sizes ts)) before seen (walkAll ts p) (p .scope) s (visitTested classes ts f s)
     tens-tested i nil n d f h o g w e = fewer (λ y z. z .0) (nothing plain no-later w)
     tens-tested i (cons c ts) n d f {own} {before} {seen} {p} {s} h o g w e =
@@ -229,7 +229,7 @@ module _ (classes : List ℕ) (bottom : List (Live Ident)) where
         fewer (λ x z. ((z .0, λ l u. z .1 (omega arith) (omega arith)), λ l u. z .1 (omega arith) (omega arith))) (both A R)) e
 
     pub tens-all : (i : ℕ) (ts : Trees) → Nums i ts → definesIn ts ≡ [] → (f : Flags) {own : ℕ → Type 0} {before : List Use} {seen : List Mention} {p : Place} {s : State}
-        → f .height ≡ p .height → Covers own i (i + sizes ts) → Finds own bottom before p s → Seen own before seen (p .scope) → visitChildren classes ts f s .noted .nine ≡ none
+        → f .height ≡ p .site .height → Covers own i (i + sizes ts) → Finds own bottom before p s → Seen own before seen (p .scope) → visitChildren classes ts f s .noted .nine ≡ none
         → Counts (Minus own i (i + sizes ts)) before seen (walkAll ts p) (p .scope) s (visitChildren classes ts f s)
     tens-all i nil n d f h o g w e = fewer (λ y z. z .0) (nothing plain no-later w)
     tens-all i (cons c ts) n d f {own} {before} {seen} {p} {s} h o g w e =

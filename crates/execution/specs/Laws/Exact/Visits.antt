@@ -96,17 +96,17 @@ scoped-one : {d : ℕ} {sc : List Binder} {m : ScopeMap Ident} → Scoped d sc m
 scoped-one st = omega (arith, st .layered .one, ap (λ (j : ScopeMap Ident). j .depth) (st .live))
 
 -- names have entered
-entered-scoped : (isLet : Bool) (slot : ℕ) (p q : Place) (xs : List Ident) (m : ScopeMap Ident) {k : ScopeMap Ident} (st : Scoped (p .layer) (p .scope) m) → p .layer ≤ q .layer
-    → k ≡ inLayer (q .layer) (enteredIn (q .layer) xs (m .live)) → Scoped (q .layer) (reverseAux (binders isLet slot q 0 xs) (p .scope)) k
+entered-scoped : (isLet : Bool) (slot : ℕ) (p q : Place) (xs : List Ident) (m : ScopeMap Ident) {k : ScopeMap Ident} (st : Scoped (p .site .layer) (p .scope) m) → p .site .layer ≤ q .site .layer
+    → k ≡ inLayer (q .site .layer) (enteredIn (q .site .layer) xs (m .live)) → Scoped (q .site .layer) (reverseAux (binders isLet slot q 0 xs) (p .scope)) k
 entered-scoped isLet slot p q xs m st h e =
     record {
       bottom = st .bottom;
       low = st .low;
-      live = e ∙ ap (inLayer (q .layer)) (ap (λ (j : ScopeMap Ident). enteredIn (q .layer) xs (j .live)) (st .live) ∙ entered-lives isLet slot q 0 xs (p .scope) (st .bottom));
-      layered = entered-layered (q .layer) xs m e (omega (arith, ap (λ (j : ScopeMap Ident). j .depth) (st .live))) (st .layered);
+      live = e ∙ ap (inLayer (q .site .layer)) (ap (λ (j : ScopeMap Ident). enteredIn (q .site .layer) xs (j .live)) (st .live) ∙ entered-lives isLet slot q 0 xs (p .scope) (st .bottom));
+      layered = entered-layered (q .site .layer) xs m e (omega (arith, ap (λ (j : ScopeMap Ident). j .depth) (st .live))) (st .layered);
     }
 
-parameters-nine : (o : Option FunctionInformation) (n : Node) (xs : List Ident) (p : Place) (s : State) → Scoped (p .layer) (p .scope) (names s) → s .noted .nine ≡ none
+parameters-nine : (o : Option FunctionInformation) (n : Node) (xs : List Ident) (p : Place) (s : State) → Scoped (p .site .layer) (p .scope) (names s) → s .noted .nine ≡ none
     → enterParameters o xs (openScope (openCaptures o s)) .noted .nine ≡ nineIn (entering (parameters n xs p) (p .scope))
 unfolding enterParameters openScope
 parameters-nine o n xs p s st e = go o refl
@@ -117,13 +117,13 @@ parameters-nine o n xs p s st e = go o refl
     side : Beside s (openCaptures o s)
     side = captures-beside o s
 
-    opened : pushLayer (names (openCaptures o s)) ≡ inLayer (suc (p .layer)) (livesOf (p .scope) (st .bottom))
+    opened : pushLayer (names (openCaptures o s)) ≡ inLayer (suc (p .site .layer)) (livesOf (p .scope) (st .bottom))
     opened = ap pushLayer (ap (λ (c : Scope). c .names) (side .scope) ∙ st .live)
 
     fine : openCaptures o s .noted .nine ≡ none
     fine = ap (λ (n : Noted). n .nine) (side .noted) ∙ e
 
-    two : 2 ≤ suc (p .layer)
+    two : 2 ≤ suc (p .site .layer)
     two = omega (arith, scoped-one st)
 
     go : (f : Option FunctionInformation) → o ≡ f → enterParameters f xs (openScope (openCaptures o s)) .noted .nine ≡ nineIn (entering (parameters n xs p) (p .scope))
@@ -139,8 +139,8 @@ unfolding closeScope
 end-later n xs b escapes s = keeps-noted (leave-changes {own = Any} n xs b escapes s tt)
 
 lambda-notes : (n : Node) (xs : List Ident) (b : Tree) (escapes : Bool) (p : Place) (s : State) {t : State} {l : List Event} → 1 ≤ depth s
-    → (1 ≤ depth (openLambda n xs s) → Notes (suc (p .layer)) (reverseAux (parameters n xs p) (p .scope)) l (openLambda n xs s) t)
-    → Notes (p .layer) (p .scope) (entering (parameters n xs p) (p .scope) ++ (l ++ (ends (n .at) xs (p .scope) ∷ []))) s (closeLambda n xs b escapes t)
+    → (1 ≤ depth (openLambda n xs s) → Notes (suc (p .site .layer)) (reverseAux (parameters n xs p) (p .scope)) l (openLambda n xs s) t)
+    → Notes (p .site .layer) (p .scope) (entering (parameters n xs p) (p .scope) ++ (l ++ (ends (n .at) xs (p .scope) ∷ []))) s (closeLambda n xs b escapes t)
 unfolding openLambda nineIn
 lambda-notes n xs b escapes p s {t} {l} h q =
     let k = q (omega (arith, lambda-depth n xs s h)) in
@@ -182,7 +182,7 @@ opened-layer : {d : ℕ} {sc : List Binder} (m : ScopeMap Ident) → Scoped d sc
 opened-layer m st =
     let-deep (m .depth) (eqb (m .depth) 1) refl ∙ ap (λ (j : ScopeMap Ident). cond (eqb (j .depth) 1) 2 (j .depth)) (st .live)
 
-let-nine : (n : Node) (xs : List Ident) (height : ℕ) (function : Option Node) (p : Place) (s : State) → Scoped (p .layer) (p .scope) (names s) → s .noted .nine ≡ none
+let-nine : (n : Node) (xs : List Ident) (height : ℕ) (function : Option Node) (p : Place) (s : State) → Scoped (p .site .layer) (p .scope) (names s) → s .noted .nine ≡ none
     → openLet n xs height function s .noted .nine ≡ nineIn (entering (letNames xs p) (p .scope))
 unfolding openLet
 let-nine n xs height function p s st e =
@@ -190,8 +190,8 @@ let-nine n xs height function p s st e =
     let one = scoped-one st in
     let opened = open-names (atBottom s) s
     ∙ ap (λ (d : ℕ). inLayer d (names s .live)) (opened-layer (names s) st)
-    ∙ ap (λ (j : ScopeMap Ident). inLayer (q .layer) (j .live)) (st .live) in
-    names-nine _ _ _ _ true (p .height) q (two-deep (p .layer) (eqb (p .layer) 1) refl one) (st .bottom) (st .low) xs 0 0 0 _ (p .scope) opened (open-nine (atBottom s) s ∙ e)
+    ∙ ap (λ (j : ScopeMap Ident). inLayer (q .site .layer) (j .live)) (st .live) in
+    names-nine _ _ _ _ true (p .site .height) q (two-deep (p .site .layer) (eqb (p .site .layer) 1) refl one) (st .bottom) (st .low) xs 0 0 0 _ (p .scope) opened (open-nine (atBottom s) s ∙ e)
 
 leaving-nine : (xs : List Ident) (s : State) → leaveNames xs s .noted .nine ≡ s .noted .nine
 unfolding leaveNames
@@ -209,8 +209,8 @@ let-end-nine b n xs height function s =
     close-nine b _ ∙ quiet (make-changes {own = Any} (rowAt s (n .at)) n (entered xs s) height function (leaveNames xs s) tt) .nine ∙ leaving-nine xs s
 
 let-notes : (b : Bool) (n : Node) (xs : List Ident) (height : ℕ) (function : Option Node) (p : Place) (s : State) {t : State} {l : List Event} → b ≡ atBottom s → 1 ≤ depth s
-    → (1 ≤ depth (openLet n xs height function s) → Notes (letBody (length xs) p .layer) (reverseAux (letNames xs p) (p .scope)) l (openLet n xs height function s) t)
-    → Notes (p .layer) (p .scope) (entering (letNames xs p) (p .scope) ++ l) s (closeLet b n xs height function t)
+    → (1 ≤ depth (openLet n xs height function s) → Notes (letBody (length xs) p .site .layer) (reverseAux (letNames xs p) (p .scope)) l (openLet n xs height function s) t)
+    → Notes (p .site .layer) (p .scope) (entering (letNames xs p) (p .scope) ++ l) s (closeLet b n xs height function t)
 let-notes b n xs height function p s {t} {l} a h q =
     let k = q (let-stays n xs height function s h) in
     record {
@@ -221,7 +221,7 @@ let-notes b n xs height function p s {t} {l} a h q =
           (λ m.
           let one = scoped-one st in
           let en = open-let n xs height function s h m .after ∙ ap (λ (d : ℕ). inLayer d (enteredIn d xs (names s .live))) (opened-layer (names s) st) in
-          k .nine (entered-scoped true (p .height) p (letBody (length xs) p) xs (names s) st (let-layer (p .layer) one) en) m)
+          k .nine (entered-scoped true (p .site .height) p (letBody (length xs) p) xs (names s) st (let-layer (p .site .layer) one) en) m)
           (keeps-noted (k .restores .changes));
     }
 
@@ -229,7 +229,8 @@ module _ (classes : List ℕ) where
   mutual
     unfolding visit defines walk nineIn
 
-    pub notes : (t : Tree) (f : Flags) (p : Place) (s : State) → defines t ≡ [] → 1 ≤ depth s → Notes (p .layer) (p .scope) (walk t p) s (visit classes t f s)
+    pub notes : (t : Tree) (f : Flags) (p : Place) (s : State) → defines t ≡ [] → 1 ≤ depth s
+        → Notes (p .site .layer) (p .scope) (walk t p) s (visit classes t f s)
     notes (ident x) f p s e h = none-noted refl (read-restores classes x s) (read-nine classes x s)
     notes (const n q) f p s e h = none-noted refl (calm (λ free. same)) refl
     notes (if n a b c) f p s e h =
@@ -246,7 +247,7 @@ module _ (classes : List ℕ) where
     notes (define n x b) f p s e h = absurd (cons-ne-nil (n .at) (defines b) e)
     notes (lambda n xs b) f p s e h = lambda-notes n xs b (f .escape) p s h (λ k. notes b (bodyFlags n (length xs) f) (within (parameters n xs p) (lambdaBody n (length xs) p)) _ e k)
     notes (sequence (begins n) es) f p s e h =
-        subst (λ (u : State). Notes (p .layer) (p .scope) (walkAll es p) s (visitChildren classes es (inBegin f) u)) (sym (none-entered classes es s e))
+        subst (λ (u : State). Notes (p .site .layer) (p .scope) (walkAll es p) s (visitChildren classes es (inBegin f) u)) (sym (none-entered classes es s e))
         (notes-children es (inBegin f) p s e h)
     notes (sequence (ands n) es) f p s e h = notes-children es (inAnd (isAlone es) f) p s e h
     notes (sequence (whens b n) es) f p s e h = notes-tested es f p s e h
@@ -258,22 +259,22 @@ module _ (classes : List ℕ) where
         then h q (λ k. none-noted refl (live.then k (mutate-restores (x .name) _) (λ j. read-restores classes x _)) (read-nine classes x _ ∙ mutate-nine (x .name) _))
 
     pub notes-arguments : (ts : Trees) (f : Flags) (p : Place) (s : State) → definesIn ts ≡ [] → 1 ≤ depth s
-        → Notes (p .layer) (p .scope) (walkArguments ts p) s (visitArguments classes ts f s)
+        → Notes (p .site .layer) (p .scope) (walkArguments ts p) s (visitArguments classes ts f s)
     notes-arguments nil f p s e h = none-noted refl (calm (λ free. same)) refl
     notes-arguments (cons t ts) f p s e h =
         then h (notes t f p s (none-left (defines t) (definesIn ts) e) h) (λ k. notes-arguments ts (pushed f) (raised 1 p) _ (none-right (defines t) (definesIn ts) e) k)
 
     pub notes-children : (ts : Trees) (f : Flags) (p : Place) (s : State) → definesIn ts ≡ [] → 1 ≤ depth s
-        → Notes (p .layer) (p .scope) (walkAll ts p) s (visitChildren classes ts f s)
+        → Notes (p .site .layer) (p .scope) (walkAll ts p) s (visitChildren classes ts f s)
     notes-children nil f p s e h = none-noted refl (calm (λ free. same)) refl
     notes-children (cons t ts) f p s e h =
         then h (notes t (childFlags (isNil ts) f) p s (none-left (defines t) (definesIn ts) e) h) (λ k. notes-children ts f p _ (none-right (defines t) (definesIn ts) e) k)
 
     notes-tested : (ts : Trees) (f : Flags) (p : Place) (s : State) → definesIn ts ≡ [] → 1 ≤ depth s
-        → Notes (p .layer) (p .scope) (walkAll ts p) s (visitTested classes ts f s)
+        → Notes (p .site .layer) (p .scope) (walkAll ts p) s (visitTested classes ts f s)
     notes-tested nil f p s e h = none-noted refl (calm (λ free. same)) refl
     notes-tested (cons t ts) f p s e h =
         let g = none-right (defines t) (definesIn ts) e in
         let s₁ = visit classes t (notTail f) s in
-        subst (λ (u : State). Notes (p .layer) (p .scope) (walkAll (cons t ts) p) s (visitChildren classes ts (inBegin f) u)) (sym (none-entered classes ts s₁ g))
+        subst (λ (u : State). Notes (p .site .layer) (p .scope) (walkAll (cons t ts) p) s (visitChildren classes ts (inBegin f) u)) (sym (none-entered classes ts s₁ g))
         (then h (notes t (notTail f) p s (none-left (defines t) (definesIn ts) e) h) (λ k. notes-children ts (inBegin f) p s₁ g k))

@@ -51,8 +51,8 @@ shared U k = usedInside k U && isSetIn k U
 
 -- The entry of a name in scope
 pub record HeldAs (U : List Use) (e : Entry) (b : Binder) : Type 0 where
-  pub depth : e .depth ≡ b .layer
-  pub slot : e .stackOffset ≡ cond (shared U (b .ident .at)) (b .place) (b .slot)
+  pub depth : e .depth ≡ b .home .layer
+  pub slot : e .stackOffset ≡ cond (shared U (b .ident .at)) (b .place) (b .home .slot)
   pub heap : shared U (b .ident .at) ≡ true → (e .captured ≡ true) × (e .mutated ≡ true)
   pub captured : e .captured ≡ true → usedInside (b .ident .at) U ≡ true
   pub mutated : e .mutated ≡ true → isSetIn (b .ident .at) U ≡ true
@@ -74,7 +74,7 @@ pub record Stands (U : List Use) (own : ℕ → Type 0) (E : List Entry) (b : Bi
   pub apart : own (b .ident .at) → ⊥
 
 -- an entry is put
-pub set-held : {U : List Use} (E : List Entry) (i : ℕ) (e : Entry) (b : Binder) → 2 ≤ b .layer → HeldAs U (entryIn E (b .ident .at)) b
+pub set-held : {U : List Use} (E : List Entry) (i : ℕ) (e : Entry) (b : Binder) → 2 ≤ b .home .layer → HeldAs U (entryIn E (b .ident .at)) b
     → (b .ident .at ≡ i → HeldAs U e b)
     → HeldAs U (entryIn (set E i e) (b .ident .at)) b
 set-held {U} E i e b two h g = go (ℕ-discrete (b .ident .at) i) (decLt (b .ident .at) (length E))
@@ -232,28 +232,28 @@ module _ (S : Script) where
     pub arguments : s .facts .arguments ≡ S .A
     pub inside : FunctionIn (S .T) own function s
     pub captures : Catch (S .C) fr d old s
-    pub one : 1 ≤ p .layer
-    pub live : names s ≡ inLayer (p .layer) (livesOf (p .scope) bottom)
-    pub around : All (Around (p .layer) (p .around)) (p .scope)
+    pub one : 1 ≤ p .site .layer
+    pub live : names s ≡ inLayer (p .site .layer) (livesOf (p .scope) bottom)
+    pub around : All (Around (p .site .layer) (p .around)) (p .scope)
     pub stands : All (Stands (S .U) own (s .scope .entries)) (p .scope)
 
   module _ {own : ℕ → Type 0} {bottom : List (Live Ident)} {function : Option Node} {fr : Option Frame} {d : ℕ} {old : Lives} {p : Place} {s : State}
       (f : Again own bottom function fr d old p s) where
-    pub again-deep : depth s ≡ p .layer
+    pub again-deep : depth s ≡ p .site .layer
     again-deep = ap (λ (m : ScopeMap Ident). m .depth) (f .live)
 
     pub again-layered : Layered (names s)
     again-layered =
-        let w = within-bottom (p .layer) (f .one) own (s .scope .entries) bottom (f .tables .globals) in
-        let l : Layered (inLayer (p .layer) (livesOf (p .scope) bottom)) = record {
+        let w = within-bottom (p .site .layer) (f .one) own (s .scope .entries) bottom (f .tables .globals) in
+        let l : Layered (inLayer (p .site .layer) (livesOf (p .scope) bottom)) = record {
           one = f .one;
-          within = within-lives (p .layer) (f .one) (p .around)
+          within = within-lives (p .site .layer) (f .one) (p .around)
               (p .scope) (f .around) bottom w;
         } in
         subst Layered (sym (f .live)) l
 
     pub record SearchAgain (x : ℕ) : Type 0 where
-      pub meant : Of (λ b. Around (p .layer) (p .around) b × Stands (S .U) own (s .scope .entries) b) (find (p .scope) x)
+      pub meant : Of (λ b. Around (p .site .layer) (p .around) b × Stands (S .U) own (s .scope .entries) b) (find (p .scope) x)
       pub global : Got (Global own (s .scope .entries)) (getIn bottom x)
       pub found : getIn (names s .live) x ≡ liveIn (find (p .scope) x) (getIn bottom x)
 

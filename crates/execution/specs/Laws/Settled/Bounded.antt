@@ -13,6 +13,7 @@ use Rattle.tree.specs.Tree as tree
 use Rattle.tree.specs.Tree.{Ident, Node, Tree, Trees, ident, const, if, letin, define, lambda, sequence, call, set!, nil, cons}
 use Rattle.semantic.specs.Rows.{Row, ListEntry}
 use Rattle.pass_laws.specs.Laws.Layers.{or-false}
+use Rattle.tree.specs.Site.{homeAt}
 use Rattle.tree.specs.Accepted.{All}
 use Rattle.pass_laws.specs.Laws.Finds.{Of, of-some, find-all}
 use Rattle.pass_laws.specs.Laws.Says.{usesIn, usedInside, isSetIn}
@@ -68,7 +69,7 @@ find-outer : (isLet : Bool) (base : ℕ) (q : Place) (j : ℕ) (xs : List Ident)
 unfolding binders
 find-outer isLet base q j [] sc x b e i = e
 find-outer isLet base q j (y ∷ ys) sc x b e i =
-    let c : Binder = record { ident = y; isLet = isLet; place = j; slot = base + j; layer = q .layer; around = q .around } in
+    let c : Binder = record { ident = y; isLet = isLet; place = j; around = q .around; home = homeAt (q .site) (base + j) } in
     go c refl (eqb (y .name) x) (find-outer isLet base q (suc j) ys (c ∷ sc) x b e i)
   where
     go : (c : Binder) → c .around ≡ q .around → (z : Bool) → cond z (some c) (find sc x) ≡ some b → find sc x ≡ some b
@@ -89,7 +90,7 @@ named-own : (isLet : Bool) (base : ℕ) (q : Place) (j : ℕ) (xs : List Ident) 
 unfolding binders
 named-own isLet base q j [] sc x b e i = refl
 named-own isLet base q j (y ∷ ys) sc x b e i =
-    let c : Binder = record { ident = y; isLet = isLet; place = j; slot = base + j; layer = q .layer; around = q .around } in
+    let c : Binder = record { ident = y; isLet = isLet; place = j; around = q .around; home = homeAt (q .site) (base + j) } in
     let rest = named-own isLet base q (suc j) ys (c ∷ sc) x b e i in
     rw rest (go c refl (eqb x (y .name)) refl (sym (find-past isLet base q (suc j) ys (c ∷ sc) x rest) ∙ e))
   where
@@ -112,7 +113,7 @@ times-more : (isLet : Bool) (base : ℕ) (q : Place) (j : ℕ) (xs : List Ident)
 unfolding binders timesIn
 times-more isLet base q j [] sc x = omega arith
 times-more isLet base q j (y ∷ ys) sc x =
-    let c : Binder = record { ident = y; isLet = isLet; place = j; slot = base + j; layer = q .layer; around = q .around } in
+    let c : Binder = record { ident = y; isLet = isLet; place = j; around = q .around; home = homeAt (q .site) (base + j) } in
     let rest = times-more isLet base q (suc j) ys (c ∷ sc) x in
     go (eqb (y .name) x) rest
   where
@@ -125,7 +126,7 @@ times-named : (isLet : Bool) (base : ℕ) (q : Place) (j : ℕ) (xs : List Ident
 unfolding binders timesIn
 times-named isLet base q j [] sc x h = absurd (true≢false (sym h))
 times-named isLet base q j (y ∷ ys) sc x h =
-    let c : Binder = record { ident = y; isLet = isLet; place = j; slot = base + j; layer = q .layer; around = q .around } in
+    let c : Binder = record { ident = y; isLet = isLet; place = j; around = q .around; home = homeAt (q .site) (base + j) } in
     go (eqb x (y .name)) refl h (times-more isLet base q (suc j) ys (c ∷ sc) x) (λ k. times-named isLet base q (suc j) ys (c ∷ sc) x k)
   where
     step : {n : ℕ} (b : Bool) → suc (cond b (suc (timesIn x sc)) (timesIn x sc)) ≤ n → suc (timesIn x sc) ≤ n
@@ -185,14 +186,14 @@ module _ (C : List ListEntry) (G : ℕ → List Use) where
       record {
         rest = w .rest;
         around = w .around;
-        outer = λ x b e i. w .outer x b (find-outer true (p .height) q 0 xs (p .scope) x b e i) i;
-        most = λ x. omega (arith, w .most x, times-more true (p .height) q 0 xs (p .scope) x);
-        doubled = λ x b c e i g. doubled-by true (p .height) q xs (p .scope) x (omega (arith, w .most x, times-some x (f .sc) g))
-            (λ h. w .doubled x b c (sym (find-past true (p .height) q 0 xs (p .scope) x h) ∙ e) i g);
+        outer = λ x b e i. w .outer x b (find-outer true (p .site .height) q 0 xs (p .scope) x b e i) i;
+        most = λ x. omega (arith, w .most x, times-more true (p .site .height) q 0 xs (p .scope) x);
+        doubled = λ x b c e i g. doubled-by true (p .site .height) q xs (p .scope) x (omega (arith, w .most x, times-some x (f .sc) g))
+            (λ h. w .doubled x b c (sym (find-past true (p .site .height) q 0 xs (p .scope) x h) ∙ e) i g);
         refuses = λ x b e i u.
-            w .refuses x b (find-outer true (p .height) q 0 xs (p .scope) x b e i) i u
-            ∙ twelve-times G (p .scope) _ x b (p .around) (sym (times-outer true (p .height) q 0 xs (p .scope) x
-            (named-own true (p .height) q 0 xs (p .scope) x b e i)));
+            w .refuses x b (find-outer true (p .site .height) q 0 xs (p .scope) x b e i) i u
+            ∙ twelve-times G (p .scope) _ x b (p .around) (sym (times-outer true (p .site .height) q 0 xs (p .scope) x
+            (named-own true (p .site .height) q 0 xs (p .scope) x b e i)));
         ends = w .ends;
         list = w .list;
       }

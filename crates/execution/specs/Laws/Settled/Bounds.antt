@@ -248,7 +248,7 @@ module _ (E : List Event) where
         let body : Place = within (letNames xs p) (letBody (length xs) p) in
         let o₂ = outside-narrow i₂ i₃ p (omega arith) (omega arith) o in
         let named : (a b : ℕ) → Outside a b p → ((y : ℕ) → i₁ ≤ y → y < i₂ → Off a b y) → Outside a b body =
-        λ a b q d. record { scope = names-off a b true (p .height) (letBody (length xs) p) 0 i₁ xs (n .2) d (p .scope) (q .scope); around = q .around } in
+        λ a b q d. record { scope = names-off a b true (p .site .height) (letBody (length xs) p) 0 i₁ xs (n .2) d (p .scope) (q .scope); around = q .around } in
         let o₃ = outside-narrow i₃ j p (omega arith) (omega arith) o in
         let ent = entering (letNames xs p) (p .scope) in
         let rest = ent ++ walk c body in

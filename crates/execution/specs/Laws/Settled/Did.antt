@@ -42,8 +42,7 @@ pub again-height : (S : Script) {own : ℕ → Type 0} {bottom : List (Live Iden
     → Again S own bottom function fr d old p s → Again S own bottom function fr d old (record {
       scope = p .scope;
       around = p .around;
-      layer = p .layer;
-      height = h;
+      site = record { layer = p .site .layer; height = h };
     }) s
 again-height S h f =
     record {

@@ -56,7 +56,7 @@ key-let (Let v) e = e
 -- the flags of names that leave
 flags : {own : ℕ → Type 0} {bottom : List (Live Ident)} {after : List Use} (isLet : Bool) (base : ℕ) (q : Place) (xs : List Ident) (sc : List Binder)
     (s : State)
-    → Finds own bottom after (record { scope = reverseAux (binders isLet base q 0 xs) sc; around = q .around; layer = q .layer; height = q .height }) s
+    → Finds own bottom after (record { scope = reverseAux (binders isLet base q 0 xs) sc; around = q .around; site = q .site }) s
     → All (λ x. (entryAt s (x .at) .captured ≡ usedInside (x .at) after) × (entryAt s (x .at) .mutated ≡ isSetIn (x .at) after)) xs
 flags isLet base q xs sc s f =
     all-names _ isLet base q 0 xs sc (all-map (λ b k. (k .held .captured, k .held .mutated)) (reverseAux (binders isLet base q 0 xs) sc) (f .stands))
@@ -95,13 +95,13 @@ module _ {T : List Row} {C A : List ListEntry} where
           many = ap (λ (v : ListAt). v .length) (e .argumentsAt) ∙ long;
           names = subst (λ (v : ListAt). NamesKept T C A after (v .first) xs) (sym (e .argumentsAt))
               (names-kept T C A after s (argumentsOf s) xs (arguments-at s a room (e .arguments) (e .argumentsTop) g)
-              (flags true (p .height) (letBody (length xs) p) xs (p .scope) s f));
+              (flags true (p .site .height) (letBody (length xs) p) xs (p .scope) s f));
         };
       }
 
   pub lambda-leaves : {own : ℕ → Type 0} {bottom : List (Live Ident)} {after : List Use} (i : ℕ) (n : Node) (xs : List Ident) (b : Tree) (escapes : Bool)
       (p : Place) (s : State)
-      → n .at ≡ i → own (n .at) → 1 ≤ p .layer → All (Around (p .layer) (p .around)) (p .scope)
+      → n .at ≡ i → own (n .at) → 1 ≤ p .site .layer → All (Around (p .site .layer) (p .around)) (p .scope)
       → Finds own bottom after (within (parameters n xs p) (lambdaBody n (length xs) p)) s
       → Room (length xs) s → closeLambda n xs b escapes s .noted .ten ≡ none
       → Leaves T C A i (i + 1) (length xs) s (closeLambda n xs b escapes s) (LambdaKept T C A (topOf s) (topOf (closeLambda n xs b escapes s)) after n xs
@@ -111,7 +111,7 @@ module _ {T : List Row} {C A : List ListEntry} where
       let l = sortById (capturedVars (map nameIn xs) s) in
       let t = closeLambda n xs b escapes s in
       let a = entered xs s in
-      let listEntries = parameters-entered (p .layer) (p .around) 0 q xs (p .scope) bottom s one refl around (all-map (λ e g. g .layer) bottom (f .tables .globals))
+      let listEntries = parameters-entered (p .site .layer) (p .around) 0 q xs (p .scope) bottom s one refl around (all-map (λ e g. g .layer) bottom (f .tables .globals))
       (f .live) in
       let e : Ended n l a s t = subst (λ (k : List ListEntry). Ended n l k s t) listEntries
       (lambda-ended n xs b escapes s (f .tables .blank (n .at) o) (f .tables .rows (n .at) o) ten) in

@@ -104,7 +104,7 @@ module _ (classes : List ℕ) (S : Script) (bottom : List (Live Ident)) where
         apart = λ x z q. z .1 (omega arith) (omega arith);
       } in
       did-ended i (i + size (call m c es)) (omega arith) (omega arith) XY (by (widen (λ x q l u. omega arith) (steps (Unit {0}))))
-      (again-height S (p .height) (calmly-again S (Y .again) parts steps idle)) (λ r z. idle-list-entry s₂ s₃ idle r) unsaid
+      (again-height S (p .site .height) (calmly-again S (Y .again) parts steps idle)) (λ r z. idle-list-entry s₂ s₃ idle r) unsaid
 
   set-did : (i : ℕ) (m : Node) (x : Ident) (c : Tree) (own : ℕ
       → Type 0) (fn : Option Node) (fr : Option Frame) (d : ℕ) (old : Lives) (p : Place) (s s₁ s₂ s₃ : State) (lo hi : ℕ) → lo ≤ hi → Idle s s₁ → Unsaid s s₁
@@ -141,8 +141,8 @@ module _ (classes : List ℕ) (S : Script) (bottom : List (Live Ident)) where
   -- s₁: the initial expressions are done; u: the body is
   pub let-case : (i : ℕ) (m : Node) (xs : List Ident) (es : Trees) (c : Tree) (height ctx : ℕ) (fn : Option Node) (opened : Bool) (own : ℕ
       → Type 0) (fr : Option Frame) (d : ℕ) (old : Lives) (p : Place)
-      (s s₁ u : State) (lo k hi : ℕ) (after : List Use) → m .at ≡ i → NumNames (i + 1) xs → height ≡ p .height → Covers own i (i + size (letin m xs es c)) → lo
-      ≤ k → k ≤ hi
+      (s s₁ u : State) (lo k hi : ℕ) (after : List Use) → m .at ≡ i → NumNames (i + 1) xs → height ≡ p .site .height → Covers own i (i + size (letin m xs es c))
+      → lo ≤ k → k ≤ hi
       → LetKept (S .T) (S .C) (S .A) after m xs → Closed (S .U) after xs → opened ≡ atBottom (withContext ctx s₁)
       → openLet m xs height fn (withContext ctx s₁) .noted .nine ≡ none
       → Pending (S .C) lo hi s → Above hi fr → FunctionOf (S .T) fn (p .around)
@@ -280,7 +280,7 @@ module _ (classes : List ℕ) (S : Script) (bottom : List (Live Ident)) where
   unfolding size
   call-case i m c es own fn fr d old p s s₁ s₂ s₃ lo k hi l₁ l₂ e o r a first past second steps idle unsaid =
       let X = first (λ v l u. o v (omega arith) (omega arith)) (pending-part lo k r (omega arith) l₂) (above fr l₂ a) in
-      let Y = second (again-height S (p .height + many es) (X .again)) (λ v l u. (o v (omega arith) (omega arith), λ y z. omega arith))
+      let Y = second (again-height S (p .site .height + many es) (X .again)) (λ v l u. (o v (omega arith) (omega arith), λ y z. omega arith))
       (pending-after {C = S .C} s s₁ (pending-part k hi r l₁ (omega arith)) (X .outside) (omega arith)) in
       call-did i m c es own fn fr d old p s s₁ s₂ s₃ lo k hi l₁ l₂ e o X (by (past _ (λ x l u y z. omega arith))) Y steps idle unsaid
 

@@ -48,7 +48,7 @@ module _ (classes : List ℕ) (bottom : List (Live Ident)) (T : List Row) (C A :
     unfolding visit walk defines Num size Kept
 
     pub keeping : (i : ℕ) (t : Tree) → Num i t → defines t ≡ [] → (f : Flags) {own : ℕ → Type 0} {before : List Use} {p : Place} {s : State}
-        → f .height ≡ p .height
+        → f .height ≡ p .site .height
         → Covers own i (i + size t) → Finds own bottom before p s → Room (size t) s → Unnoted (visit classes t f s .noted)
         → Leaves T C A i (i + size t) (size t) s (visit classes t f s) (Kept T C A (topOf s) (topOf (visit classes t f s)) before p t)
     keeping i (ident x) n d f {s = s} h o g r e =
@@ -219,7 +219,7 @@ module _ (classes : List ℕ) (bottom : List (Live Ident)) (T : List Row) (C A :
           few = omega
               (arith, r .few);
         }) e₁ in
-        let g₁ = at-height (p .height + many es) (found-in classes bottom i₂ (argumentFlags f) h es (n .2) es-none refl o₂ g (e₁ .nine)) in
+        let g₁ = at-height (p .site .height + many es) (found-in classes bottom i₂ (argumentFlags f) h es (n .2) es-none refl o₂ g (e₁ .nine)) in
         let r₁ = room-after (size c) r (X .grown) (keeps-lengths v₁) (omega arith) in
         let Y = keeping i₁ c (n .1) (none-left (defines c) (definesIn es) d) k {p = raised (many es) p} (omega arith) o₁ g₁ r₁ e₂ in
         call-kept T C A i before p m c es s s₁ s₂ s₃ X (by (past i₁ c (n .1) (λ x l u y z. omega arith) k s₁ h₁)) Y (call-preserves idle-steps m c es f s₂)
@@ -239,7 +239,8 @@ module _ (classes : List ℕ) (bottom : List (Live Ident)) (T : List Row) (C A :
 
     pub keeping-in : (i : ℕ) (ts : Trees) → Nums i ts → definesIn ts ≡ [] → (f : Flags) → f .tail ≡ false
         → {own : ℕ → Type 0} {before : List Use} {p : Place} {s : State}
-        → f .height ≡ p .height → Covers own i (i + sizes ts) → Finds own bottom before p s → Room (sizes ts) s → Unnoted (visitArguments classes ts f s .noted)
+        → f .height ≡ p .site .height → Covers own i (i + sizes ts) → Finds own bottom before p s → Room (sizes ts) s
+        → Unnoted (visitArguments classes ts f s .noted)
         → Leaves T C A i (i + sizes ts) (sizes ts) s (visitArguments classes ts f s) (KeptIn T C A (topOf s) (topOf (visitArguments classes ts f s)) before p
         ts)
     keeping-in i nil n d f b {s = s} h o g r e = let w = idle-grown 0 s s refl in record { grown = w; kept = λ q. w .top }
@@ -254,7 +255,7 @@ module _ (classes : List ℕ) (bottom : List (Live Ident)) (T : List Row) (C A :
         let c-none = none-left (defines c) (definesIn ts) d in
         let o₁ : Covers own i k = λ x l u. o x (omega arith) (omega arith) in
         let X = keeping i c (n .0) c-none f h o₁ g (record { captured = r .captured; arguments = r .arguments; few = omega (arith, r .few) }) e₁ in
-        let g₁ = at-height (p .height + 1) (found classes bottom i f h c (n .0) c-none o₁ g (e₁ .nine)) in
+        let g₁ = at-height (p .site .height + 1) (found classes bottom i f h c (n .0) c-none o₁ g (e₁ .nine)) in
         let r₁ = room-after (sizes ts) r (X .grown) (keeps-lengths v₁) (omega arith) in
         let Y = keeping-in k ts (n .1) (none-right (defines c) (definesIn ts) d) (pushed f) b {p = raised 1 p} (omega arith)
         (λ x l u. (o x (omega arith) (omega arith), λ y z. omega arith)) g₁ r₁ e in
@@ -262,7 +263,8 @@ module _ (classes : List ℕ) (bottom : List (Live Ident)) (T : List Row) (C A :
         (by (arguments-visited classes ts (pushed f) s₁ (trees-writes _ k ts (n .1) (λ x l u y z. omega arith)) h₁)) Y
 
     keeping-tested : (i : ℕ) (ts : Trees) → Nums i ts → definesIn ts ≡ [] → (f : Flags) {own : ℕ → Type 0} {before : List Use} {p : Place} {s : State}
-        → f .height ≡ p .height → Covers own i (i + sizes ts) → Finds own bottom before p s → Room (sizes ts) s → Unnoted (visitTested classes ts f s .noted)
+        → f .height ≡ p .site .height → Covers own i (i + sizes ts) → Finds own bottom before p s → Room (sizes ts) s
+        → Unnoted (visitTested classes ts f s .noted)
         → Leaves T C A i (i + sizes ts) (sizes ts) s (visitTested classes ts f s) (KeptAll T C A (topOf s) (topOf (visitTested classes ts f s)) before p ts)
     keeping-tested i nil n d f {s = s} h o g r e = let w = idle-grown 0 s s refl in record { grown = w; kept = λ q. w .top }
     keeping-tested i (cons c ts) n d f {own} {before} {p} {s} h o g r e =
@@ -290,7 +292,8 @@ module _ (classes : List ℕ) (bottom : List (Live Ident)) (T : List Row) (C A :
         (by (children-visited classes ts (inBegin f) s₁ (trees-writes _ k ts (n .1) (λ x l u y z. omega arith)) h₁)) Y) e
 
     pub keeping-all : (i : ℕ) (ts : Trees) → Nums i ts → definesIn ts ≡ [] → (f : Flags) {own : ℕ → Type 0} {before : List Use} {p : Place} {s : State}
-        → f .height ≡ p .height → Covers own i (i + sizes ts) → Finds own bottom before p s → Room (sizes ts) s → Unnoted (visitChildren classes ts f s .noted)
+        → f .height ≡ p .site .height → Covers own i (i + sizes ts) → Finds own bottom before p s → Room (sizes ts) s
+        → Unnoted (visitChildren classes ts f s .noted)
         → Leaves T C A i (i + sizes ts) (sizes ts) s (visitChildren classes ts f s) (KeptAll T C A (topOf s) (topOf (visitChildren classes ts f s)) before p ts)
     keeping-all i nil n d f {s = s} h o g r e = let w = idle-grown 0 s s refl in record { grown = w; kept = λ q. w .top }
     keeping-all i (cons c ts) n d f {own} {before} {p} {s} h o g r e =

@@ -80,10 +80,10 @@ count-sorted x (i ∷ l) = count-inserted x i (sortById l) ∙ ap (λ (n : ℕ).
 -- The list of a lambda that ends in the state s
 
 module _ {own : ℕ → Type 0} {bottom : List (Live Ident)} {before : List Use} {s : State} (base : ℕ) (q : Place) (xs : List Ident) (sc : List Binder)
-    (f : Finds own bottom before (record { scope = reverseAux (binders false base q 0 xs) sc; around = q .around; layer = q .layer; height = q .height }) s)
+    (f : Finds own bottom before (record { scope = reverseAux (binders false base q 0 xs) sc; around = q .around; site = q .site }) s)
   where
     record In (b : Binder) : Type 0 where
-      above : 2 ≤ b .layer
+      above : 2 ≤ b .home .layer
       captured : entryAt s (b .ident .at) .captured ≡ usedInside (b .ident .at) before
       mutated : entryAt s (b .ident .at) .mutated ≡ isSetIn (b .ident .at) before
 
@@ -91,7 +91,7 @@ module _ {own : ℕ → Type 0} {bottom : List (Live Ident)} {before : List Use}
     all-in =
         let inner = reverseAux (binders false base q 0 xs) sc in
         all-rest In (binders false base q 0 xs) sc
-        (all-map {P = λ b. Around (q .layer) (q .around) b × Stands own (s .scope .entries) before b} {Q = In}
+        (all-map {P = λ b. Around (q .site .layer) (q .around) b × Stands own (s .scope .entries) before b} {Q = In}
         (λ b h. record { above = h .0 .above; captured = h .1 .held .captured; mutated = h .1 .held .mutated }) inner (all-zip _ _ inner (f .around) (f .stands)))
 
     abbrev ps : List ℕ
@@ -160,7 +160,7 @@ module _ {own : ℕ → Type 0} {bottom : List (Live Ident)} {before : List Use}
     taken-in [] a = subst (All (Taken before xs sc)) (sym (bottom-out ps s bottom (all-map (λ e g. g .layer) bottom (f .tables .globals)))) tt
     taken-in (c ∷ rest) a =
         let g = a .0 .1 in
-        rw (lt-ltb 1 (c .layer) (a .0 .0 .above), member-name (c .ident .name) xs)
+        rw (lt-ltb 1 (c .home .layer) (a .0 .0 .above), member-name (c .ident .name) xs)
         (one-taken c (g .binder) (hasName (c .ident .name) xs) _ refl (g .is) (g .holds) (taken-in rest (a .1)))
 
     times-in : (rest : List Binder) → All (λ c. In c × Found In sc c) rest → (x : ℕ) (b : Binder) → hasName x xs ≡ false → find sc x ≡ some b
@@ -169,7 +169,7 @@ module _ {own : ℕ → Type 0} {bottom : List (Live Ident)} {before : List Use}
     times-in [] a x b o e u = ap (countOf x) (bottom-out ps s bottom (all-map (λ e g. g .layer) bottom (f .tables .globals)))
     times-in (c ∷ rest) a x b o e u =
         let g = a .0 .1 in
-        rw (lt-ltb 1 (c .layer) (a .0 .0 .above), member-name (c .ident .name) xs)
+        rw (lt-ltb 1 (c .home .layer) (a .0 .0 .above), member-name (c .ident .name) xs)
         (one-times c b (g .binder) (hasName (c .ident .name) xs) _ x (timesIn x rest) refl (g .is) (g .holds) o e u (times-in rest (a .1) x b o e u))
 
     pub listed : Listed before xs sc (sortById (capturedVars ps s))

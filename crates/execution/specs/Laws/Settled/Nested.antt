@@ -103,7 +103,7 @@ mutual
       let inside : Nested body =
       record {
         distinct = distinct-entered (letNames xs p) (p .scope) (all-left NotLive ent (walk b body) r) (w .distinct);
-        around = same-around true (p .height) (letBody (length xs) p) 0 xs (p .scope) (w .around);
+        around = same-around true (p .site .height) (letBody (length xs) p) 0 xs (p .scope) (w .around);
       } in
       all-++ NestedAt (walkArguments es p) (ent ++ walk b body) (nested-in (k + 1 + length xs) es (n .3) p (λ i l. o i (omega arith)) w
       (all-left NotLive (walkArguments es p) (ent ++ walk b body) a))
@@ -168,8 +168,8 @@ doubled-times : (b : Binder) (sc : List Binder) → isLive b sc ≡ false → is
 unfolding isLive isDoubled timesIn
 doubled-times b [] e = refl
 doubled-times b (c ∷ sc) e =
-    let both = or-false (eqb (c .layer) (b .layer) && eqb (c .ident .name) (b .ident .name)) (isLive b sc) e in
-    go (eqb (c .ident .name) (b .ident .name)) (eqb (c .layer) (b .layer)) (both .0) (doubled-times b sc (both .1))
+    let both = or-false (eqb (c .home .layer) (b .home .layer) && eqb (c .ident .name) (b .ident .name)) (isLive b sc) e in
+    go (eqb (c .ident .name) (b .ident .name)) (eqb (c .home .layer) (b .home .layer)) (both .0) (doubled-times b sc (both .1))
   where
     go : (n l : Bool) → (l && n) ≡ false → isDoubled b sc ≡ not (eqb (timesIn (b .ident .name) sc) 0)
         → (n && not l) || isDoubled b sc ≡ not (eqb (cond n (suc (timesIn (b .ident .name) sc)) (timesIn (b .ident .name) sc)) 0)
@@ -194,12 +194,13 @@ times-once [] x b d e = absurd (Option·none-ne-some b e)
 times-once (c ∷ sc) x b d e = go (eqb (c .ident .name) x) refl (λ q. times-once sc x b (d .1) q) e
   where
     go : (q : Bool) → eqb (c .ident .name) x ≡ q → (find sc x ≡ some b → eqb (timesIn x sc) 1 ≡ not (isDoubled b sc)) → cond q (some c) (find sc x) ≡ some b
-        → eqb (cond q (suc (timesIn x sc)) (timesIn x sc)) 1 ≡ not ((eqb (c .ident .name) (b .ident .name) && not (eqb (c .layer) (b .layer))) || isDoubled b
-        sc)
+        → eqb (cond q (suc (timesIn x sc)) (timesIn x sc)) 1
+        ≡ not ((eqb (c .ident .name) (b .ident .name) && not (eqb (c .home .layer) (b .home .layer))) || isDoubled b sc)
     go true q k z =
-        subst (λ (y : Binder). eqb (suc (timesIn x sc)) 1 ≡ not ((eqb (c .ident .name) (y .ident .name) && not (eqb (c .layer) (y .layer))) || isDoubled y sc))
+        subst (λ (y : Binder). eqb (suc (timesIn x sc)) 1
+        ≡ not ((eqb (c .ident .name) (y .ident .name) && not (eqb (c .home .layer) (y .home .layer))) || isDoubled y sc))
         (Option·some-injective c b z)
-        (rw (eq-eqb (c .ident .name) (c .ident .name) refl, eq-eqb (c .layer) (c .layer) refl)
+        (rw (eq-eqb (c .ident .name) (c .ident .name) refl, eq-eqb (c .home .layer) (c .home .layer) refl)
         (one-more (timesIn x sc) ∙ ap (λ (y : ℕ). eqb (timesIn y sc) 0) (sym (eqb-true (c .ident .name) x q)) ∙ sym
         (ap not (doubled-times c sc (d .0)) ∙ twice-not (eqb (timesIn (c .ident .name) sc) 0))))
     go false q k z = rw (ap (eqb (c .ident .name)) (find-name sc x z) ∙ q) (k z)

@@ -280,7 +280,7 @@ read-second classes S x isSet f w m e = by-second classes S x isSet (rules-again
 module _ (S : Script) {own : ℕ → Type 0} {bottom : List (Live Ident)} {function : Option Node} {fr : Option Frame} {d : ℕ} {old : Lives} {p : Place} {s : State}
     (x : Ident) (f : Again S own bottom function fr d old p s) (n : Noticed (S .U) (setAt x p)) where
   sets-again : {o : Option Binder} {q : Option (Live Ident)} → find (p .scope) (x .name) ≡ o
-      → Of (λ b. Around (p .layer) (p .around) b × Stands (S .U) own (s .scope .entries) b) o
+      → Of (λ b. Around (p .site .layer) (p .around) b × Stands (S .U) own (s .scope .entries) b) o
       → Got (Global own (s .scope .entries)) q → Again S own bottom function fr d old p (mutateAt (binderIn (liveIn o q)) s)
   unfolding insert amend putEntry
   sets-again z of-none got-none = f

@@ -80,9 +80,9 @@ heaps-none S {s = s} (some n) fo f =
 
 module _ (S : Script) {own : ℕ → Type 0} {bottom : List (Live Ident)} {function : Option Node} {fr : Option Frame} {d : ℕ} {old : Lives} {p : Place}
     {s : State} where
-  open-layer-again : (b : Bool) (k : ℕ) → eqb (p .layer) 1 ≡ b → Again S own bottom function fr d old p s
-      → Again S own bottom function fr d old (record { scope = p .scope; around = p .around; layer = cond b 2 (p .layer); height = p .height + k })
-      (openLayer b s)
+  open-layer-again : (b : Bool) (k : ℕ) → eqb (p .site .layer) 1 ≡ b → Again S own bottom function fr d old p s
+      → Again S own bottom function fr d old
+      (record { scope = p .scope; around = p .around; site = record { layer = cond b 2 (p .site .layer); height = p .site .height + k } }) (openLayer b s)
   unfolding openLayer openScope
   open-layer-again false k e f =
       record {
@@ -96,7 +96,7 @@ module _ (S : Script) {own : ℕ → Type 0} {bottom : List (Live Ident)} {funct
         stands = f .stands;
       }
   open-layer-again true k e f =
-      let one = eqb-true (p .layer) 1 e in
+      let one = eqb-true (p .site .layer) 1 e in
       record {
         tables = tabled no-part (f .tables) opens;
         arguments = f .arguments;
@@ -116,7 +116,7 @@ module _ (S : Script) {own : ℕ → Type 0} {bottom : List (Live Ident)} {funct
       → NumNames k xs → Covers own k (k + length xs)
       → own (n .at) → ((y : ℕ) → left y → own y) → ((y : ℕ) → left y → k ≤ y → y < k + length xs → ⊥) → LetKept (S .T) (S .C) (S .A) after n xs
       → Closed (S .U) after xs
-      → FunctionOf (S .T) function (p .around) → Again S own bottom function fr d old p s → (height : ℕ) → height ≡ p .height
+      → FunctionOf (S .T) function (p .around) → Again S own bottom function fr d old p s → (height : ℕ) → height ≡ p .site .height
       → openLet n xs height function s .noted .nine ≡ none
       → Reentered classes S cell (letBody (length xs) p) bottom function fr d old left (letNames xs p) (p .scope) k (length xs) s
       (openLet n xs height function s)
@@ -126,7 +126,7 @@ module _ (S : Script) {own : ℕ → Type 0} {bottom : List (Live Ident)} {funct
       let heaps = heapsAround t function in
       let opened : Again S own bottom function fr d old (letBody (length xs) p) t =
       subst (λ (d' : ℕ). Again S own bottom function fr d old (letBody (length xs) p) (openLayer (eqb d' 1) s)) (sym (again-deep S f))
-      (open-layer-again (eqb (p .layer) 1) (length xs) refl f) in
+      (open-layer-again (eqb (p .site .layer) 1) (length xs) refl f) in
       let row : rowAt t (n .at) ≡ Let (kept .info) = open-row (atBottom s) s (n .at) ∙ key-let (rowAt s (n .at)) (f .tables .keys (n .at) i ∙ ap key (kept .is)) in
       let before : letArguments t (rowAt t (n .at)) ≡ listIn (S .A) (kept .info .arguments) =
       ap (letArguments t) row ∙ ap (λ (q : List ListEntry). listIn q (kept .info .arguments)) (opened .arguments) in
@@ -134,8 +134,8 @@ module _ (S : Script) {own : ℕ → Type 0} {bottom : List (Live Ident)} {funct
       let N : openLet n xs height function s .noted .nine ≡ none
       → Reentered classes S cell (letBody (length xs) p) bottom function fr d old left (letNames xs p) (p .scope) k (length xs) t
       (openLet n xs height function s) =
-      rw (e, before) (enter-again LetVar (p .height) heaps (listIn (S .A) (kept .info .arguments)) true (letBody (length xs) p)
-      (two-deep (p .layer) (eqb (p .layer) 1) refl (f .one)) classes S cell k xs 0 0 m o l a refl (heaps-none S function fo opened) w opened) in
+      rw (e, before) (enter-again LetVar (p .site .height) heaps (listIn (S .A) (kept .info .arguments)) true (letBody (length xs) p)
+      (two-deep (p .site .layer) (eqb (p .site .layer) 1) refl (f .one)) classes S cell k xs 0 0 m o l a refl (heaps-none S function fo opened) w opened) in
       record { again = N nine .again; tells = N nine .tells; second = λ v. N nine .second (open-layer-preserves unsaid-steps (atBottom s) s ∙ v) }
 
 -- Into a lambda: its captures open

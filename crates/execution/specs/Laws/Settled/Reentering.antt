@@ -8,6 +8,7 @@ use native.Mathlib.Omega.{arith}
 use lib.ListN.{length, set, length-set}
 use lib.Seq.{getD-set-same}
 use Rattle.tree.specs.Tree.{Ident, Node, NumNames}
+use Rattle.tree.specs.Site.{homeAt}
 use Rattle.tree.specs.Accepted.{All}
 use Rattle.scope_map.specs.ScopeMap.{ScopeMap, Live}
 use Rattle.semantic.specs.Information.{NONE, new}
@@ -73,9 +74,9 @@ heap-second : (o : Option ℕ) (x : Ident) (s : State) → s .noted .second ≡ 
 heap-second none x s e = rw e
 heap-second (some n) x s e = e
 
-module _ (kind : IdentifierStatus) (base : ℕ) (heaps : Option ℕ) (before : List ListEntry) (isLet : Bool) (p : Place) (two : 2 ≤ p .layer) where
+module _ (kind : IdentifierStatus) (base : ℕ) (heaps : Option ℕ) (before : List ListEntry) (isLet : Bool) (p : Place) (two : 2 ≤ p .site .layer) where
   abbrev binderOf : ℕ → Ident → Binder
-  binderOf j x = record { ident = x; isLet = isLet; place = j; slot = base + j; layer = p .layer; around = p .around }
+  binderOf j x = record { ident = x; isLet = isLet; place = j; around = p .around; home = homeAt (p .site) (base + j) }
 
   -- the entry that a name enters with
   abbrev entryOf : Bool → ℕ → ℕ → ℕ → Entry
@@ -93,7 +94,7 @@ module _ (kind : IdentifierStatus) (base : ℕ) (heaps : Option ℕ) (before : L
       (heap-scope heaps x s)
   name-entries false x j h s = enter-entries x _ s
 
-  new-held : (U : List Use) (q : Bool) (x : Ident) (j h d : ℕ) → shared U (x .at) ≡ q → d ≡ p .layer → HeldAs U (entryOf q j h d) (binderOf j x)
+  new-held : (U : List Use) (q : Bool) (x : Ident) (j h d : ℕ) → shared U (x .at) ≡ q → d ≡ p .site .layer → HeldAs U (entryOf q j h d) (binderOf j x)
   new-held U true x j h d e k =
       record {
         depth = k;
@@ -134,7 +135,7 @@ module _ (kind : IdentifierStatus) (base : ℕ) (heaps : Option ℕ) (before : L
           captures = catch-same (name-captures q x j h s) (ap (λ (g : Facts). g .captured) lists) (f .captures);
           one = f .one;
           live = en .after ∙ ap (λ (m : ScopeMap Ident). inLayer (m .depth) (liveAt (m .depth) x ∷ m .live)) (f .live);
-          around = (around-own (p .layer) (p .around) (binderOf j x) two refl refl, f .around);
+          around = (around-own (p .site .layer) (p .around) (binderOf j x) two refl refl, f .around);
           stands = subst (λ (E : List Entry). All (Stands (S .U) left E) (binderOf j x ∷ sc)) (sym (name-entries q x j h s)) (
             record { held = held; apart = λ l. parts .apart (x .at) l refl },
             all-map (λ b k.
@@ -166,9 +167,9 @@ module _ (kind : IdentifierStatus) (base : ℕ) (heaps : Option ℕ) (before : L
       record { is = k .is ∙ ap key (row-same (x .at) _ t (omega (arith, length-set (t .facts .rows) (x .at) (Variable (new kind (depth s) (span x)))))) }
 
   name-tells : {R : List Row} (q : Bool) (S : Script) (x : Ident) (j h : ℕ) (s : State) → shared (S .U) (x .at) ≡ q → kind ≡ cond isLet LetVar Local
-      → depth s ≡ p .layer
+      → depth s ≡ p .site .layer
       → x .at < length (s .facts .rows) → KeyIn R (x .at) (enterName kind base heaps before q x j h s)
-      → Tells R (x .at) (toldBinder S (binderOf j x)) NONE (p .layer) NONE
+      → Tells R (x .at) (toldBinder S (binderOf j x)) NONE (p .site .layer) NONE
   name-tells true S x j h s e k d l i = rw e (tells (name-row true x j h s l i) refl refl d refl)
   name-tells false S x j h s e k d l i = rw e (tells (name-row false x j h s l i) k refl d refl)
 

@@ -110,8 +110,8 @@ module _ (S : Script) {own : ℕ → Type 0} {bottom : List (Live Ident)} {funct
   Inner x = (b : Binder) → find (p .scope) x ≡ some b → ltb (length (b .around)) (length (p .around)) ≡ true → All
       (λ k. usedInside (b .ident .at) (S .G k) ≡ true) (p .around)
 
-  rule-bound : FramedIn (S .C) (S .G) fr p → (x : ℕ) (b : Binder) (e : ℕ) (i : Bool) → Inner x → find (p .scope) x ≡ some b → Around (p .layer) (p .around) b
-      → Stands (S .U) own (s .scope .entries) b → e ≡ b .layer
+  rule-bound : FramedIn (S .C) (S .G) fr p → (x : ℕ) (b : Binder) (e : ℕ) (i : Bool) → Inner x → find (p .scope) x ≡ some b
+      → Around (p .site .layer) (p .around) b → Stands (S .U) own (s .scope .entries) b → e ≡ b .home .layer
       → ltb (length (b .around)) (length (p .around)) ≡ i
       → Rereads S own fr s topOf p bottom x (some b)
       (cond (eqb e 1) (depthOne (b .ident)) (cond (eqb e (depth s)) (currentLayer (b .ident)) (captureRule (b .ident) (get (s .captures) x))))
@@ -125,7 +125,7 @@ module _ (S : Script) {own : ℕ → Type 0} {bottom : List (Live Ident)} {funct
       (again-own k i)
 
   rule-for : FramedIn (S .C) (S .G) fr p → (x : ℕ) {o : Option Binder} → Inner x → find (p .scope) x ≡ o
-      → Of (λ b. Around (p .layer) (p .around) b × Stands (S .U) own (s .scope .entries) b) o → (q : Option (Live Ident)) → getIn bottom x ≡ q
+      → Of (λ b. Around (p .site .layer) (p .around) b × Stands (S .U) own (s .scope .entries) b) o → (q : Option (Live Ident)) → getIn bottom x ≡ q
       → Got (Global own (s .scope .entries)) q → Rereads S own fr s topOf p bottom x o (entryRule s x (binderIn (liveIn o q)))
   rule-for w x n g of-none none e k = again-none (ap binderIn e)
   rule-for w x n g of-none (some l) e (got-some k) = rw (eq-eqb _ 1 (k .depth)) (again-global (ap binderIn e) (k .depth) (k .apart))
@@ -145,7 +145,7 @@ module _ (S : Script) {own : ℕ → Type 0} {bottom : List (Live Ident)} {funct
 
   -- the entry of the record i is put
   pub used-again : {out left : ℕ → Type 0} {t : State} (i : ℕ) (e : Entry) → Parts own out left
-      → ((b : Binder) → 2 ≤ b .layer → HeldAs (S .U) (entryIn (s .scope .entries) (b .ident .at)) b → b .ident .at ≡ i → HeldAs (S .U) e b)
+      → ((b : Binder) → 2 ≤ b .home .layer → HeldAs (S .U) (entryIn (s .scope .entries) (b .ident .at)) b → b .ident .at ≡ i → HeldAs (S .U) e b)
       → Changes out s t → names t ≡ names s → Idle s t → Catch (S .C) fr d old t → t .scope .entries ≡ set (s .scope .entries) i e
       → Again S left bottom function fr d old p t
   used-again {left = left} i e parts g c n l m k =

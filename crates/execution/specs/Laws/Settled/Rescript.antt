@@ -210,7 +210,7 @@ module _ (classes : List ℕ) (S : Script) where
   tells-cell R c d (mentions m ∷ l) e p = (go (meant m) (p .0), tells-cell R c d l (e .1) (p .1))
     where
       go : (o : Option Binder) → TellsOf classes S R c m o → TellsOf classes S R d m o
-      go none q = subst (SaysCell classes R c (m .ident) (m .place .layer)) (e .0) q
+      go none q = subst (SaysCell classes R c (m .ident) (m .place .site .layer)) (e .0) q
       go (some b) q = q
   tells-cell R c d (ends i xs sc ∷ l) e p = tells-cell R c d l e p
 

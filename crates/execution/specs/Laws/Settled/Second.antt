@@ -84,7 +84,7 @@ module _ (classes : List ℕ) (S : Script) (bottom : List (Live Ident)) where
 
     pub again : (i : ℕ) (t : Tree) → Num i t → defines t ≡ []
         → (f : Flags) (own : ℕ → Type 0) (fr : Option Frame) (d : ℕ) (old : Lives) (p : Place) (s : State) (lo hi : ℕ) (before : List Use)
-        → f .height ≡ p .height → Covers own i (i + size t) → Kept (S .T) (S .C) (S .A) lo hi before p t → Bounded (S .U) (S .G) before p t
+        → f .height ≡ p .site .height → Covers own i (i + size t) → Kept (S .T) (S .C) (S .A) lo hi before p t → Bounded (S .U) (S .G) before p t
         → SaysT before (walk t p)
         → FramedIn (S .C) (S .G) fr p → FunctionOf (S .T) (f .function) (p .around) → Above hi fr → Again S own bottom (f .function) fr d old p s
         → Pending (S .C) lo hi s → visit classes t f s .noted .nine ≡ none
@@ -146,7 +146,7 @@ module _ (classes : List ℕ) (S : Script) (bottom : List (Live Ident)) where
         (record { at = r .at }) e₂))
         (λ own w. past i₃ c (n .4) w l s₄ h₄)
         (λ g₄ r₄ o. again i₃ c (n .4) (none-right (definesIn es) (defines c) z) l (Minus (Minus own i₂ i₃) (i + 1) i₂) fr d old body s₄ (k .0) hi used
-        (let-height (f .height) (p .height) (n .1) h) o (k .4) (b .1) q₂
+        (let-height (f .height) (p .site .height) (n .1) h) o (k .4) (b .1) q₂
         (framed-let (S .C) (S .G) fr xs p w) fo a g₄ r₄ e₅)
     again i (define m x c) n z f own fr d old p s lo hi before h o k b q w fo a g r e = absurd (cons-ne-nil (m .at) (defines c) z)
     again i (lambda m xs c) n z f own fr d old p s lo hi before h o k b q w fo a g r e =
@@ -217,7 +217,7 @@ module _ (classes : List ℕ) (S : Script) (bottom : List (Live Ident)) where
 
     pub again-in : (i : ℕ) (ts : Trees) → Nums i ts → definesIn ts ≡ []
         → (f : Flags) (own : ℕ → Type 0) (fr : Option Frame) (d : ℕ) (old : Lives) (p : Place) (s : State) (lo hi : ℕ) (before : List Use)
-        → f .height ≡ p .height → Covers own i (i + sizes ts) → KeptIn (S .T) (S .C) (S .A) lo hi before p ts → BoundedIn (S .U) (S .G) before p ts
+        → f .height ≡ p .site .height → Covers own i (i + sizes ts) → KeptIn (S .T) (S .C) (S .A) lo hi before p ts → BoundedIn (S .U) (S .G) before p ts
         → SaysT before (walkArguments ts p)
         → FramedIn (S .C) (S .G) fr p → FunctionOf (S .T) (f .function) (p .around) → Above hi fr → Again S own bottom (f .function) fr d old p s
         → Pending (S .C) lo hi s → visitArguments classes ts f s .noted .nine ≡ none
@@ -237,13 +237,13 @@ module _ (classes : List ℕ) (S : Script) (bottom : List (Live Ident)) where
         (λ o r a. again i c (n .0) (none-left (defines c) (definesIn ts) z) f own fr d old p s lo (k .0) before h o (k .3) (b .0) (q₁ .0) w fo a g r e₁)
         (λ own w. arguments-visited classes ts (pushed f) s₁ (trees-writes own i₁ ts (n .1) w) h₁)
         (λ g o r. again-in i₁ ts (n .1) (none-right (defines c) (definesIn ts) z) (pushed f) (Minus own i i₁) fr d old (raised 1 p) s₁ (k .0) hi
-        (before ++ usesIn (walk c p)) (next-height (f .height) (p .height) h) o
-        (k .4) (b .1) (q₁ .1) (framed-raised (S .C) (S .G) fr 1 p w) fo a (again-height S (p .height + 1) g) r e) in
-        record { again = again-height S (p .height) (Z .again); outside = Z .outside; tells = Z .tells; second = Z .second }
+        (before ++ usesIn (walk c p)) (next-height (f .height) (p .site .height) h) o
+        (k .4) (b .1) (q₁ .1) (framed-raised (S .C) (S .G) fr 1 p w) fo a (again-height S (p .site .height + 1) g) r e) in
+        record { again = again-height S (p .site .height) (Z .again); outside = Z .outside; tells = Z .tells; second = Z .second }
 
     again-tested : (i : ℕ) (ts : Trees) → Nums i ts → definesIn ts ≡ []
         → (f : Flags) (own : ℕ → Type 0) (fr : Option Frame) (d : ℕ) (old : Lives) (p : Place) (s : State) (lo hi : ℕ) (before : List Use)
-        → f .height ≡ p .height → Covers own i (i + sizes ts) → KeptAll (S .T) (S .C) (S .A) lo hi before p ts → BoundedAll (S .U) (S .G) before p ts
+        → f .height ≡ p .site .height → Covers own i (i + sizes ts) → KeptAll (S .T) (S .C) (S .A) lo hi before p ts → BoundedAll (S .U) (S .G) before p ts
         → SaysT before (walkAll ts p)
         → FramedIn (S .C) (S .G) fr p → FunctionOf (S .T) (f .function) (p .around) → Above hi fr → Again S own bottom (f .function) fr d old p s
         → Pending (S .C) lo hi s → visitTested classes ts f s .noted .nine ≡ none
@@ -273,7 +273,7 @@ module _ (classes : List ℕ) (S : Script) (bottom : List (Live Ident)) where
 
     pub again-all : (i : ℕ) (ts : Trees) → Nums i ts → definesIn ts ≡ []
         → (f : Flags) (own : ℕ → Type 0) (fr : Option Frame) (d : ℕ) (old : Lives) (p : Place) (s : State) (lo hi : ℕ) (before : List Use)
-        → f .height ≡ p .height → Covers own i (i + sizes ts) → KeptAll (S .T) (S .C) (S .A) lo hi before p ts → BoundedAll (S .U) (S .G) before p ts
+        → f .height ≡ p .site .height → Covers own i (i + sizes ts) → KeptAll (S .T) (S .C) (S .A) lo hi before p ts → BoundedAll (S .U) (S .G) before p ts
         → SaysT before (walkAll ts p)
         → FramedIn (S .C) (S .G) fr p → FunctionOf (S .T) (f .function) (p .around) → Above hi fr → Again S own bottom (f .function) fr d old p s
         → Pending (S .C) lo hi s → visitChildren classes ts f s .noted .nine ≡ none

@@ -217,12 +217,14 @@ livesAt d [] = []
 livesAt d (x ∷ xs) = liveAt d x ∷ livesAt d xs
 
 layer-names : (isLet : Bool) (base : ℕ) (q : Place) (j : ℕ) (xs : List Ident) (sc : List Binder) (bottom : List (Live Ident))
-    → layerIn (q .layer) (livesOf (reverseAux (binders isLet base q j xs) sc) bottom) ≡ layerIn (q .layer) (livesOf sc bottom) ++ livesAt (q .layer) xs
+    → layerIn (q .site .layer) (livesOf (reverseAux (binders isLet base q j xs) sc) bottom)
+    ≡ layerIn (q .site .layer) (livesOf sc bottom) ++ livesAt (q .site .layer) xs
 unfolding binders layerIn
-layer-names isLet base q j [] sc bottom = sym (append-nil (layerIn (q .layer) (livesOf sc bottom)))
+layer-names isLet base q j [] sc bottom = sym (append-nil (layerIn (q .site .layer) (livesOf sc bottom)))
 layer-names isLet base q j (x ∷ xs) sc bottom =
     layer-names isLet base q (suc j) xs _ bottom
-    ∙ rw (eq-eqb (q .layer) (q .layer) refl) (append-assoc (layerIn (q .layer) (livesOf sc bottom)) (liveAt (q .layer) x ∷ []) (livesAt (q .layer) xs))
+    ∙ rw (eq-eqb (q .site .layer) (q .site .layer) refl)
+    (append-assoc (layerIn (q .site .layer) (livesOf sc bottom)) (liveAt (q .site .layer) x ∷ []) (livesAt (q .site .layer) xs))
 
 no-layer : (d : ℕ) (l : List (Live Ident)) → All (λ (e : Live Ident). e .layer < d) l → layerIn d l ≡ []
 unfolding layerIn
@@ -245,12 +247,12 @@ list-entries-entered d s [] = refl
 list-entries-entered d s (x ∷ xs) = ap (λ (l : List ListEntry). listEntryOf x (entryAt s (x .at)) ∷ l) (list-entries-entered d s xs)
 
 pub parameters-entered : (layer : ℕ) (lambdas : List ℕ) (base : ℕ) (q : Place) (xs : List Ident) (sc : List Binder) (bottom : List (Live Ident)) (s : State)
-    → 1 ≤ layer → q .layer ≡ suc layer → All (Around layer lambdas) sc → All (λ (e : Live Ident). e .layer ≤ 1) bottom
-    → names s ≡ record { depth = q .layer; live = livesOf (reverseAux (binders false base q 0 xs) sc) bottom }
+    → 1 ≤ layer → q .site .layer ≡ suc layer → All (Around layer lambdas) sc → All (λ (e : Live Ident). e .layer ≤ 1) bottom
+    → names s ≡ record { depth = q .site .layer; live = livesOf (reverseAux (binders false base q 0 xs) sc) bottom }
     → listEntriesOf s (newestLayer (names s)) ≡ entered xs s
 parameters-entered layer lambdas base q xs sc bottom s h e a b l =
-    let none-below = no-layer (q .layer) (livesOf sc bottom) (subst (λ (d : ℕ). All (λ (e : Live Ident). e .layer < d) (livesOf sc bottom)) (sym e)
+    let none-below = no-layer (q .site .layer) (livesOf sc bottom) (subst (λ (d : ℕ). All (λ (e : Live Ident). e .layer < d) (livesOf sc bottom)) (sym e)
     (lives-below layer lambdas sc bottom h a b)) in
     ap (λ (m : ScopeMap Ident). listEntriesOf s (newestLayer m)) l
-    ∙ ap (listEntriesOf s) (layer-names false base q 0 xs sc bottom ∙ ap (λ (k : List (Live Ident)). k ++ livesAt (q .layer) xs) none-below)
-    ∙ list-entries-entered (q .layer) s xs
+    ∙ ap (listEntriesOf s) (layer-names false base q 0 xs sc bottom ∙ ap (λ (k : List (Live Ident)). k ++ livesAt (q .site .layer) xs) none-below)
+    ∙ list-entries-entered (q .site .layer) s xs

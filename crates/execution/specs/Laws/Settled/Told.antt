@@ -23,19 +23,19 @@ toldKind S m b =
     (cond (shared (S .U) (b .ident .at)) HeapAllocated Local)
 
 abbrev pub toldSlot : Script → Mention → Binder → ℕ
-toldSlot S m b = cond (isInner m b) NONE (cond (shared (S .U) (b .ident .at)) (b .place) (b .slot))
+toldSlot S m b = cond (isInner m b) NONE (cond (shared (S .U) (b .ident .at)) (b .place) (b .home .slot))
 
 abbrev pub toldBinder : Script → Binder → IdentifierStatus
 toldBinder S b = cond (shared (S .U) (b .ident .at)) HeapAllocated (binderKind b)
 
 module _ (classes : List ℕ) (S : Script) (R : List Row) (cell : Ident → Option Ident) where
   abbrev pub TellsOf : Mention → Option Binder → Type 0
-  TellsOf m none = SaysCell classes R cell (m .ident) (m .place .layer) (cell (m .ident))
-  TellsOf m (some b) = Tells R (m .ident .at) (toldKind S m b) (b .ident .id) (m .place .layer) (toldSlot S m b)
+  TellsOf m none = SaysCell classes R cell (m .ident) (m .place .site .layer) (cell (m .ident))
+  TellsOf m (some b) = Tells R (m .ident .at) (toldKind S m b) (b .ident .id) (m .place .site .layer) (toldSlot S m b)
 
   abbrev pub TellsAll : List Event → Type 0
   TellsAll [] = Unit {0}
-  TellsAll (enters b sc ∷ l) = Tells R (b .ident .at) (toldBinder S b) NONE (b .layer) NONE × TellsAll l
+  TellsAll (enters b sc ∷ l) = Tells R (b .ident .at) (toldBinder S b) NONE (b .home .layer) NONE × TellsAll l
   TellsAll (mentions m ∷ l) = TellsOf m (meant m) × TellsAll l
   TellsAll (ends i xs sc ∷ l) = TellsAll l
 

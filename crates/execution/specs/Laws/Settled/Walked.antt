@@ -45,7 +45,7 @@ module _ (M : ℕ → Type 0) (Q : List ℕ → Type 0) (D : ℕ → Type 0) whe
           (walked (k + 1 + size b + size c) d (n .3) (omega arith) (omega arith) p a q))
       walked k (letin m xs es b) n l u p a q =
           let body : Place = within (letNames xs p) (letBody (length xs) p) in
-          let scope = named true (p .height) (letBody (length xs) p) 0 (k + 1) xs (n .2) (λ y v w. means y (omega arith) (omega arith)) (p .scope) a in
+          let scope = named true (p .site .height) (letBody (length xs) p) 0 (k + 1) xs (n .2) (λ y v w. means y (omega arith) (omega arith)) (p .scope) a in
           all-++ Walked (walkArguments es p) (entering (letNames xs p) (p .scope) ++ walk b body)
           (walked-in (k + 1 + length xs) es (n .3) (omega arith) (omega arith) p a q)
           (all-++ Walked (entering (letNames xs p) (p .scope)) (walk b body) (walked-entering (letNames xs p) (p .scope))

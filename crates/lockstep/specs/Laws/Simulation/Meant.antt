@@ -130,7 +130,7 @@ module _ (ts : Trees) (T : List Row) (M : ℕ → Bool) where
         let q = letBody (length xs) p in
         join (walkArguments es p) _ (told-args p ar (pl .0) s l)
         (join (binding.entering bs (p .scope)) _ (told-entering bs (p .scope))
-        (told (within bs q) r (pl .2) (sides-enter true (p .height) 0 q (entering ts T two nt (pl .1)) s) (omega arith)))
+        (told (within bs q) r (pl .2) (sides-enter true (p .site .height) 0 q (entering ts T two nt (pl .1)) s) (omega arith)))
     told p (r-define r) pl s l = told p r pl s l
     told p (r-lambda {n = n} {xs = xs} {b = b} e q nt r) pl s l =
         let bs = parameters n xs p in
