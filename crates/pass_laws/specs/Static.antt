@@ -9,6 +9,7 @@ use mathlib.Core.Option.{Option, none, some}
 use lib.ListN.{length, getD}
 use lib.Dec.{eqb}
 use Rattle.tree.specs.Tree.{Ident, Node, Tree, Trees, ident, const, if, letin, define, lambda, sequence, call, set!, nil, cons, many, begins, ands, whens}
+use Rattle.tree.specs.Site.{letLayer}
 use Rattle.semantic.specs.Kinds.{isTailRow}
 use Rattle.semantic.specs.Rows.{Row, Blank, Variable, Function, CallSite, Let}
 use Rattle.semantic.specs.declared.IdentifierStatus.{IdentifierStatus}
@@ -35,10 +36,6 @@ lookup (e ∷ Γ) x = cond (eqb (e .binder .name) x) (some e) (lookup Γ x)
 abbrev pub enterAll : List Ident → ℕ → ℕ → Ctx → Ctx
 enterAll [] d s Γ = Γ
 enterAll (x ∷ xs) d s Γ = enterAll xs d (suc s) (record { binder = x; depth = d; slot = s } ∷ Γ)
-
--- a let opens a layer at depth 1 alone
-abbrev pub letDepth : ℕ → ℕ
-letDepth d = cond (eqb d 1) 2 d
 
 -- Kinds: a cell; a name of the body itself; a name of a body around it
 
@@ -107,8 +104,8 @@ module _ (T : List Row) where
         r-if : {Γ : Ctx} {d h : ℕ} {t : Bool} {n : Node} {a b c : Tree}
             → Rec Γ d h false a → Rec Γ d h t b → Rec Γ d h t c → Rec Γ d h t (if n a b c)
         r-let : {Γ : Ctx} {d h : ℕ} {t : Bool} {n : Node} {xs : List Ident} {es : Trees} {b : Tree}
-            → Args Γ d h es → many es ≡ length xs → Noted (letDepth d) xs
-            → Rec (enterAll xs (letDepth d) h Γ) (letDepth d) (h + length xs) t b → Rec Γ d h t (letin n xs es b)
+            → Args Γ d h es → many es ≡ length xs → Noted (letLayer d) xs
+            → Rec (enterAll xs (letLayer d) h Γ) (letLayer d) (h + length xs) t b → Rec Γ d h t (letin n xs es b)
         r-define : {Γ : Ctx} {d h : ℕ} {t : Bool} {n : Node} {x : Ident} {b : Tree} → Rec Γ d h false b → Rec Γ d h t (define n x b)
         r-lambda : {Γ : Ctx} {d h : ℕ} {t : Bool} {n : Node} {xs : List Ident} {b : Tree} {v : _}
             → row (n .at) ≡ Function v → v .depth ≡ d → Noted (suc d) xs

@@ -18,12 +18,16 @@ topSite = record { layer = 1; height = 0 }
 abbrev pub raisedSite : ℕ → Site → Site
 raisedSite k s = record { layer = s .layer; height = s .height + k }
 
--- the body of a lambda with k parameters, and of a let with k names. "A lambda opens a layer. A let opens one only at depth 1."
+-- "A lambda opens a layer. A let opens one only at depth 1": the layer of the body of a let at the layer d
+abbrev pub letLayer : ℕ → ℕ
+letLayer d = cond (eqb d 1) 2 d
+
+-- the body of a lambda with k parameters, and of a let with k names
 abbrev pub lambdaSite : ℕ → Site → Site
 lambdaSite k s = record { layer = suc (s .layer); height = k }
 
 abbrev pub letSite : ℕ → Site → Site
-letSite k s = record { layer = cond (eqb (s .layer) 1) 2 (s .layer); height = s .height + k }
+letSite k s = record { layer = letLayer (s .layer); height = s .height + k }
 
 -- of a parameter or let name
 pub record Home : Type 0 where
@@ -40,7 +44,7 @@ unfoldable mutual
   lambdas (ident x) d = []
   lambdas (const n q) d = []
   lambdas (if n a b c) d = lambdas a d ++ (lambdas b d ++ lambdas c d)
-  lambdas (letin n xs es b) d = lambdasIn es d ++ lambdas b (cond (eqb d 1) 2 d)
+  lambdas (letin n xs es b) d = lambdasIn es d ++ lambdas b (letLayer d)
   lambdas (define n x b) d = lambdas b d
   lambdas (lambda n xs b) d = (n .at, d) ∷ lambdas b (suc d)
   lambdas (sequence n es) d = lambdasIn es d

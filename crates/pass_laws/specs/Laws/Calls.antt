@@ -17,10 +17,10 @@ use Rattle.semantic.specs.Rows.{Row, Blank, CallSite}
 use Rattle.semantic.specs.declared.CallSiteInformation.{CallSiteInformation}
 use Rattle.r7rs.specs.Tail.{Call, calls, callsIn, callsLast, callsTested}
 use Rattle.tree.specs.Core.{core, cores, isConstant, isConstantForm}
+use Rattle.tree.specs.Site.{letLayer}
 use Rattle.semantic.specs.declared.IdentifierStatus.the-variants.{LocallyDefinedFunction, Global}
 use Rattle.pass.specs.State.{Facts, State, withContext, insert, rowAt, depth}
 use Rattle.semantic.specs.Kinds.{isTail}
-use Rattle.pass_laws.specs.Static.{letDepth}
 use Rattle.pass.specs.Lambda.{atBottom, openLambda, openLet}
 use Rattle.pass.specs.Visit.{Flags, topFlags, notTail, sameTail, pushed, letBodyFlags, bodyFlags, argumentFlags, isLambda, headFlags, childFlags, defineFlags, callKind, callFact, isSelf, markIfTail, closeCall, visit, visitArguments, visitChildren, visitTopDefine, visitTop, visitTops, inBegin, inAnd, isAlone, visitTested, enterChildren}
 use Rattle.pass.specs.Run.{start, run}
@@ -82,7 +82,7 @@ pub record Ready (N : ℕ) (t : Bool) (s : State) : Type 0 where
   pub bottom : 1 ≤ depth s
   pub deep : t ≡ true → 2 ≤ depth s
 
-let-deeper : (d : ℕ) → d ≤ letDepth d
+let-deeper : (d : ℕ) → d ≤ letLayer d
 let-deeper d = go (eqb d 1) refl
   where
     go : (b : Bool) → eqb d 1 ≡ b → d ≤ cond b 2 d

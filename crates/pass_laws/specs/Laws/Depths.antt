@@ -11,14 +11,13 @@ use lib.Dec.{eqb}
 use Rattle.tree.specs.Tree.{Ident, Node, Tree, Trees, ident, const, if, letin, define, lambda, sequence, call, set!, nil, cons, many, size, sizes, Num, Nums, begins, ands, whens}
 use Rattle.tree.specs.Core.{cores}
 use Rattle.tree.specs.Define.{topLevel}
-use Rattle.tree.specs.Site.{lambdas, lambdasIn}
+use Rattle.tree.specs.Site.{lambdas, lambdasIn, letLayer}
 use Rattle.tree.specs.Accepted.{All}
 use Rattle.scope_map.specs.ScopeMap.{ScopeMap}
 use Rattle.semantic.specs.Information.{NONE}
 use Rattle.semantic.specs.Rows.{Row, Blank, Variable, Function, CallSite, Let, ListEntry}
 use Rattle.semantic.specs.declared.FunctionInformation.{FunctionInformation}
 use Rattle.pass.specs.State.{Capture, Facts, State, withContext, rowAt, depth}
-use Rattle.pass_laws.specs.Static.{letDepth}
 use Rattle.pass.specs.Lambda.{functionIn, amendFunction, functionEnds, closeScope, closeLambda, atBottom, openLambda, openLet}
 use Rattle.pass.specs.Visit.{Flags, topFlags, notTail, sameTail, pushed, letBodyFlags, bodyFlags, argumentFlags, isLambda, headFlags, isNil, childFlags, defineFlags, enterChild, enterChildren, visit, visitArguments, visitChildren, visitTopDefine, visitTop, visitTops, inBegin, inAnd, isAlone, visitTested}
 use Rattle.pass.specs.Run.{rowsMost, noFacts, start, run, fresh, settled}
@@ -88,7 +87,7 @@ still a c =
 bottom : {N d : ℕ} {s : State} → At N d s → 1 ≤ depth s
 bottom a = omega (arith, a .deep, a .one)
 
-let-one : (d : ℕ) → 1 ≤ d → 1 ≤ letDepth d
+let-one : (d : ℕ) → 1 ≤ d → 1 ≤ letLayer d
 let-one d h = go (eqb d 1)
   where
     go : (b : Bool) → 1 ≤ cond b 2 d
@@ -178,30 +177,30 @@ module _ (classes : List ℕ) (N : ℕ) (R T : List Row) where
         let s₄ = openLet m xs (f .height) (f .function) s₃ in
         let g = letBodyFlags (many es) f in
         let r₃ : At N d s₃ = still r (context NONE ⨾ visited-arguments classes es (notTail f) s₁ (bottom r) ⨾ context (s .context)) in
-        let r₄ : At N (letDepth d) s₄ = record {
+        let r₄ : At N (letLayer d) s₄ = record {
           long = omega (arith, r₃ .long, moves-lengths (into-let {own = Any} m xs (f .height) (f .function) s₃ (names-any xs)) .rows);
-          deep = let-depth m xs (f .height) (f .function) s₃ (bottom r₃) ∙ ap letDepth (r₃ .deep);
+          deep = let-depth m xs (f .height) (f .function) s₃ (bottom r₃) ∙ ap letLayer (r₃ .deep);
           one = let-one d (r .one);
         } in
         let j = i + 1 + length xs in
         let k = j + sizes es in
-        all-++ (MadeIn T) (lambdasIn es d) (lambdas b (letDepth d))
+        all-++ (MadeIn T) (lambdasIn es d) (lambdas b (letLayer d))
         (makes-in j es (n .3) (notTail f) s₁ d (still r (context NONE)) (omega arith)
-        (all-left (Was s) (lambdasIn es d) (lambdas b (letDepth d)) br)
+        (all-left (Was s) (lambdasIn es d) (lambdas b (letLayer d)) br)
         (earlier ag (omega arith) (omega arith)
         (by (context {s = s₂} (s .context))
         ⨟ into-let m xs (f .height) (f .function) s₃ (names-writes (Off j k) (i + 1) xs (n .2) (λ x l u y z. omega arith))
         ⨟ by (past k b (n .4) (λ x l u y z. omega arith) g s₄ r₄)
         ⨟ out-of-let (atBottom s) m xs (f .height) (f .function) _ (λ y z. omega arith)))
-        (all-left (Open R) (lambdasIn es d) (lambdas b (letDepth d)) o))
-        (makes k b (n .4) g s₄ (letDepth d) r₄ (omega arith)
-        (later k (k + size b) (lambdas b (letDepth d)) (between k b (n .4) (letDepth d)) (all-right (Was s) (lambdasIn es d) (lambdas b (letDepth d)) br)
+        (all-left (Open R) (lambdasIn es d) (lambdas b (letLayer d)) o))
+        (makes k b (n .4) g s₄ (letLayer d) r₄ (omega arith)
+        (later k (k + size b) (lambdas b (letLayer d)) (between k b (n .4) (letLayer d)) (all-right (Was s) (lambdasIn es d) (lambdas b (letLayer d)) br)
         (by (context {s = s} NONE)
         ⨟ by (arguments-visited classes es (notTail f) s₁ (trees-writes _ j es (n .3) (λ x l u y z. omega arith)) (bottom r))
         ⨟ by (context {s = s₂} (s .context))
         ⨟ into-let m xs (f .height) (f .function) s₃ (names-writes _ (i + 1) xs (n .2) (λ x l u y z. omega arith))))
         (earlier ag (omega arith) (omega arith) (out-of-let (atBottom s) m xs (f .height) (f .function) _ (λ y z. omega arith)))
-        (all-right (Open R) (lambdasIn es d) (lambdas b (letDepth d)) o))
+        (all-right (Open R) (lambdasIn es d) (lambdas b (letLayer d)) o))
     makes i (define m x b) n f s d r h br ag o =
         makes (i + 2) b (n .2) (defineFlags f) _ d (still r (before-changes classes (f .direct) (isLambda b) x b s tt)) (omega arith)
         (later (i + 2) (i + 2 + size b) (lambdas b d) (between (i + 2) b (n .2) d) br (by (before-changes classes (f .direct) (isLambda b) x b s (λ y z. omega arith))))

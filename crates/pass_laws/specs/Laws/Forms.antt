@@ -7,13 +7,14 @@ use mathlib.Core.Path.{_≡_, ap, sym, subst, _∙_}
 use native.Mathlib.Omega.{arith}
 use lib.ListN.{length, getD}
 use Rattle.tree.specs.Tree.{Ident, Node, Tree, Trees, ident, letin, size, sizes, Num}
+use Rattle.tree.specs.Site.{letLayer}
 use Rattle.scope_map.specs.ScopeMap.{Live}
 use Rattle.semantic.specs.Rows.{Row, Blank}
 use Rattle.r7rs.specs.Binding.{Binder, Place, Use, Event, binders, letBody, letNames, within, mentions, ends, entering, walk, walkArguments}
 use Rattle.pass.specs.State.{State, rowAt, depth}
 use Rattle.pass.specs.Read.{read, mutate}
 use Rattle.pass.specs.Lambda.{closeLambda, atBottom, openLet, closeLet}
-use Rattle.pass_laws.specs.Static.{Presumption, Ctx, lookup, letDepth, Noted, Ref, Aim, Rec, r-ident, r-let, Args}
+use Rattle.pass_laws.specs.Static.{Presumption, Ctx, lookup, Noted, Ref, Aim, Rec, r-ident, r-let, Args}
 use Rattle.pass_laws.specs.Laws.Rows.{key, key-function}
 use Rattle.pass_laws.specs.Laws.Changes.{Changes}
 use Rattle.pass_laws.specs.Laws.Moves.{Moves, by, _⨟_, out-of-let}
@@ -165,4 +166,4 @@ module _ (classes : List ℕ) (T : List Row) (P : Presumption) (bottom : List (L
         (let-left m xs (letBody (length xs) p) (letNames xs p) g (X .finds) parts opened height function q e (X .finds .live ∙ sym (D .finds .live)))
         (λ n k. counts-quietly (parts .kept) k (let-quietly opened m xs height function u))
         (λ z ag. r-let (z .0) (n .1) (z .1 .0)
-        (subst (λ (Γ : Ctx). Rec T P Γ (letDepth (p .site .layer)) (p .site .height + length xs) b c) (enter-ctx true (p .site .height) (letBody (length xs) p) 0 xs (p .site .height) (omega arith) (p .scope)) (z .1 .1)))
+        (subst (λ (Γ : Ctx). Rec T P Γ (letLayer (p .site .layer)) (p .site .height + length xs) b c) (enter-ctx true (p .site .height) (letBody (length xs) p) 0 xs (p .site .height) (omega arith) (p .scope)) (z .1 .1)))

@@ -8,9 +8,8 @@ use Rattle.tree.specs.Tree.{Tree, Trees, ident, const, if, letin, define, lambd
 use Rattle.tree.specs.Core.{core, cores}
 use Rattle.tree.specs.Laws.Core.{to-core}
 use Rattle.tree.specs.Define.{_⊕_, topOf, topLevel}
-use Rattle.tree.specs.Site.{lambdas, lambdasIn}
+use Rattle.tree.specs.Site.{lambdas, lambdasIn, letLayer}
 use Rattle.tree.specs.Accepted.{All}
-use Rattle.pass_laws.specs.Static.{letDepth}
 use Rattle.pass_laws.specs.Laws.All.{all-++, all-of, all-map, all-zip}
 use Rattle.pass_laws.specs.Laws.Tops.{Spread, spread-end}
 use Rattle.pass_laws.specs.Laws.Globals.{SparedBy, Spared, spared-past}
@@ -34,8 +33,8 @@ mutual
       (all-++ _ (lambdas b d) (lambdas c d) (w _ _ (omega arith) (omega arith) (lambdas b d) (between (i + 1 + size a) b (n .2) d))
       (w _ _ (omega arith) (omega arith) (lambdas c d) (between (i + 1 + size a + size b) c (n .3) d)))
   between i (letin m xs es b) n d =
-      all-++ _ (lambdasIn es d) (lambdas b (letDepth d)) (wider (omega arith) (omega arith) (lambdasIn es d) (between-in (i + 1 + length xs) es (n .3) d))
-      (wider (omega arith) (omega arith) (lambdas b (letDepth d)) (between (i + 1 + length xs + sizes es) b (n .4) (letDepth d)))
+      all-++ _ (lambdasIn es d) (lambdas b (letLayer d)) (wider (omega arith) (omega arith) (lambdasIn es d) (between-in (i + 1 + length xs) es (n .3) d))
+      (wider (omega arith) (omega arith) (lambdas b (letLayer d)) (between (i + 1 + length xs + sizes es) b (n .4) (letLayer d)))
   between i (define m x b) n d = wider (omega arith) (omega arith) (lambdas b d) (between (i + 2) b (n .2) d)
   between i (lambda m xs b) n d = ((omega arith, omega arith), wider (omega arith) (omega arith) (lambdas b (suc d)) (between (i + 1 + length xs) b (n .2) (suc d)))
   between i (sequence m es) n d = wider (omega arith) (omega arith) (lambdasIn es d) (between-in (i + 1) es (n .1) d)

@@ -11,6 +11,7 @@ use lib.Seq.{sets, length-sets}
 use lib.Dec.{eqb, ltb}
 use Rattle.tree.specs.Tree.{Ident, Node, Tree}
 use Rattle.tree.specs.Accepted.{All}
+use Rattle.tree.specs.Site.{letLayer}
 use Rattle.scope_map.specs.ScopeMap.{ScopeMap, Live, newestLayer}
 use Rattle.semantic.specs.Information.{markLastUsage}
 use Rattle.semantic.specs.Rows.{Row, Blank, Variable, Function, CallSite, Let, ListEntry, noListEntry}
@@ -21,7 +22,6 @@ use Rattle.semantic.specs.declared.ScopeInfo.{ScopeInfo}
 use Rattle.pass.specs.State.{Capture, State, listEntryAt, rowAt, depth, entryAt, newest}
 use Rattle.pass.specs.Lists.{capturedMost, storeCaptured, storeArguments, rewriteCaptured, isOf, numberRow, numberRows, numberList}
 use Rattle.pass.specs.Lambda.{isHeap, noteHeap, enterName, enterNames, functionIn, markLast, openCaptures, openScope, enterParameters, openLambda, markLasts, closeScope, closeCaptures, endedFact, endParameters, makeFunction, amendFunction, functionEnds, closeLambda, openLayer, closeLayer, atBottom, openLet, leaveNames, makeLet, closeLet}
-use Rattle.pass_laws.specs.Static.{letDepth}
 use Rattle.pass_laws.specs.Laws.Changes.{CallSteps, CallChanges, same, _⨾_, either, row, mark, names, layer, lists, captures, context, keeps-depth}
 use Rattle.pass_laws.specs.Laws.Names.{ten-changes, second-changes, enter-changes}
 
@@ -176,7 +176,7 @@ unfolding openLayer openScope
 opened-depth true s = refl
 opened-depth false s = refl
 
-let-pos : (d : ℕ) → 1 ≤ d → 1 ≤ letDepth d
+let-pos : (d : ℕ) → 1 ≤ d → 1 ≤ letLayer d
 let-pos d h = go (eqb d 1)
   where
     go : (b : Bool) → 1 ≤ cond b 2 d
@@ -187,7 +187,7 @@ pub let-deep : (d : ℕ) (b : Bool) → eqb d 1 ≡ b → cond b (suc d) d ≡ c
 let-deep d true e = ap suc (eqb-true d 1 e)
 let-deep d false e = refl
 
-pub let-depth : (n : Node) (xs : List Ident) (height : ℕ) (function : Option Node) (s : State) → 1 ≤ depth s → depth (openLet n xs height function s) ≡ letDepth (depth s)
+pub let-depth : (n : Node) (xs : List Ident) (height : ℕ) (function : Option Node) (s : State) → 1 ≤ depth s → depth (openLet n xs height function s) ≡ letLayer (depth s)
 unfolding openLet
 let-depth n xs height function s h =
     let e = opened-depth (atBottom s) s ∙ let-deep (depth s) (atBottom s) refl in

@@ -7,10 +7,11 @@ use mathlib.Core.Path.{_≡_, refl, ap, sym, _∙_}
 use native.Mathlib.Omega.{arith}
 use lib.ListN.{length, getElem?, take, length-append, length-take, length-drop}
 use Rattle.tree.specs.Tree.{Ident, Tree, Trees}
+use Rattle.tree.specs.Site.{letLayer}
 use Rattle.r7rs.specs.Machine.{lastN}
 use Rattle.r7rs.specs.Plain.{Env, PVal, pclo, Store, bindEnv, locations}
 use Rattle.semantic.specs.Rows.{Row}
-use Rattle.pass_laws.specs.Static.{Bound, Ctx, enterAll, letDepth}
+use Rattle.pass_laws.specs.Static.{Bound, Ctx, enterAll}
 use Rattle.lockstep.specs.Slot.{SVal, sclo, pack, frames, copied}
 use Rattle.lockstep.specs.Laws.Simulation.Lists.{at-seam, at-drop, at-take}
 use Rattle.lockstep.specs.Laws.Simulation.Binders.{Placed}
@@ -48,12 +49,12 @@ module _ (ts : Trees) (T : List Row) (M : ℕ → Bool) where
 
   -- a let's body begins
   pub held-let : {σ : Store} {lo d h : ℕ} {Γ : Ctx} {F : List SVal} {C : List (List SVal)} {ρ : Env} {ws : List PVal} (xs : List Ident) (h₀ : ℕ)
-      → Entering ts T (letDepth d) h₀ xs → length F ≡ h₀ + length xs → Scope ts T d h₀ Γ → AlikeAll ts T M σ (lastN (length xs) F) ws
+      → Entering ts T (letLayer d) h₀ xs → length F ≡ h₀ + length xs → Scope ts T d h₀ Γ → AlikeAll ts T M σ (lastN (length xs) F) ws
       → Held ts T M σ lo (length σ) Γ d h F C ρ
-      → Held ts T M (σ ++ locations xs ws) lo (length (σ ++ locations xs ws)) (enterAll xs (letDepth d) h₀ Γ) (letDepth d) (h₀ + length xs) F C
+      → Held ts T M (σ ++ locations xs ws) lo (length (σ ++ locations xs ws)) (enterAll xs (letLayer d) h₀ Γ) (letLayer d) (h₀ + length xs) F C
       (bindEnv xs (length σ) ρ)
   held-let {σ} {lo} {d} {F = F} {C = C} {ws = ws} xs h₀ en tall sc vs r =
-      let deep : length C ≡ letDepth d - 2 = omega (arith, r .deep, let-deep d) in
+      let deep : length C ≡ letLayer d - 2 = omega (arith, r .deep, let-deep d) in
       record {
         tall = tall;
         deep = deep;

@@ -8,9 +8,10 @@ use native.Mathlib.Omega.{arith}
 use Rattle.tree.specs.Tree.{Tree, Trees}
 use Rattle.tree.specs.Accepted.{All}
 use Rattle.tree.specs.Laws.Acceptance.Tests.{all-map}
+use Rattle.tree.specs.Site.{letLayer}
 use Rattle.semantic.specs.Rows.{Row, Variable}
 use Rattle.semantic.specs.declared.SemanticInformation.{SemanticInformation}
-use Rattle.pass_laws.specs.Static.{Bound, Ctx, letDepth, isCell, Ref, ref-cell, ref-own, ref-outer, Aim, aim-cell, aim-own, aim-outer, r-ident, r-const, r-if, r-let, r-define, r-lambda, r-begin, r-call, r-set, Args, a-nil, a-cons, Seq, s-nil, s-one, s-more, r-and, r-when, r-no-test}
+use Rattle.pass_laws.specs.Static.{Bound, Ctx, isCell, Ref, ref-cell, ref-own, ref-outer, Aim, aim-cell, aim-own, aim-outer, r-ident, r-const, r-if, r-let, r-define, r-lambda, r-begin, r-call, r-set, Args, a-nil, a-cons, Seq, s-nil, s-one, s-more, r-and, r-when, r-no-test}
 use Rattle.lockstep.specs.Facts.{rowOf}
 use Rattle.lockstep.specs.Lock.{idents, identsIn}
 use Rattle.lockstep.specs.Laws.Simulation.Lists.{all-append}
@@ -71,8 +72,8 @@ module _ (ts : Trees) (T : List Row) (M : ℕ → Bool) where
 
   -- a let begins, and ends
 
-  pub deep-let : {d : ℕ} {e : Tree} → Deep ts T M d e → Deep ts T M (letDepth d) e
+  pub deep-let : {d : ℕ} {e : Tree} → Deep ts T M d e → Deep ts T M (letLayer d) e
   deep-let {d} {e} r = record { depths = all-map (λ i f v q c two. let-below d two (f v q c two)) (idents e) (r .depths) }
 
-  pub deep-drop : {d d′ : ℕ} {e : Tree} → d′ ≡ letDepth d → Deep ts T M d′ e → Deep ts T M d e
+  pub deep-drop : {d d′ : ℕ} {e : Tree} → d′ ≡ letLayer d → Deep ts T M d′ e → Deep ts T M d e
   deep-drop {d} {e = e} p r = record { depths = all-map (λ i f v q c two. let l = f v q c two in omega (arith, let-le d)) (idents e) (r .depths) }

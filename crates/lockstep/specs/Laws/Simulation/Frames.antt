@@ -9,10 +9,11 @@ use native.Mathlib.Nat.{add-zero}
 use native.Mathlib.Omega.{arith}
 use lib.ListN.{length, drop, getElem?, length-append, length-take}
 use Rattle.tree.specs.Tree.{Ident, Trees}
+use Rattle.tree.specs.Site.{letLayer}
 use Rattle.r7rs.specs.Machine.{butN}
 use Rattle.r7rs.specs.Plain.{Env, PVal, Store, bindEnv, locations}
 use Rattle.semantic.specs.Rows.{Row}
-use Rattle.pass_laws.specs.Static.{Bound, Ctx, enterAll, letDepth}
+use Rattle.pass_laws.specs.Static.{Bound, Ctx, enterAll}
 use Rattle.lockstep.specs.Slot.{SVal, packFrame, pack, unpackFrame, unpack}
 use Rattle.lockstep.specs.Laws.Simulation.Lists.{at-append, at-take, drop-tail}
 use Rattle.lockstep.specs.Laws.Simulation.Scope.{let-cases, let-deep, Scope, sc-nil, sc-own, sc-outer, scope-up}
@@ -133,19 +134,19 @@ module _ (ts : Trees) (T : List Row) (M : ℕ → Bool) (σ : Store) where
   names-one p (sc-outer r out s) ns = absurd (omega (arith, r .two))
 
   pub in-let : {Fs : List (List SVal)} {d h lo hi : ℕ} {Γ : Ctx} {ρ : Env} → Scope ts T d h Γ → Names ts T M σ Fs d lo hi Γ ρ
-      → Names ts T M σ Fs (letDepth d) lo hi Γ ρ
+      → Names ts T M σ Fs (letLayer d) lo hi Γ ρ
   in-let {d = d} sc ns = ⊎-elim (λ c. names-one (c .0) sc ns) (λ c. rw (c .1) ns) (let-cases d)
 
-  after-let : {Fs : List (List SVal)} {d h lo hi : ℕ} {Γ : Ctx} {ρ : Env} → Scope ts T d h Γ → Names ts T M σ Fs (letDepth d) lo hi Γ ρ
+  after-let : {Fs : List (List SVal)} {d h lo hi : ℕ} {Γ : Ctx} {ρ : Env} → Scope ts T d h Γ → Names ts T M σ Fs (letLayer d) lo hi Γ ρ
       → Names ts T M σ Fs d lo hi Γ ρ
   after-let {d = d} sc ns = ⊎-elim (λ c. names-one (c .0) sc ns) (λ c. rw (c .1) at ns) (let-cases d)
 
   pub held-drop : {lo d d′ h h′ : ℕ} {Γ Γ′ : Ctx} {F : List SVal} {C : List (List SVal)} {ρ : Env} (n : ℕ) (xs : List Ident) → n ≡ length xs
-      → Γ′ ≡ enterAll xs d′ h Γ → d′ ≡ letDepth d → length F ≡ h + n → Scope ts T d h Γ → 1 ≤ d → Held ts T M σ lo (length σ) Γ′ d′ h′ F C ρ
+      → Γ′ ≡ enterAll xs d′ h Γ → d′ ≡ letLayer d → length F ≡ h + n → Scope ts T d h Γ → 1 ≤ d → Held ts T M σ lo (length σ) Γ′ d′ h′ F C ρ
       → Held ts T M σ lo (length σ) Γ d h (butN n F) C (drop n ρ)
   held-drop {lo} {d} {d′} {h} {Γ = Γ} {F = F} {C = C} {ρ = ρ} n xs nl Γe de tall sc layer r =
       let ns : Names ts T M σ (C ++ (F ∷ [])) d′ lo (length σ) (enterAll xs d′ h Γ) ρ = rw Γe at (r .names) in
-      let ns′ : Names ts T M σ (C ++ (F ∷ [])) (letDepth d) lo (length σ) Γ (drop n ρ) = rw (nl, ← de) (names-unbind xs h ns) in
+      let ns′ : Names ts T M σ (C ++ (F ∷ [])) (letLayer d) lo (length σ) Γ (drop n ρ) = rw (nl, ← de) (names-unbind xs h ns) in
       held-pop n h tall sc
       (record {
         tall = tall;

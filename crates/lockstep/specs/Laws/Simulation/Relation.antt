@@ -8,12 +8,13 @@ use mathlib.Core.Path.{_≡_}
 use lib.ListN.{length, drop, getElem?}
 use Rattle.tree.specs.Tree.{Ident, Tree, Trees, nil, cons, many}
 use Rattle.tree.specs.Accepted.{All}
+use Rattle.tree.specs.Site.{letLayer}
 use Rattle.r7rs.specs.Machine.{After, toHead, toBody, Moment, start, entered, read, pushed, kend, kif, kseq, kand, kwhen, kpush, khead, kdrop, kret, kset, kdef, next, ended, stopped, state, Cells, lastN, butN}
 use Rattle.r7rs.specs.Plain.{Env, PVal, pconst, punit, pclo, Store, PBody, PKont, POut, mem, body}
 use Rattle.r7rs.specs.Run.{noBody}
 use Rattle.semantic.specs.Rows.{Row, Variable}
 use Rattle.semantic.specs.declared.SemanticInformation.{SemanticInformation}
-use Rattle.pass_laws.specs.Static.{Bound, Ctx, lookup, enterAll, letDepth, isCell, Presumption, Aim, Rec, Args, Seq, Top}
+use Rattle.pass_laws.specs.Static.{Bound, Ctx, lookup, enterAll, isCell, Presumption, Aim, Rec, Args, Seq, Top}
 use Rattle.lockstep.specs.Facts.{isTail, rowOf}
 use Rattle.lockstep.specs.Slot.{SVal, sconst, sunit, sclo, Frames, unpack, SBody, frames, SMem, SKont, SOut}
 use Rattle.lockstep.specs.Lock.{idents}
@@ -53,8 +54,8 @@ module _ (ts : Trees) (T : List Row) (M : ℕ → Bool) where
   pub data Then : Ctx → ℕ → ℕ → Bool → ℕ → After → Type 0 where
     then-head : {Γ : Ctx} {d h : ℕ} {t : Bool} {n i : ℕ} {f : Tree} → Expr Γ d (h + n) false f → Placed ts T f (h + n)
         → (isTail (rowOf T i) ≡ true → t ≡ true) → Then Γ d h t n (toHead i f)
-    then-body : {Γ : Ctx} {d h : ℕ} {t : Bool} {n : ℕ} {xs : List Ident} {e : Tree} → n ≡ length xs → Entering ts T (letDepth d) h xs
-        → Expr (enterAll xs (letDepth d) h Γ) (letDepth d) (h + length xs) t e → Placed ts T e (h + length xs) → Then Γ d h t n (toBody xs e)
+    then-body : {Γ : Ctx} {d h : ℕ} {t : Bool} {n : ℕ} {xs : List Ident} {e : Tree} → n ≡ length xs → Entering ts T (letLayer d) h xs
+        → Expr (enterAll xs (letLayer d) h Γ) (letLayer d) (h + length xs) t e → Placed ts T e (h + length xs) → Then Γ d h t n (toBody xs e)
 
   mutual
     -- like values, in the plain machine's store
@@ -131,7 +132,7 @@ module _ (ts : Trees) (T : List Row) (M : ℕ → Bool) where
       w-head : {Γ : Ctx} {d h lo : ℕ} {F : List SVal} {ρ : Env} {S : List PVal} {sk : SKont} {pk : PKont} {i n : ℕ} {f : Tree}
           → Pushing σ Γ d lo F ρ S (toHead i f) n n nil sk pk → Waits σ false Γ d h lo F ρ S (khead i n sk) (khead i n pk)
       w-drop : {t : Bool} {Γ Γ′ : Ctx} {d d′ h h′ lo : ℕ} {F : List SVal} {ρ : Env} {S : List PVal} {sk : SKont} {pk : PKont} {n : ℕ} (xs : List Ident)
-          → n ≡ length xs → Γ′ ≡ enterAll xs d′ h Γ → d′ ≡ letDepth d → length F ≡ h + n → Scope ts T d h Γ → 1 ≤ d
+          → n ≡ length xs → Γ′ ≡ enterAll xs d′ h Γ → d′ ≡ letLayer d → length F ≡ h + n → Scope ts T d h Γ → 1 ≤ d
           → Waits σ t Γ d h lo (butN n F) (drop n ρ) S sk pk → Waits σ t Γ′ d′ h′ lo F ρ S (kdrop n sk) (kdrop n pk)
       w-set : {t : Bool} {Γ : Ctx} {d h lo : ℕ} {F : List SVal} {ρ : Env} {S : List PVal} {sk : SKont} {pk : PKont} {x : Ident}
           (v : SemanticInformation) → rowOf T (x .at) ≡ Variable v → Aim T (presumed M) d v (lookup Γ (x .name))

@@ -10,8 +10,9 @@ use borrow.Author.Tests.{eqb-true, eqb-false}
 use lib.ListN.{length}
 use lib.Dec.{eqb}
 use Rattle.tree.specs.Tree.{Ident, Trees}
+use Rattle.tree.specs.Site.{letLayer}
 use Rattle.semantic.specs.Rows.{Row}
-use Rattle.pass_laws.specs.Static.{Bound, Ctx, enterAll, letDepth, DepthAt, Noted, noted-nil, noted-cons}
+use Rattle.pass_laws.specs.Static.{Bound, Ctx, enterAll, DepthAt, Noted, noted-nil, noted-cons}
 use Rattle.lockstep.specs.Facts.{frameOf, frameIn, rowOf, rowOfId}
 use Rattle.lockstep.specs.Laws.Simulation.Binders.{slotAt, Stands, StandAll}
 
@@ -19,27 +20,27 @@ abbrev pub bound : Ident → ℕ → ℕ → Bound
 bound x d s = record { binder = x; depth = d; slot = s }
 
 -- a let at depth 1 opens depth 2; any other stays at its depth
-pub let-cases : (d : ℕ) → ((d ≡ 1) × (letDepth d ≡ 2)) ⊎ (¬ (d ≡ 1) × (letDepth d ≡ d))
+pub let-cases : (d : ℕ) → ((d ≡ 1) × (letLayer d ≡ 2)) ⊎ (¬ (d ≡ 1) × (letLayer d ≡ d))
 let-cases d = go (eqb d 1) refl
   where
     go : (b : Bool) → eqb d 1 ≡ b → ((d ≡ 1) × (cond b 2 d ≡ 2)) ⊎ (¬ (d ≡ 1) × (cond b 2 d ≡ d))
     go true e = inl (eqb-true d 1 e, refl)
     go false e = inr (eqb-false d 1 e, refl)
 
-pub let-two : (d : ℕ) → 1 ≤ d → 2 ≤ letDepth d
+pub let-two : (d : ℕ) → 1 ≤ d → 2 ≤ letLayer d
 let-two d l = ⊎-elim (λ c. omega arith) (λ c. omega arith) (let-cases d)
 
-pub let-le : (d : ℕ) → d ≤ letDepth d
+pub let-le : (d : ℕ) → d ≤ letLayer d
 let-le d = ⊎-elim (λ c. omega arith) (λ c. omega arith) (let-cases d)
 
-pub let-below : {n : ℕ} (d : ℕ) → 2 ≤ n → d ≤ n → letDepth d ≤ n
+pub let-below : {n : ℕ} (d : ℕ) → 2 ≤ n → d ≤ n → letLayer d ≤ n
 let-below d two l = ⊎-elim (λ c. omega arith) (λ c. omega arith) (let-cases d)
 
-pub let-same : {n : ℕ} (d : ℕ) → n ≡ letDepth d → n ≤ d → n ≡ d
+pub let-same : {n : ℕ} (d : ℕ) → n ≡ letLayer d → n ≤ d → n ≡ d
 let-same d p l = ⊎-elim (λ c. omega arith) (λ c. omega arith) (let-cases d)
 
 -- the frames that a body keeps are as many in a let as around it
-pub let-deep : (d : ℕ) → letDepth d - 2 ≡ d - 2
+pub let-deep : (d : ℕ) → letLayer d - 2 ≡ d - 2
 let-deep d = ⊎-elim (λ c. omega arith) (λ c. omega arith) (let-cases d)
 
 frame-two : (d : ℕ) → 2 ≤ d → frameOf d ≡ some (d - 2)
@@ -96,7 +97,7 @@ module _ (ts : Trees) (T : List Row) where
   scope-one p (sc-own r own b s) = absurd (omega (arith, r .two))
   scope-one p (sc-outer r out s) = absurd (omega (arith, r .two))
 
-  pub let-scope : {d h : ℕ} {Γ : Ctx} → Scope d h Γ → Scope (letDepth d) h Γ
+  pub let-scope : {d h : ℕ} {Γ : Ctx} → Scope d h Γ → Scope (letLayer d) h Γ
   let-scope {d} sc = ⊎-elim (λ c. scope-one (c .0) sc) (λ c. rw (c .1) sc) (let-cases d)
 
   -- a lambda is made: all names around it are of outer bodies

@@ -10,10 +10,11 @@ use native.Mathlib.Omega.{arith}
 use lib.ListN.{length, getElem?, set, length-set}
 use lib.Dec.{eqb}
 use Rattle.tree.specs.Tree.{Trees, many}
+use Rattle.tree.specs.Site.{letLayer}
 use Rattle.r7rs.specs.Machine.{After, Cells, fill, lastN, butN}
 use Rattle.r7rs.specs.Plain.{Env, PVal, Store, PKont}
 use Rattle.semantic.specs.Rows.{Row}
-use Rattle.pass_laws.specs.Static.{Bound, Ctx, letDepth, Args}
+use Rattle.pass_laws.specs.Static.{Bound, Ctx, Args}
 use Rattle.lockstep.specs.Slot.{SVal, SMem, SKont}
 use Rattle.lockstep.specs.Laws.Simulation.Lists.{at-set-same, at-set-other, last-set, but-set, but-set-above}
 use Rattle.lockstep.specs.Laws.Simulation.Binders.{PlacedRising}
@@ -47,7 +48,7 @@ module _ (ts : Trees) (T : List Row) (M : ℕ → Bool) where
         pushing h (length-set F (e .slot) v ∙ tall) l vs′ sc ar pl th w′
 
     drop-set : {σ : Store} {t : Bool} {Γ : Ctx} {d d′ h lo : ℕ} (F : List SVal) {ρ : Env} {S : List PVal} {sk : SKont} {pk : PKont} (n : ℕ)
-        → length F ≡ h + n → Scope ts T d h Γ → d′ ≡ letDepth d → e .depth ≡ d′ → (h ≤ e .slot) ⊎ In e Γ
+        → length F ≡ h + n → Scope ts T d h Γ → d′ ≡ letLayer d → e .depth ≡ d′ → (h ≤ e .slot) ⊎ In e Γ
         → Waits ts T M σ t Γ d h lo (butN n F) ρ S sk pk
         → (In e Γ → e .depth ≡ d → Waits ts T M σ t Γ d h lo (set (butN n F) (e .slot) v) ρ S sk pk)
         → Waits ts T M σ t Γ d h lo (butN n (set F (e .slot) v)) ρ S sk pk

@@ -7,6 +7,7 @@ use mathlib.Core.Path.{refl}
 use native.Mathlib.Omega.{arith}
 use lib.Dec.{eqb}
 use Rattle.tree.specs.Tree.{Ident, Node, Tree, Trees, size, sizes}
+use Rattle.tree.specs.Site.{letLayer}
 use Rattle.semantic.specs.declared.IdentifierStatus.{IdentifierStatus}
 use Rattle.pass.specs.State.{State, withContext, depth}
 use Rattle.pass.specs.Read.{enterTopLevelValue, mutate}
@@ -14,7 +15,6 @@ use Rattle.pass.specs.Lambda.{openLambda, openLet}
 use Rattle.pass.specs.Visit.{Flags, openDefine, enterChildren, clearContext, visit, visitArguments, visitTop}
 use Rattle.pass_laws.specs.Sound.{Counted}
 use Rattle.pass_laws.specs.Stage.{Layered}
-use Rattle.pass_laws.specs.Static.{letDepth}
 use Rattle.pass_laws.specs.Laws.Changes.{Changes, context, Lengths, untouched, lengths-trans, keeps-lengths, keeps-depth}
 use Rattle.pass_laws.specs.Laws.Names.{value-changes, mutate-changes}
 use Rattle.pass_laws.specs.Laws.Scopes.{Any, names-any, lambda-depth, let-depth}
@@ -97,7 +97,7 @@ module _ {s : State} (h : 1 ≤ depth s) where
 
 -- into a body
 
-let-deeper : (d : ℕ) → 1 ≤ d → letDepth d ≤ suc d
+let-deeper : (d : ℕ) → 1 ≤ d → letLayer d ≤ suc d
 let-deeper d h = pick (eqb d 1)
   where
     pick : (b : Bool) → cond b 2 d ≤ suc d
