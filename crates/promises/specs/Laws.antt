@@ -1,3 +1,6 @@
 pub mod Back
 pub mod Outcomes
 pub mod Records
+pub mod Tables
+pub mod Refusals
+pub mod Positions

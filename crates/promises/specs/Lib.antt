@@ -1,4 +1,2 @@
-pub mod Tables
-pub mod Refusals
-pub mod Positions
+pub mod Promises
 pub mod Laws

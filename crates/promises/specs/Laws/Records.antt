@@ -18,13 +18,7 @@ use Rattle.tree.specs.Laws.Acceptance.{holds}
 use Rattle.tree.specs.Laws.Unique.{unique-trees}
 use Rattle.pass.specs.Bare.{bareIdent, bare, bares}
 use Rattle.pass_laws.specs.Laws.Bare.Looks.{bare-many}
-
-abbrev pub bareRecord : Record → Record
-bareRecord r = record { form = r .form; id = r .id; name = r .name; count = r .count; from = 0; to = 0 }
-
--- the records of a list of numbers, but for their positions
-abbrev pub bareRecords : List ℕ → List Record
-bareRecords rs = map bareRecord (records rs)
+use Rattle.promises.specs.Promises.{bareRecord, bareRecords}
 
 -- The checks
 

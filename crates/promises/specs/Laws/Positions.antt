@@ -1,5 +1,4 @@
--- "Positions are carried and never consulted: trees that differ only there give equal rows but for positions." Of any two inputs whose records agree in all
--- but their fields from and to: `fresh`, and so `settled`, answers both alike, refused or not, and leaves the same numbers but for positions.
+-- Records that differ only in their positions are answered alike: from what the operations ensure, and that positions are carried.
 use Prim.Native.Nat.{ℕ, _%_}
 use mathlib.Core.List.{List, [], _∷_, _++_, map}
 use mathlib.Core.Bool.{Bool, true, false, true≢false}
@@ -13,34 +12,25 @@ use Rattle.tree.specs.Record.{width}
 use Rattle.tree.specs.Tree.{Trees}
 use Rattle.tree.specs.Check.{Refusal, refusal}
 use Rattle.tree.specs.Laws.Acceptance.{accepted}
-use Rattle.semantic.specs.Rows.{Row, Blank, rowWidth, putRow, row-long, putListEntry}
+use Rattle.semantic.specs.Rows.{Blank, rowWidth, putRow, row-long, putListEntry}
 use Rattle.pass.specs.State.{State}
-use Rattle.pass.specs.Run.{rowsMost, Tables, tablesOf, zeros, Outcome, outcome, fitting, Answers, fresh, settled, refusedFirst, orSecond, freshOutcome, settledOutcome, Fresh, Settled}
-use Rattle.pass.specs.Bare.{bareRow, bares}
+use Rattle.pass.specs.Run.{rowsMost, Tables, tablesOf, zeros, Outcome, outcome, fitting, Answers, fresh, settled, refusedFirst, orSecond, freshOutcome, settledOutcome}
+use Rattle.pass.specs.Bare.{bares}
 use Rattle.execution.specs.Positions.{Same}
 use Rattle.execution.specs.Laws.Carried.{positions-carried}
-use Rattle.promises.specs.Laws.Records.{bareRecords, same-refusal, same-trees}
-
--- two tables of facts: the same rows but for positions. No other rows have those numbers (Back.antt `rows-same`).
-pub record SameRows (F G : List ℕ) : Type 0 where
-  pub T : List Row
-  pub U : List Row
-  pub isT : F ≡ layout putRow T
-  pub isU : G ≡ layout putRow U
-  pub same : map bareRow T ≡ map bareRow U
-
--- two answers
-pub record Alike (o p : Outcome) : Type 0 where
-  pub refused : o .refused ≡ p .refused
-  pub facts : SameRows (o .tables .facts) (p .tables .facts)
-  pub captured : o .tables .captured ≡ p .tables .captured
-  pub arguments : o .tables .arguments ≡ p .tables .arguments
+use Rattle.promises.specs.Promises.{bareRecords, Alike, FreshPositions, SettledPositions}
+use Rattle.promises.specs.Laws.Records.{same-refusal, same-trees}
 
 refused-alike : (r : Refusal) → Alike (record { refused = some r; tables = zeros }) (record { refused = some r; tables = zeros })
 unfolding zeros putRow
 refused-alike r =
     let z = sym (zeros-layout rowWidth putRow row-long Blank refl rowsMost) in
-    record { refused = refl; facts = record { T = replicate rowsMost Blank; U = replicate rowsMost Blank; isT = z; isU = z; same = refl }; captured = refl; arguments = refl }
+    record {
+      refused = refl;
+      facts = record { T = replicate rowsMost Blank; U = replicate rowsMost Blank; isT = z; isU = z; same = refl };
+      captured = refl;
+      arguments = refl;
+    }
 
 -- the entries hold no position
 listed : {A : Type 0} (put : A → List ℕ) (l : List A) → layout put l ≡ layout (λ (x : List ℕ). x) (map put l)
@@ -113,9 +103,8 @@ answers-alike {f} {classes} {rs} {qs} {t} {u} {o} {p} runs g k h x y = by-checks
         let (us, b) = accepted N qs (sym same ∙ e) in
         rw (x .sound g ts a, y .sound k us b) (runs ts us (same-trees a b h))
 
-module _ {classes rs qs : List ℕ} {t u : Tables} {o p : Outcome} (g : fitting rs t ≡ true) (k : fitting qs u ≡ true) (h : bareRecords rs ≡ bareRecords qs) where
-  pub fresh-positions : Fresh classes rs t o → Fresh classes qs u p → Alike o p
-  fresh-positions x y = answers-alike (fresh-runs classes) g k h (x .answers) (y .answers)
+pub fresh-positions : FreshPositions
+fresh-positions classes rs qs t u o p g k h x y = answers-alike (fresh-runs classes) g k h (x .answers) (y .answers)
 
-  pub settled-positions : Settled classes rs t o → Settled classes qs u p → Alike o p
-  settled-positions x y = answers-alike (settled-runs classes) g k h (x .answers) (y .answers)
+pub settled-positions : SettledPositions
+settled-positions classes rs qs t u o p g k h x y = answers-alike (settled-runs classes) g k h (x .answers) (y .answers)
