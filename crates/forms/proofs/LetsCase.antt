@@ -23,7 +23,7 @@ use Rattle.semantic.specs.declared.IdentifierStatus.the-variants.{LetVar}
 use Rattle.pass.specs.State.{State, rowAt, depth}
 use Rattle.pass.specs.Lists.{listIn}
 use Rattle.pass.specs.Lambda.{openScope, heapsAround, letArguments, atBottom, openLayer, openLet, functionId}
-use Rattle.pass_laws.specs.Laws.Sound.Scopes.{each-open-let}
+use Rattle.pass_laws.specs.Laws.Sound.Scopes.{each-open-layer}
 use Rattle.pass.specs.Run.{rowsMost, listEntriesMost, listEntriesLength}
 use Rattle.work.specs.Laws.Works.{depth-is, names-many, captured-many}
 use Rattle.work.specs.Leaves.{Becomes}
@@ -178,7 +178,7 @@ module _ {rs : List ℕ} {p : Pass} {F C A w : List ℕ} {q : Pass}
   opened-fits {s} f =
       let e = opened-facts (atBottom s) s in
       record {
-        good = good-each (f .good) (sized-facts e) (λ Q l F z h. each-open-let l z (atBottom s) h);
+        good = good-each (f .good) (sized-facts e) (λ Q l F z h. each-open-layer l z (atBottom s) h);
         tied = tied-works _ (f .tied) e (opens w .is s (f .tied .works));
       }
 

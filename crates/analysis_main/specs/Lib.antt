@@ -1,0 +1,4 @@
+pub mod Lengths
+pub mod Held
+pub mod Runs
+pub mod Scripts
