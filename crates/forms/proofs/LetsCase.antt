@@ -9,9 +9,10 @@ use native.Mathlib.Numerals.{add-one}
 use lib.ListN.{length}
 use lib.Dec.{eqb}
 use borrow.Author.Tests.{eq-eqb, ne-eqb}
-use Rattle.table.specs.Layout.{length-layout}
+use Rattle.table.specs.Laws.Layout.{length-layout}
 use Rattle.tree.specs.Tree.{Node}
-use Rattle.semantic.specs.Rows.{Blank, rowWidth, putRow, listEntryWidth, putListEntry, list-entry-long}
+use Rattle.semantic.specs.Rows.{Blank, rowWidth, putRow, listEntryWidth, putListEntry}
+use Rattle.semantic.specs.Laws.Rows.{list-entry-long}
 use Rattle.semantic.specs.Kinds.{functionIn, letIn, functionFound, letFound}
 use Rattle.semantic.specs.Leaves.{Tells}
 use Rattle.semantic.specs.declared.ListAt.{ListAt}
@@ -23,7 +24,7 @@ use Rattle.semantic.specs.declared.IdentifierStatus.the-variants.{LetVar}
 use Rattle.pass.specs.State.{State, rowAt, depth}
 use Rattle.pass.specs.Lists.{listIn}
 use Rattle.pass.specs.Lambda.{openScope, heapsAround, letArguments, atBottom, openLayer, openLet, functionId}
-use Rattle.pass_laws.specs.Laws.Sound.Scopes.{each-open-let}
+use Rattle.pass_laws.specs.Laws.Sound.Scopes.{each-open-layer}
 use Rattle.pass.specs.Run.{rowsMost, listEntriesMost, listEntriesLength}
 use Rattle.work.specs.Laws.Works.{depth-is, names-many, captured-many}
 use Rattle.work.specs.Leaves.{Becomes}
@@ -178,7 +179,7 @@ module _ {rs : List ℕ} {p : Pass} {F C A w : List ℕ} {q : Pass}
   opened-fits {s} f =
       let e = opened-facts (atBottom s) s in
       record {
-        good = good-each (f .good) (sized-facts e) (λ Q l F z h. each-open-let l z (atBottom s) h);
+        good = good-each (f .good) (sized-facts e) (λ Q l F z h. each-open-layer l z (atBottom s) h);
         tied = tied-works _ (f .tied) e (opens w .is s (f .tied .works));
       }
 
