@@ -4,14 +4,16 @@ use mathlib.Core.List.{List}
 use mathlib.Core.Option.{Option, none, some}
 use mathlib.Core.Path.{_≡_, refl, ap, sym, subst, _∙_}
 use lib.ListN.{length, replicate}
-use Rattle.table.specs.Layout.{layout, zeros-layout}
+use Rattle.table.specs.Layout.{layout}
+use Rattle.table.specs.Laws.Layout.{zeros-layout}
 use Rattle.tree.specs.Record.{records}
 use Rattle.tree.specs.Tree.{Trees}
 use Rattle.tree.specs.Check.{Refusal}
 use Rattle.tree.specs.Accepted.{Accepted}
 use Rattle.tree.specs.Laws.Acceptance.{unique}
 use Rattle.semantic.specs.Rows as rows
-use Rattle.semantic.specs.Rows.{rowWidth, putRow, row-long, noListEntry, listEntryWidth, putInfo, putListEntry, list-entry-long}
+use Rattle.semantic.specs.Rows.{rowWidth, putRow, noListEntry, listEntryWidth, putInfo, putListEntry}
+use Rattle.semantic.specs.Laws.Rows.{row-long, list-entry-long}
 use Rattle.pass.specs.State.{State}
 use Rattle.pass.specs.Run.{rowsMost, listEntriesMost, workLength, noFacts, start, tablesOf, fresh, settled, refusedFirst, nineOr, tenAt, outcome, freshOutcome, settledOutcome}
 use Rattle.work.specs.Passes.{passNew}

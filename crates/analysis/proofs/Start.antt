@@ -5,7 +5,8 @@ use mathlib.Core.Path.{_≡_, refl, ap, sym, _∙_}
 use native.Mathlib.Omega.{arith}
 use lib.ListN.{length, getD, drop, replicate, length-replicate, length-drop}
 use lib.Seq.{getD-drop, ext-getD}
-use Rattle.table.specs.Layout.{layout, drop-layout, zeros-layout}
+use Rattle.table.specs.Layout.{layout}
+use Rattle.table.specs.Laws.Layout.{drop-layout, zeros-layout}
 use Rattle.table.specs.Region.{region}
 use Rattle.table.specs.Laws.Region.{Elsewhere, replaced-region, replaced-elsewhere}
 use Rattle.tree.specs.Record.{records}
@@ -22,7 +23,8 @@ use Rattle.pass.specs.State.{Entry, Facts, State, noEntry, entryAt}
 use Rattle.pass.specs.Run.{rowsMost, listEntriesMost, noFacts, start, run}
 use Rattle.pass_laws.specs.Laws.Sound.Lists.{same-each}
 use Rattle.pass_laws.specs.Laws.Sound.Runs.{run-owned}
-use Rattle.work.specs.Coded.{entryWidth, putCoded, putEntryRow, entry-long, putBinder}
+use Rattle.work.specs.Coded.{entryWidth, putCoded, putEntryRow, putBinder}
+use Rattle.work.specs.Laws.Coded.{entry-long}
 use Rattle.work.specs.Works.{workLong, scopeLength, entriesFirst, entriesLength, capturesFirst, capturesLength, bindersFirst, bindersLength, recordAt, rowOf, TakenIn, Works}
 use Rattle.work.specs.Laws.Works.{part-length, entries-many, captured-top, arguments-top}
 use Rattle.work.specs.Passes.{passNew}

@@ -140,6 +140,7 @@ pub record Picked (rs newest before : List ℕ) (i id b p q : ℕ) : Type 0 wher
   pub none : id ≡ 0 → p ≡ 0
   pub chain : Chain rs before id p
   pub along : {r : Bool} → r ≡ member id (seen rs p) → r ≡ again rs i
+  pub within : q ≤ i + 1
   pub chained : Chains rs (set newest b q) (set before i p) (i + 1)
 
 set-back : (l : List ℕ) (k : ℕ) → set l k (getD l k 0) ≡ l
@@ -154,6 +155,7 @@ module _ {rs newest before : List ℕ} {i id b : ℕ} (a : Chains rs newest befo
     none = λ _. refl;
     chain = chain-from (none-yet (length newest) rs _) (omega arith) (a .places) (λ c k g. absurd (omega arith));
     along = λ s. s ∙ rw (← e, eq-eqb id 0 z);
+    within = omega (arith, a .heads b .within);
     chained = subst (λ (l : List ℕ). Chains rs l (set before i 0) (i + 1)) (sym (set-back newest b)) (chains-skip a (sym e ∙ z) 0);
   }
 
@@ -162,6 +164,7 @@ module _ {rs newest before : List ℕ} {i id b : ℕ} (a : Chains rs newest befo
     none = λ z. absurd (g z);
     chain = chain-from (head a e g u) (omega arith) (a .places) (a .links);
     along = λ s. s ∙ sym (head a e g u .all id g refl) ∙ rw (← e, ne-eqb id 0 g);
+    within = omega arith;
     chained = chains-add a e g u h j;
   }
 

@@ -1,7 +1,7 @@
 // Check 8 (docs/SPEED.md, 29). Ids that rise from record to record, or fall, are all different. Others are held to the earlier ones of their bucket, which are few,
 // unless ids are chosen to share one. A link is a record counted from 1, and 0 ends a chain.
 ghost use mathlib.Core.Path.{_≡_};
-ghost use mathlib.Core.Bool.{cond, false, not, _&&_};
+ghost use mathlib.Core.Bool.{false, not, _&&_};
 ghost use mathlib.Core.List.{[]};
 ghost use Prim.Native.Nat.{_+_, _<_, _≤_};
 ghost use lib.Dec.{eqb};
@@ -57,13 +57,6 @@ fn stands(rs: &[u32], before: &[u16], last: usize, id: u32) -> bool
     false
 }
 
-// The first or the second, as asked.
-fn pick_link(first: bool, a: u16, b: u16) -> u16
-    ensures { λ r. ⌜ r ≡ cond first a b ⌝ }
-{
-    if first { a } else { b }
-}
-
 // Whether record i repeats an earlier id; 0 is none. If not, it becomes the newest of its bucket. Which records have an id comes mixed, as the
 // forms do: each link is picked, and a branch on it would be mispredicted (docs/SPEED.md, 29).
 fn repeats(rs: &[u32], i: usize, newest: &mut [u16], before: &mut [u16]) -> bool
@@ -76,13 +69,13 @@ fn repeats(rs: &[u32], i: usize, newest: &mut [u16], before: &mut [u16]) -> bool
     let id = record::id(rs, i);
     let none = id == 0;
     let b = bucket(id, newest.len());
-    let head = newest[b];
-    let last = pick_link(none, 0, head);
-    if stands(rs, before, index(last), id) {
+    let head = index(newest[b]);
+    let last = pick(none, 0, head);
+    if stands(rs, before, last, id) {
         return true;
     }
-    before[i] = last;
-    newest[b] = pick_link(none, head, (i + 1) as u16);
+    before[i] = last as u16;
+    newest[b] = pick(none, head, i + 1) as u16;
     false
 }
 

@@ -29,6 +29,7 @@ struct Innermost {
     under: usize,
 }
 
+// The first or the second, as asked.
 pub fn pick(first: bool, a: usize, b: usize) -> usize
     ensures { λ r. ⌜ r ≡ cond first a b ⌝ }
 {

@@ -5,14 +5,16 @@ use mathlib.Core.Path.{_≡_, refl, ap, sym, subst, _∙_}
 use native.Mathlib.Omega.{arith}
 use lib.ListN.{length, set, length-set, length-map}
 use lib.Seq.{sets}
-use Rattle.table.specs.Layout.{layout, length-layout}
+use Rattle.table.specs.Layout.{layout}
+use Rattle.table.specs.Laws.Layout.{length-layout}
 use Rattle.tree.specs.Record.{records, nth}
 use Rattle.tree.specs.Tree.{Ident, named, NumNames}
 use Rattle.tree.specs.Stands.{NamesStand}
 use Rattle.tree.specs.Laws.Stands.{first-name, later-names}
 use Rattle.scope_map.specs.ScopeMap.{Live, newestLayer}
 use Rattle.scope_map.specs.declared.Row.{Row}
-use Rattle.semantic.specs.Rows.{ListEntry, listEntryWidth, putListEntry, list-entry-long}
+use Rattle.semantic.specs.Rows.{ListEntry, listEntryWidth, putListEntry}
+use Rattle.semantic.specs.Laws.Rows.{list-entry-long}
 use Rattle.semantic.specs.Leaves.{StoresListEntry}
 use Rattle.semantic.specs.declared.ScopeInfo.{ScopeInfo}
 use Rattle.pass.specs.State.{State, entryAt, listEntryOf}

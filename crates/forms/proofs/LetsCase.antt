@@ -9,9 +9,10 @@ use native.Mathlib.Numerals.{add-one}
 use lib.ListN.{length}
 use lib.Dec.{eqb}
 use borrow.Author.Tests.{eq-eqb, ne-eqb}
-use Rattle.table.specs.Layout.{length-layout}
+use Rattle.table.specs.Laws.Layout.{length-layout}
 use Rattle.tree.specs.Tree.{Node}
-use Rattle.semantic.specs.Rows.{Blank, rowWidth, putRow, listEntryWidth, putListEntry, list-entry-long}
+use Rattle.semantic.specs.Rows.{Blank, rowWidth, putRow, listEntryWidth, putListEntry}
+use Rattle.semantic.specs.Laws.Rows.{list-entry-long}
 use Rattle.semantic.specs.Kinds.{functionIn, letIn, functionFound, letFound}
 use Rattle.semantic.specs.Leaves.{Tells}
 use Rattle.semantic.specs.declared.ListAt.{ListAt}

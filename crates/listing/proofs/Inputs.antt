@@ -14,7 +14,7 @@ use Rattle.tree.specs.Laws.Tree.{whole-numbers}
 use Rattle.tree.specs.Check.{Refusal, when, check1, check2, refusal}
 use Rattle.tree.specs.Laws.Acceptance.{accepted as acceptance, only}
 use Rattle.pass.specs.Run.{Tables, zeros, lengthsFit}
-use Rattle.printing.specs.Numeral.{below-or}
+use Rattle.printing.specs.Laws.Below.{below-or}
 use Rattle.printing.specs.Puts.{Line}
 use Rattle.printing.specs.Text.{refusedText, badText}
 use Rattle.reading.specs.Held.{shown, Kept, Answers, is-bad, is-good, Finished}
@@ -23,7 +23,7 @@ use Rattle.reading.specs.declared.reader.Reading.{Reading}
 use Rattle.reading.specs.declared.reader.Input.{Input}
 use Rattle.reading.specs.declared.reader.Input.the-variants as input
 use Rattle.listing.specs.Listing.{recordsMost, classesLength, textLength, allFit, Shows, unfit, too-many, refused, accepted, Prints, bad-line, shows}
-use Rattle.listing.specs.Fits.{fits}
+use Rattle.listing.specs.Laws.Fits.{fits}
 use Rattle.listing.specs.Left.{Left, Leaves}
 use Rattle.listing.specs.Answered.{Gives, FreshIn, Many, Counted, Few, InputIn, Told, Answered}
 use Rattle.listing.specs.Answered as counted

@@ -6,9 +6,11 @@ use native.Mathlib.Omega.{arith}
 use native.Mathlib.Numerals.{add-one}
 use lib.ListN.{length, getD, take, drop, length-append, take-append-drop}
 use lib.Seq.{take-suc, getD-drop, length-take-le, take-append-le, take-append-add}
-use Rattle.table.specs.Layout.{layout, length-layout}
+use Rattle.table.specs.Layout.{layout}
+use Rattle.table.specs.Laws.Layout.{length-layout}
 use Rattle.table.specs.Region.{replaced}
-use Rattle.semantic.specs.Rows.{Row, Blank, rowWidth, putRow, row-long}
+use Rattle.semantic.specs.Rows.{Row, Blank, rowWidth, putRow}
+use Rattle.semantic.specs.Laws.Rows.{row-long}
 use Rattle.printing.specs.Text.{rowText, rowsText, factsText}
 use Rattle.printing.specs.Counts.{Summed}
 use Rattle.listing.specs.Answered.{RowsIn, BlankFrom, FactsIn}

@@ -10,7 +10,7 @@ use lib.ListN.{length, take}
 use lib.Seq.{length-take-le}
 use Rattle.tree.specs.Record.{width}
 use Rattle.pass.specs.Run.{Tables, factsLength, lengthsFit, fitting}
-use Rattle.listing.specs.Fits.{fits}
+use Rattle.listing.specs.Laws.Fits.{fits}
 use Rattle.listing.specs.Answered.{Few}
 
 -- check 1, of whole records

@@ -1,2 +1,4 @@
+pub mod Fits
+pub mod Left
 pub mod Printed
 pub mod Scripts

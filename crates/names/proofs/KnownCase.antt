@@ -12,7 +12,8 @@ use Rattle.tree.specs.Tree.{Ident, named}
 use Rattle.tree.specs.Accepted.{All}
 use Rattle.scope_map.specs.ScopeMap.{Live, getIn}
 use Rattle.semantic.specs.Rows.{Row, Variable, rowWidth}
-use Rattle.semantic.specs.Leaves.{row-inside, UsesFit, uses-fit}
+use Rattle.semantic.specs.Leaves.{UsesFit}
+use Rattle.semantic.specs.Laws.Leaves.{row-inside, uses-fit}
 use Rattle.semantic.specs.declared.SemanticInformation.{SemanticInformation}
 use Rattle.pass.specs.State.{State, rowAt, newest}
 use Rattle.pass.specs.Read.{span}

@@ -9,9 +9,10 @@ use lib.Dec.{eqb}
 use Rattle.tree.specs.Record.{nth}
 use Rattle.semantic.specs.Information.{NONE, withUsageCount}
 use Rattle.semantic.specs.Rows.{Blank, Variable, rowWidth, putRow, noListEntry, listEntryWidth, putListEntry}
-use Rattle.semantic.specs.Marks.{bit-low}
+use Rattle.semantic.specs.Laws.Marks.{bit-low}
 use Rattle.semantic.specs.Amend.{amended}
-use Rattle.semantic.specs.Leaves.{Stores, Amends, Tells, list-entry-inside}
+use Rattle.semantic.specs.Leaves.{Stores, Amends, Tells}
+use Rattle.semantic.specs.Laws.Leaves.{list-entry-inside}
 use Rattle.semantic.specs.declared.ScopeInfo.{ScopeInfo}
 use Rattle.semantic.specs.declared.SemanticInformation.{SemanticInformation}
 use Rattle.semantic.specs.declared.Span.{Span}

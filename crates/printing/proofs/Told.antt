@@ -4,14 +4,15 @@ use mathlib.Core.List.{List, [], _∷_}
 use mathlib.Core.Path.{_≡_, ap, sym, _∙_}
 use lib.ListN.{getD, take}
 use Rattle.semantic.specs.Rows.{Blank, putRow}
-use Rattle.semantic.specs.Kinds.{rowKind}
+use Rattle.semantic.specs.Kinds.{rowKind, isCallSite, isTailRow}
 use Rattle.semantic.specs.Leaves.{Tells}
 use Rattle.semantic.specs.declared.RowKind.{RowKind}
-use Rattle.printing.specs.Text.{line, number, calls=, tail=, percent=, rowText, count, isCall, isTail, percent, summaryText}
+use Rattle.printing.specs.Text.{line, number, calls=, tail=, percent=, rowText, count, percent, summaryText}
 use Rattle.printing.specs.declared.summary.Calls.{Calls}
 use Rattle.printing.specs.Puts.{Line}
 use Rattle.printing.specs.Counts.{Counted, Summed}
-use Rattle.printing.specs.Numbers.{textOf, row-text}
+use Rattle.printing.specs.Numbers.{textOf}
+use Rattle.printing.specs.Laws.Numbers.{row-text}
 
 pub row-told : {F : List ℕ} {at : ℕ} {row : List ℕ} {k j : RowKind} {d : List ℕ} {r : ℕ} → Tells putRow Blank putRow F at row
     → Tells putRow Blank rowKind F at k → k ≡ j → Line (textOf at j row) d r → (r ≤ 128) × Tells putRow Blank (rowText at) F at (take r d)
@@ -34,12 +35,12 @@ pub summed : (F : List ℕ) (c : Calls) {d : List ℕ} {r p : ℕ} → Counted F
 unfolding summaryText
 summed F c {d} {r} {p} k q v = record {
   is = λ l e.
-      let s : p ≡ percent (count isCall l) (count isTail l) =
-      q ∙ ap (λ (n : ℕ). percent n (c .tail)) (k .all l e) ∙ ap (percent (count isCall l)) (k .tail l e) in
+      let s : p ≡ percent (count isCallSite l) (count isTailRow l) =
+      q ∙ ap (λ (n : ℕ). percent n (c .tail)) (k .all l e) ∙ ap (percent (count isCallSite l)) (k .tail l e) in
       let t =
       ap (λ (n : ℕ). line (number calls= n ∷ number tail= (c .tail) ∷ number percent= p ∷ [])) (k .all l e)
-      ∙ ap (λ (n : ℕ). line (number calls= (count isCall l) ∷ number tail= n ∷ number percent= p ∷ [])) (k .tail l e)
-      ∙ ap (λ (n : ℕ). line (number calls= (count isCall l) ∷ number tail= (count isTail l) ∷ number percent= n ∷ [])) s in
+      ∙ ap (λ (n : ℕ). line (number calls= (count isCallSite l) ∷ number tail= n ∷ number percent= p ∷ [])) (k .tail l e)
+      ∙ ap (λ (n : ℕ). line (number calls= (count isCallSite l) ∷ number tail= (count isTailRow l) ∷ number percent= n ∷ [])) s in
       v .text ∙ t;
   short = v .short;
 }

@@ -7,7 +7,8 @@ use native.Mathlib.Numerals.{add-one}
 use borrow.Author.Tests.{eq-eqb, ne-eqb}
 use lib.ListN.{length, getD, take, set, length-append, length-set}
 use lib.Seq.{take-suc, take-suc-set}
-use Rattle.printing.specs.Numeral.{numeral, numeral-small, numeral-more, numeral-length}
+use Rattle.printing.specs.Numeral.{numeral}
+use Rattle.printing.specs.Laws.Numeral.{numeral-small, numeral-more, numeral-length}
 use Rattle.semantic.specs.Information.{NONE}
 use Rattle.printing.specs.Text.{orNone}
 use Rattle.printing.specs.Puts.{Puts, Line}
@@ -74,7 +75,12 @@ puts-field mark v {u} h g = rw (sym (append-assoc mark v u)) (puts-then h g)
 pub puts-most : {t d e : List ℕ} {m n at p : ℕ} → m ≤ n → Puts t m d at e p → Puts t n d at e p
 puts-most h v = record { text = v .text; short = omega arith; long = v .long }
 
--- a mark and a number of at most k + 1 digits
+-- A mark and a number of at most k + 1 digits: after the mark there is room for the number, and then both are put
+
+pub number-room : {mark d e : List ℕ} {at p : ℕ} (k n : ℕ) → n < 10 ^ suc k → at + length mark + suc k ≤ length d → Puts mark (length mark) d at e p
+    → p + length (numeral n) ≤ length e
+number-room k n h g v = omega (arith, numeral-length k n h)
+
 pub puts-number : {mark d e f : List ℕ} {at p q : ℕ} (k n : ℕ) → n < 10 ^ suc k → Puts mark (length mark) d at e p
     → Puts (numeral n) (length (numeral n)) e p f q → Puts (mark ++ numeral n) (length mark + suc k) d at f q
 puts-number k n h v w = puts-then v (puts-most (numeral-length k n h) w)

@@ -3,3 +3,4 @@ pub mod Text
 pub mod Puts
 pub mod Numbers
 pub mod Counts
+pub mod Laws

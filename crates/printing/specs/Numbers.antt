@@ -1,10 +1,7 @@
 -- The line of a row, from the row's numbers.
 use Prim.Native.Nat.{ℕ}
 use mathlib.Core.List.{List, [], _∷_}
-use mathlib.Core.Path.{_≡_, refl}
 use lib.ListN.{getD}
-use Rattle.semantic.specs.Rows.{Row, Blank, Variable, Function, CallSite, Let, putRow}
-use Rattle.semantic.specs.Kinds.{rowKind}
 use Rattle.semantic.specs.declared.RowKind.{RowKind}
 use Rattle.semantic.specs.declared.RowKind.the-variants as kind
 use Rattle.printing.specs.Text.{
@@ -12,7 +9,6 @@ use Rattle.printing.specs.Text.{
   line,
   number,
   option,
-  rowText,
   at=,
   kind=,
   depth=,
@@ -49,11 +45,3 @@ textOf i kind.Variable row = variableText i row
 textOf i kind.Function row = functionText i row
 textOf i kind.CallSite row = pairText i call= (getD row 1 0) self= (getD row 2 0)
 textOf i kind.Let row = pairText i let= (getD row 1 0) in= (getD row 2 0)
-
-pub row-text : (i : ℕ) (r : Row) → textOf i (rowKind r) (putRow r) ≡ rowText i r
-unfolding textOf rowText putRow
-row-text i Blank = refl
-row-text i (Variable v) = refl
-row-text i (Function v) = refl
-row-text i (CallSite v) = refl
-row-text i (Let v) = refl

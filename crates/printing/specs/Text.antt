@@ -1,14 +1,13 @@
 -- The lines of document 01, "The printed facts", as ASCII.
 use Prim.Native.Nat.{ℕ, suc, _+_, _*_, _/_}
-use mathlib.Core.Bool.{Bool, true, false, cond}
+use mathlib.Core.Bool.{Bool, cond}
 use mathlib.Core.List.{List, [], _∷_, _++_}
 use lib.Dec.{eqb}
 use Rattle.tree.specs.Tree.{bit}
 use Rattle.tree.specs.Record.{Record, put}
 use Rattle.semantic.specs.Information.{NONE}
 use Rattle.semantic.specs.Rows.{Row, Blank, Variable, Function, CallSite, Let, kindNumber, callNumber, selfNumber}
-use Rattle.semantic.specs.declared.CallKind.{CallKind}
-use Rattle.semantic.specs.declared.CallKind.the-variants.{Normal, TailCall, SelfTailCall}
+use Rattle.semantic.specs.Kinds.{isCallSite, isTailRow}
 use Rattle.printing.specs.Numeral.{numeral}
 
 abbrev pub LF : ℕ
@@ -166,27 +165,7 @@ rowText i (Function v) =
 rowText i (Let v) = line (number at= i ∷ number let= (v .«stack_offset») ∷ option in= (v .«function_context») ∷ [])
 rowText i (CallSite v) = line (number at= i ∷ number call= (callNumber (v .kind)) ∷ option self= (selfNumber (v .kind)) ∷ [])
 
--- The summary
-
-abbrev pub isCall : Row → Bool
-isCall Blank = false
-isCall (Variable v) = false
-isCall (Function v) = false
-isCall (Let v) = false
-isCall (CallSite v) = true
-
-abbrev pub frees : CallKind → Bool
-frees Normal = false
-frees TailCall = true
-frees (SelfTailCall d) = true
-
--- a call of kind 2 or 3
-abbrev pub isTail : Row → Bool
-isTail Blank = false
-isTail (Variable v) = false
-isTail (Function v) = false
-isTail (Let v) = false
-isTail (CallSite v) = frees (v .kind)
+-- The summary, of the rows that record a call and those that record a tail call
 
 -- how many rows pass the test
 unfoldable pub count : (Row → Bool) → List Row → ℕ
@@ -207,7 +186,7 @@ rowsText i [] = []
 rowsText i (r ∷ l) = rowText i r ++ rowsText (suc i) l
 
 unfoldable pub factsText : List Row → List ℕ
-factsText l = rowsText 0 l ++ summaryText (count isCall l) (count isTail l)
+factsText l = rowsText 0 l ++ summaryText (count isCallSite l) (count isTailRow l)
 
 -- The refusals
 

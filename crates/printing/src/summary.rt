@@ -11,9 +11,10 @@ ghost use lib.ListN.{length};
 ghost use Rattle.table.specs.EntryExit.{old, final};
 ghost use Rattle.tree.specs.Tree.{bit};
 ghost use Rattle.semantic.specs.Rows.{Blank, rowWidth, putRow};
+ghost use Rattle.semantic.specs.Kinds.{isCallSite, isTailRow};
 ghost use Rattle.semantic.specs.Leaves.{Tells};
 ghost use Rattle.printing.specs.Puts.{Line};
-ghost use Rattle.printing.specs.Text.{isCall, isTail, percent as Text·percent, summaryText};
+ghost use Rattle.printing.specs.Text.{percent as Text·percent, summaryText};
 ghost use Rattle.printing.specs.Counts.{Counted, Summed};
 
 // How many calls have a fact, and how many of them are of kind 2 or 3.
@@ -30,14 +31,14 @@ fn one(b: bool) -> u32
 
 fn is_call(facts: &[u32], at: usize) -> bool
     requires { ⌜ rowWidth * at + rowWidth ≤ length (now facts) ⌝ }
-    ensures { λ r. ⌜ Tells putRow Blank isCall (old facts) at r ⌝ }
+    ensures { λ r. ⌜ Tells putRow Blank isCallSite (old facts) at r ⌝ }
 {
     facts[ROW * at] == CALL_SITE
 }
 
 fn is_tail(facts: &[u32], at: usize) -> bool
     requires { ⌜ rowWidth * at + rowWidth ≤ length (now facts) ⌝ }
-    ensures { λ r. ⌜ Tells putRow Blank isTail (old facts) at r ⌝ }
+    ensures { λ r. ⌜ Tells putRow Blank isTailRow (old facts) at r ⌝ }
 {
     if facts[ROW * at] != CALL_SITE {
         return false;

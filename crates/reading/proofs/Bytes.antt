@@ -13,7 +13,8 @@ use Rattle.reading.specs.Laws.Read.{byte-end, byte-more}
 use Rattle.reading.specs.Laws.Lost.{reached, reached-byte, differs-lost, long-lost}
 use Rattle.reading.specs.declared.reader.Reading.{Reading}
 use Rattle.reading.specs.Held.{shown, spoiled, Tied, tied-nothing, tied-says, Going, Holds, going, lost, Starts, Fed, Turned, turned, spoilt, Turns}
-use Rattle.reading.specs.Leaves.{between-none, Spares, Same, Leaves}
+use Rattle.reading.specs.Leaves.{Spares, Same, Leaves}
+use Rattle.reading.specs.Laws.Leaves.{between-none}
 use Rattle.reading.proofs.Spared.{counted, spares-none, spares-then, spares-spoiled}
 
 -- What is known while the lines are good

@@ -6,8 +6,9 @@ use mathlib.Core.Path.{_≡_, ap, sym, subst, _∙_}
 use native.Mathlib.Omega.{arith}
 use lib.ListN.{length, take, drop, set, length-append, length-set}
 use lib.Seq.{sets-eq, set-out, take-set-le, drop-set-lt, take-append-le, take-at, drop-at, length-take-le}
-use Rattle.printing.specs.Numeral.{below-or}
-use Rattle.reading.specs.Leaves.{Between, between-none, between-then, begun, begun-none, begun-some, Spares}
+use Rattle.printing.specs.Laws.Below.{below-or}
+use Rattle.reading.specs.Leaves.{Between, begun, Spares}
+use Rattle.reading.specs.Laws.Leaves.{between-none, between-then, begun-none, begun-some}
 use Rattle.reading.specs.declared.reader.Reading.{Reading}
 use Rattle.reading.specs.Held.{shown, spoiled, RowStored}
 

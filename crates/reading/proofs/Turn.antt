@@ -6,7 +6,8 @@ use mathlib.Core.Path.{_≡_, refl, ap, sym, subst, _∙_}
 use native.Mathlib.Omega.{arith}
 use lib.ListN.{length, take, drop, set, length-append, length-set}
 use lib.Seq.{sets, sets-eq, take-suc-set, take-at, length-take-le}
-use Rattle.table.specs.Layout.{layout, layout-append}
+use Rattle.table.specs.Layout.{layout}
+use Rattle.table.specs.Laws.Layout.{layout-append}
 use Rattle.tree.specs.Record.{Record, put, numbers}
 use Rattle.printing.specs.Text.{namesMarks, classMarks, recordMarks}
 use Rattle.reading.specs.Reading.{numbersOf, Said, nothing, says, differs, next, first, class, entry, recordOf, withLine}

@@ -25,7 +25,3 @@ pub record Fits (cs : List ℕ) (rs : List Record) : Type 0 where
   pub few : length cs < 2 ^ 32
   pub classes : All Byte cs
   pub records : All Narrow rs
-
-pub all-snoc : {A : Type 0} {P : A → Type 0} {a : A} {l : List A} → All P l → P a → All P (l ++ (a ∷ []))
-all-snoc all-none p = all-more p all-none
-all-snoc (all-more q h) p = all-more q (all-snoc h p)

@@ -1,3 +1,5 @@
+pub mod Input
+pub mod Leaves
 pub mod Line
 pub mod Lost
 pub mod Numbers

@@ -7,10 +7,11 @@ use native.Mathlib.Omega.{arith}
 use native.Mathlib.Numerals.{add-one}
 use lib.ListN.{length, getD, set}
 use Rattle.table.specs.Layout.{layout}
-use Rattle.table.specs.Leaves.{tells-number, amends-number, amends-none, amends-as, amends-then, amends-stores}
+use Rattle.table.specs.Laws.Leaves.{tells-number, amends-number, amends-none, amends-as, amends-then, amends-stores}
 use Rattle.tree.specs.Tree.{bit}
 use Rattle.semantic.specs.Information.{markShadowed}
-use Rattle.semantic.specs.Rows.{Row, Blank, Variable, Function, CallSite, Let, rowWidth, putRow, row-long}
+use Rattle.semantic.specs.Rows.{Row, Blank, Variable, Function, CallSite, Let, rowWidth, putRow}
+use Rattle.semantic.specs.Laws.Rows.{row-long}
 use Rattle.semantic.specs.Amend.{amended, markIf, oneUseMore, usedOr}
 use Rattle.semantic.specs.Kinds.{isBlank, isVariable, isIdentifier}
 use Rattle.semantic.specs.Laws.Kinds.{variable-told}

@@ -8,11 +8,13 @@ use borrow.Author.Tests.{eq-eqb, ne-eqb}
 use lib.ListN.{getD, set, drop}
 use lib.Seq.{sets}
 use lib.Dec.{eqb}
-use Rattle.table.specs.Leaves.{stores-row, tells-number, tells-first, amends-number, amends-then}
-use Rattle.semantic.specs.Rows.{ListEntry, marks, putInfo, noListEntry, listEntryWidth, putListEntry, list-entry-long}
+use Rattle.table.specs.Laws.Leaves.{stores-row, tells-number, tells-first, amends-number, amends-then}
+use Rattle.semantic.specs.Rows.{ListEntry, marks, putInfo, noListEntry, listEntryWidth, putListEntry}
+use Rattle.semantic.specs.Laws.Rows.{list-entry-long}
 use Rattle.semantic.specs.ListEntries.{onInfo, withCaptureOffsets, withHeapOffsets}
-use Rattle.semantic.specs.Decode.{infoOf, info-back}
-use Rattle.semantic.specs.Marks.{captured-mark, mutated-mark}
+use Rattle.semantic.specs.Decode.{infoOf}
+use Rattle.semantic.specs.Laws.Decode.{info-back}
+use Rattle.semantic.specs.Laws.Marks.{captured-mark, mutated-mark}
 use Rattle.semantic.specs.Leaves.{Amends, Tells, StoresListEntry}
 use Rattle.semantic.specs.declared.ScopeInfo.{ScopeInfo}
 

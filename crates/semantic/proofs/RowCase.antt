@@ -9,9 +9,10 @@ use borrow.Author.Tests.{eq-eqb, ne-eqb}
 use lib.ListN.{getD, drop, replicate}
 use lib.Seq.{sets}
 use lib.Dec.{eqb}
-use Rattle.table.specs.Leaves.{stores-row, tells-number, tells-first}
+use Rattle.table.specs.Laws.Leaves.{stores-row, tells-number, tells-first}
 use Rattle.semantic.specs.Information.{NONE}
-use Rattle.semantic.specs.Rows.{kindNumber, callNumber, selfNumber, Row, Blank, Variable, Function, CallSite, Let, rowWidth, putRow, row-long}
+use Rattle.semantic.specs.Rows.{kindNumber, callNumber, selfNumber, Row, Blank, Variable, Function, CallSite, Let, rowWidth, putRow}
+use Rattle.semantic.specs.Laws.Rows.{row-long}
 use Rattle.semantic.specs.Kinds.{isIdentifier, refersIn}
 use Rattle.semantic.specs.Laws.Kinds.{kind-low, low-identifier}
 use Rattle.semantic.specs.Leaves.{Tells, StoresFilled}

@@ -1,18 +1,8 @@
 -- Facts and entries from the numbers of their rows.
 use Prim.Native.Nat.{ℕ, _/_, _%_}
 use mathlib.Core.List.{List}
-use mathlib.Core.Bool.{cond}
-use mathlib.Core.Option.{none, some}
-use mathlib.Core.Path.{_≡_, refl}
-use native.Mathlib.Omega.{arith}
-use borrow.Author.Tests.{ne-eqb}
 use lib.ListN.{getD}
 use lib.Dec.{eqb}
-use Rattle.semantic.specs.Rows.{kindNumber, Row, Blank, Variable, Function, CallSite, Let, putRow, ListEntry, putInfo, putListEntry}
-use Rattle.semantic.specs.Numbers.{bit-one}
-use Rattle.semantic.specs.Kinds.{functionIn, letIn}
-use Rattle.semantic.specs.Laws.Kinds.{kind-low}
-use Rattle.semantic.specs.Marks.{captured-mark, escapes-mark, enclosing-mark, mutated-mark}
 use Rattle.semantic.specs.declared.IdentifierStatus.{IdentifierStatus}
 use Rattle.semantic.specs.declared.SemanticInformation.{SemanticInformation}
 use Rattle.semantic.specs.declared.FunctionInformation.{FunctionInformation}
@@ -43,19 +33,6 @@ informationOf kind row = record {
   «is_required_identifier» = eqb (getD row 19 0) 1;
 }
 
-pub information-back : (v : SemanticInformation) → informationOf (v .kind) (putRow (Variable v)) ≡ v
-unfolding putRow
-information-back v =
-    rw (
-      bit-one (v .«set_bang»),
-      bit-one (v .builtin),
-      bit-one (v .«last_usage»),
-      bit-one (v .escapes),
-      bit-one (v .«captured_from_enclosing»),
-      bit-one (v .«is_shadowed»),
-      bit-one (v .«is_required_identifier»),
-    )
-
 abbrev pub functionOf : List ℕ → FunctionInformation
 functionOf row = record {
   «captured_vars» = record { first = getD row 1 0; length = getD row 2 0 };
@@ -65,28 +42,12 @@ functionOf row = record {
   depth = getD row 7 0;
 }
 
-pub function-back : (r : Row) → cond (eqb (getD (putRow r) 0 0) 8) (some (functionOf (putRow r))) none ≡ functionIn r
-unfolding putRow
-function-back Blank = refl
-function-back (Variable v) = rw (ne-eqb (kindNumber (v .kind)) 8 (omega (arith, kind-low (v .kind))))
-function-back (Function v) = rw (bit-one (v .escapes))
-function-back (CallSite v) = refl
-function-back (Let v) = refl
-
 abbrev pub letOf : List ℕ → LetInformation
 letOf row = record {
   «stack_offset» = getD row 1 0;
   «function_context» = getD row 2 0;
   arguments = record { first = getD row 3 0; length = getD row 4 0 };
 }
-
-pub let-back : (r : Row) → cond (eqb (getD (putRow r) 0 0) 9) (some (letOf (putRow r))) none ≡ letIn r
-unfolding putRow
-let-back Blank = refl
-let-back (Variable v) = rw (ne-eqb (kindNumber (v .kind)) 9 (omega (arith, kind-low (v .kind))))
-let-back (Function v) = refl
-let-back (CallSite v) = refl
-let-back (Let v) = refl
 
 abbrev pub infoOf : List ℕ → ScopeInfo
 infoOf row = record {
@@ -106,14 +67,3 @@ infoOf row = record {
   «local_heap_offset» = getD row 11 0;
   depth = getD row 12 0;
 }
-
-pub info-back : (x : ListEntry) → infoOf (putListEntry x) ≡ x .info
-unfolding putListEntry putInfo
-info-back x =
-    let v = x .info in
-    rw (
-      captured-mark (v .captured) (v .escapes) (v .«captured_from_enclosing») (v .mutated),
-      escapes-mark (v .captured) (v .escapes) (v .«captured_from_enclosing») (v .mutated),
-      enclosing-mark (v .captured) (v .escapes) (v .«captured_from_enclosing») (v .mutated),
-      mutated-mark (v .captured) (v .escapes) (v .«captured_from_enclosing») (v .mutated),
-    )

@@ -4,7 +4,6 @@ pub mod Numbers
 pub mod Amend
 pub mod Kinds
 pub mod ListEntries
-pub mod Marks
 pub mod Decode
 pub mod Leaves
 pub mod Laws

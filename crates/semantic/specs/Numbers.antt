@@ -1,10 +1,7 @@
--- The kind of an identifier's fact from its number, and yes or no from theirs.
+-- The kind of an identifier's fact from its number.
 use Prim.Native.Nat.{ℕ}
-use mathlib.Core.Bool.{Bool, true, false, cond}
-use mathlib.Core.Path.{_≡_, refl}
+use mathlib.Core.Bool.{cond}
 use lib.Dec.{eqb}
-use Rattle.tree.specs.Tree.{bit}
-use Rattle.semantic.specs.Rows.{kindNumber}
 use Rattle.semantic.specs.declared.IdentifierStatus.{IdentifierStatus}
 use Rattle.semantic.specs.declared.IdentifierStatus.the-variants.{Global, Local, LocallyDefinedFunction, LetVar, Captured, Free, HeapAllocated}
 
@@ -14,16 +11,3 @@ statusOf n =
     cond (eqb n 1) Global
     (cond (eqb n 2) Local
     (cond (eqb n 3) LocallyDefinedFunction (cond (eqb n 4) LetVar (cond (eqb n 5) Captured (cond (eqb n 6) Free HeapAllocated)))))
-
-pub status-kind : (k : IdentifierStatus) → statusOf (kindNumber k) ≡ k
-status-kind Global = refl
-status-kind Local = refl
-status-kind LocallyDefinedFunction = refl
-status-kind LetVar = refl
-status-kind Captured = refl
-status-kind Free = refl
-status-kind HeapAllocated = refl
-
-pub bit-one : (b : Bool) → eqb (bit b) 1 ≡ b
-bit-one true = refl
-bit-one false = refl

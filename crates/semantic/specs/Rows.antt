@@ -1,10 +1,8 @@
 -- The rows: a fact for each record, and the entries of captured and argument lists; and which numbers they are. docs/ROWS.md.
-use Prim.Native.Nat.{ℕ, zero, suc, _+_, _*_}
-use mathlib.Core.List.{List, [], _∷_, _++_}
-use mathlib.Core.Bool.{Bool, true, false}
-use mathlib.Core.Path.{_≡_, refl}
-use lib.ListN.{length, replicate}
-use Rattle.table.specs.Layout.{layout}
+use Prim.Native.Nat.{ℕ, _+_, _*_}
+use mathlib.Core.List.{List, [], _∷_}
+use mathlib.Core.Bool.{Bool, false}
+use lib.ListN.{replicate}
 use Rattle.tree.specs.Tree.{Ident, bit}
 use Rattle.semantic.specs.Information.{NONE}
 use Rattle.semantic.specs.declared.IdentifierStatus.{IdentifierStatus}
@@ -88,14 +86,6 @@ putRow (Function v) =
 putRow (Let v) = 9 ∷ v .«stack_offset» ∷ v .«function_context» ∷ v .arguments .first ∷ v .arguments .length ∷ replicate 15 0
 putRow (CallSite v) = 10 ∷ callNumber (v .kind) ∷ selfNumber (v .kind) ∷ v .span .start ∷ v .span .end ∷ replicate 15 0
 
-pub row-long : (r : Row) → length (putRow r) ≡ rowWidth
-unfolding putRow
-row-long Blank = refl
-row-long (Variable v) = refl
-row-long (Function v) = refl
-row-long (CallSite v) = refl
-row-long (Let v) = refl
-
 -- An entry of a captured or an argument list: the name's binder, with its `ScopeInfo`
 
 pub record ListEntry : Type 0 where
@@ -128,10 +118,6 @@ putInfo v =
 unfoldable pub putListEntry : ListEntry → List ℕ
 putListEntry i = i .binder .name ∷ putInfo (i .info)
 
-pub list-entry-long : (i : ListEntry) → length (putListEntry i) ≡ listEntryWidth
-unfolding putListEntry putInfo
-list-entry-long i = refl
-
 -- the entry of a place that no list holds: zeros
 abbrev pub noListEntry : ListEntry
 noListEntry = record {
@@ -154,7 +140,3 @@ noListEntry = record {
     depth = 0;
   };
 }
-
-pub no-list-entry : putListEntry noListEntry ≡ replicate listEntryWidth 0
-unfolding putListEntry putInfo
-no-list-entry = refl

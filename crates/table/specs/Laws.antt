@@ -1,1 +1,4 @@
+pub mod Layout
+pub mod Leaves
+pub mod Part
 pub mod Region

@@ -5,8 +5,9 @@ use mathlib.Core.Path.{_≡_, refl, ap, sym, _∙_}
 use native.Mathlib.Omega.{arith}
 use lib.ListN.{length, getD, set, drop}
 use lib.Seq.{getD-take, getD-drop}
-use Rattle.table.specs.Layout.{layout, set-layout}
-use Rattle.table.specs.Leaves.{tells-first}
+use Rattle.table.specs.Layout.{layout}
+use Rattle.table.specs.Laws.Layout.{set-layout}
+use Rattle.table.specs.Laws.Leaves.{tells-first}
 use Rattle.table.specs.Region.{region}
 use Rattle.table.specs.Laws.Region.{set-region, set-elsewhere}
 use Rattle.semantic.specs.Rows.{noListEntry}

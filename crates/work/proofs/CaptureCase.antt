@@ -14,8 +14,8 @@ use Rattle.scope_map.specs.Held.{Gets}
 use Rattle.scope_map.specs.Held as map
 use Rattle.scope_map.specs.declared.ScopeMap.{ScopeMap as Map}
 use Rattle.scope_map.specs.declared.Found.{Found}
-use Rattle.semantic.specs.Numbers.{bit-one}
-use Rattle.semantic.specs.Marks.{bit-low}
+use Rattle.semantic.specs.Laws.Numbers.{bit-one}
+use Rattle.semantic.specs.Laws.Marks.{bit-low}
 use Rattle.pass.specs.State.{Capture}
 use Rattle.pass.specs.Lambda.{closeCaptures}
 use Rattle.pass.specs.Run.{rowsMost, listEntriesMost}

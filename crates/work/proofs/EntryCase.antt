@@ -7,14 +7,15 @@ use native.Mathlib.Omega.{arith}
 use native.Mathlib.Nat.{add-mul-mod-self-left, mod-eq-of-lt}
 use lib.ListN.{length, set}
 use lib.Seq.{sets}
-use Rattle.table.specs.Leaves.{tells-row, stores-row}
+use Rattle.table.specs.Laws.Leaves.{tells-row, stores-row}
 use Rattle.table.specs.Region.{region}
 use Rattle.tree.specs.Tree.{bit}
-use Rattle.semantic.specs.Numbers.{bit-one}
-use Rattle.semantic.specs.Marks.{bit-low}
+use Rattle.semantic.specs.Laws.Numbers.{bit-one}
+use Rattle.semantic.specs.Laws.Marks.{bit-low}
 use Rattle.pass.specs.State.{noEntry, entryAt, putEntry}
 use Rattle.pass.specs.Run.{rowsMost}
-use Rattle.work.specs.Coded.{coded, entryWidth, putCoded, putEntryRow, entry-long}
+use Rattle.work.specs.Coded.{coded, entryWidth, putCoded, putEntryRow}
+use Rattle.work.specs.Laws.Coded.{entry-long}
 use Rattle.work.specs.Works.{workLong, entriesFirst, entriesLength}
 use Rattle.work.specs.Laws.Works.{entries-many}
 use Rattle.work.specs.Entries.{entryOf}

@@ -5,11 +5,11 @@ use mathlib.Core.Bool.{Bool, true, false}
 use mathlib.Core.Option.{Option}
 use mathlib.Core.Path.{_≡_, refl, ap, sym, subst, _∙_}
 use native.Mathlib.Omega.{arith}
-use Rattle.pass.specs.State.{State, orKept, noteNine, noteTen, noteSecond}
+use Rattle.pass.specs.State.{State, orKept, noteNine, noteTen}
 use Rattle.pass.specs.Read.{noteLive}
 use Rattle.work.specs.Coded.{placeIn, notedOf, refusalAt, numberedIn, secondOf}
 use Rattle.work.specs.Works.{Beside, besidePass, Works}
-use Rattle.work.specs.Laws.Kept.{noting, works-as, second-kept}
+use Rattle.work.specs.Laws.Kept.{noting, works-as}
 use Rattle.work.specs.Passes.{withNotes}
 use Rattle.work.specs.Leaves.{Becomes}
 use Rattle.work.specs.declared.Pass.{Pass}
@@ -59,10 +59,6 @@ module _ {p r : Pass} (i : ℕ) where
       works-as k (withNotes (p .nine) ten (p .second) p) (noteTen i s) refl refl refl refl refl
       (ap (λ (n : Option ℕ). noting (notedOf (p .nine)) n (secondOf (p .second)) (besidePass p)) q
       ∙ ap (λ (b : Beside). noting (b .nine) (orKept (b .ten) i) (b .second) b) (k .beside)))
-
-  pub second-noted : (n : ℕ) {second : Second} → secondOf second ≡ orKept (secondOf (p .second)) (refusalAt n i) → r ≡ withNotes (p .nine) (p .ten) second p
-      → (w : List ℕ) → Becomes p w (noteSecond n i) r w
-  second-noted n {second} q e = noted e (noteSecond n i) (λ s w k. second-kept k n i second q)
 
 -- Refusal 9, or not
 

@@ -2,8 +2,6 @@
 use Prim.Native.Nat.{ℕ, zero, suc, _+_, _*_, _<_}
 use mathlib.Core.List.{List, [], _∷_}
 use mathlib.Core.Option.{Option, none, some}
-use mathlib.Core.Path.{_≡_, refl}
-use lib.ListN.{length}
 use Rattle.tree.specs.Tree.{Ident, bit}
 use Rattle.tree.specs.Check.{Refusal}
 use Rattle.semantic.specs.Rows.{ListEntry}
@@ -40,10 +38,6 @@ putCoded e = (bit (e .captured) + 2 * bit (e .mutated) + 4 * e .uses) ∷ e .las
 
 abbrev pub putEntryRow : Entry → List ℕ
 putEntryRow e = putCoded (coded e)
-
-pub entry-long : (e : Entry) → length (putEntryRow e) ≡ entryWidth
-unfolding putCoded
-entry-long e = refl
 
 abbrev pub captureOf : Capture → CodedCapture
 captureOf c = record { binder = c .binder .at; id = c .binder .id; uses = c .usageCount; enclosing = c .fromEnclosing }

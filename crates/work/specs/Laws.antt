@@ -1,3 +1,4 @@
+pub mod Coded
 pub mod Captures
 pub mod Good
 pub mod Known

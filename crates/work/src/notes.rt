@@ -5,7 +5,7 @@ use crate::Second;
 ghost use mathlib.Core.Path.{_≡_};
 ghost use mathlib.Core.List.{List};
 ghost use Prim.Native.Nat.{ℕ, _<_};
-ghost use Rattle.pass.specs.State.{noteNine, noteTen, noteSecond, orKept};
+ghost use Rattle.pass.specs.State.{noteNine, noteTen, orKept};
 ghost use Rattle.pass.specs.Read.{noteLive};
 ghost use Rattle.pass.specs.Run.{rowsMost};
 ghost use Rattle.work.specs.Coded.{notedOf, secondOf, refusalAt};
@@ -68,17 +68,6 @@ pub fn note_ten(p: Pass, at: usize) -> Pass
     let before = p.ten;
     let ten = first(before, at);
     let second = p.second;
-    with_notes(p, nine, ten, second)
-}
-
-pub fn note_second(p: Pass, number: u32, at: usize) -> Pass
-    requires { ⌜ 0 < number ⌝ }
-    ensures { λ r. ⌜ ((w : List ℕ) → Becomes p w (noteSecond number at) r w) ⌝ }
-{
-    let nine = p.nine;
-    let ten = p.ten;
-    let before = p.second;
-    let second = first_second(before, number, at);
     with_notes(p, nine, ten, second)
 }
 

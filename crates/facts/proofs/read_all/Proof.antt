@@ -4,7 +4,8 @@ use mathlib.Core.Path.{_≡_, refl, _∙_}
 use native.Mathlib.Omega.{arith}
 use borrow.Author.Needs.{needs}
 use lib.ListN.{length}
-use Rattle.facts.specs.Input.{Read, read-on}
+use Rattle.facts.specs.Input.{Read}
+use Rattle.facts.specs.Laws.Input.{read-on}
 use Rattle.facts.proofs.read_all.Statement.{statement}
 use Rattle.facts.proofs.read_all.Tie as tie
 

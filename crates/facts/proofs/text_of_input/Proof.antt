@@ -1,5 +1,5 @@
 -- `text_of_input`: the text of the bytes that were read.
-use Rattle.facts.specs.Input.{printed-of}
+use Rattle.facts.specs.Laws.Input.{printed-of}
 use borrow.Author.Needs.{needs}
 use Rattle.facts.proofs.text_of_input.Statement.{statement}
 use Rattle.facts.proofs.text_of_input.Tie as tie

@@ -4,10 +4,12 @@ use mathlib.Core.List.{List}
 use mathlib.Core.Path.{_≡_, ap}
 use native.Mathlib.Omega.{arith}
 use lib.ListN.{length}
-use Rattle.table.specs.Layout.{length-layout}
-use Rattle.semantic.specs.Rows.{Row, Blank, rowWidth, putRow, row-long, listEntryWidth, putListEntry, list-entry-long}
+use Rattle.table.specs.Laws.Layout.{length-layout}
+use Rattle.semantic.specs.Rows.{Row, Blank, rowWidth, putRow, listEntryWidth, putListEntry}
+use Rattle.semantic.specs.Laws.Rows.{row-long, list-entry-long}
 use Rattle.semantic.specs.Amend.{amended}
-use Rattle.semantic.specs.Leaves.{Stores, Amends, Tells, row-inside}
+use Rattle.semantic.specs.Leaves.{Stores, Amends, Tells}
+use Rattle.semantic.specs.Laws.Leaves.{row-inside}
 use Rattle.semantic.specs.declared.SemanticInformation.{SemanticInformation}
 use Rattle.pass.specs.State.{State, rowAt, insert, amend, withContext}
 use Rattle.pass.specs.Run.{rowsMost, listEntriesMost, factsLength, listEntriesLength}

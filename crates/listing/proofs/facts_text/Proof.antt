@@ -3,7 +3,7 @@ use Prim.Native.Nat.{_-_, _≤_}
 use native.Mathlib.Omega.{arith}
 use borrow.Author.Needs.{needs}
 use lib.ListN.{length}
-use Rattle.table.specs.Part.{part-length}
+use Rattle.table.specs.Laws.Part.{part-length}
 use Rattle.listing.proofs.Rows.{facts-in}
 use Rattle.listing.proofs.facts_text.Statement.{statement}
 use Rattle.listing.proofs.facts_text.Tie as tie

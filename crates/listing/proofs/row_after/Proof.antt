@@ -5,7 +5,7 @@ use native.Mathlib.Omega.{arith}
 use borrow.Author.Needs.{needs}
 use Prim.Native.Nat.{ℕ, _-_, _≤_}
 use lib.ListN.{length, take}
-use Rattle.table.specs.Part.{part-length}
+use Rattle.table.specs.Laws.Part.{part-length}
 use Rattle.listing.proofs.Rows.{put-after}
 use Rattle.listing.proofs.row_after.Statement.{statement}
 use Rattle.listing.proofs.row_after.Tie as tie

@@ -9,7 +9,7 @@ use Rattle.pass.specs.Run.{Tables, factsLength, listEntriesLength, workLength}
 use Rattle.analysis.specs.Answer.{tables}
 use Rattle.reading.specs.declared.reader.Reading.{Reading}
 use Rattle.listing.specs.Listing.{classesLength, recordsLength, textLength, Prints}
-use Rattle.listing.specs.Fits.{zeros-fit}
+use Rattle.listing.specs.Laws.Fits.{zeros-fit}
 use Rattle.listing.specs.Answered.{Answered, TextIn}
 use borrow.Author.Needs.{needs}
 use Rattle.listing.proofs.text.Statement.{statement}

@@ -10,7 +10,7 @@ use lib.ListN.{length}
 use Rattle.tree.specs.Record.{Record, numbers}
 use Rattle.tree.specs.Check.{Refusal, refusal}
 use Rattle.tree.specs.Laws.Acceptance.{accepted as acceptance, only, unique}
-use Rattle.printing.specs.Numeral.{below-or}
+use Rattle.printing.specs.Laws.Below.{below-or}
 use Rattle.printing.specs.Text.{badText}
 use Rattle.reading.specs.Reading.{Answer, bad, good, read}
 use Rattle.reading.specs.Held.{shown}

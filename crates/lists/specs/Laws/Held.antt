@@ -12,8 +12,9 @@ use Rattle.work.specs.declared.Pass.{Pass}
 use Rattle.walk.specs.Contract.{SomeNames}
 use Rattle.walk.specs.declared.uses.Names.{Names}
 use Rattle.lists.specs.Contract.{Told, Held}
-use Rattle.table.specs.Layout.{length-layout}
-use Rattle.semantic.specs.Rows.{listEntryWidth, putListEntry, list-entry-long}
+use Rattle.table.specs.Laws.Layout.{length-layout}
+use Rattle.semantic.specs.Rows.{listEntryWidth, putListEntry}
+use Rattle.semantic.specs.Laws.Rows.{list-entry-long}
 use Rattle.pass.specs.Run.{listEntriesLength}
 
 pub told : {rs : List ℕ} {n : Names} (h : SomeNames rs n) → Told rs n (h .xs)

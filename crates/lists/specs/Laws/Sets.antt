@@ -6,7 +6,8 @@ use native.Mathlib.Omega.{arith}
 use native.Mathlib.Numerals.{add-one}
 use lib.ListN.{length, getD, set, drop, take, length-set, length-drop, take-append-drop}
 use lib.Seq.{sets, sets-eq, set-set, set-comm, getD-set-other, drop-cons, drop-drop, drop-nil, take-nil, drop-at, take-at, length-take-le}
-use Rattle.table.specs.Layout.{layout, sets-layout}
+use Rattle.table.specs.Layout.{layout}
+use Rattle.table.specs.Laws.Layout.{sets-layout}
 
 module _ {A : Type 0} where
   -- before them, one more

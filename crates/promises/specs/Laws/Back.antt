@@ -8,10 +8,14 @@ use borrow.Author.Tests.{ne-eqb, lt-ltb}
 use lib.ListN.{length, getD, take, drop}
 use lib.Seq.{take-at, drop-at}
 use lib.Dec.{eqb, ltb}
-use Rattle.table.specs.Layout.{layout, length-layout}
-use Rattle.semantic.specs.Rows.{kindNumber, Row, Blank, Variable, Function, CallSite, Let, rowWidth, putRow, row-long}
-use Rattle.semantic.specs.Numbers.{statusOf, status-kind, bit-one}
-use Rattle.semantic.specs.Decode.{informationOf, information-back, functionOf, letOf}
+use Rattle.table.specs.Layout.{layout}
+use Rattle.table.specs.Laws.Layout.{length-layout}
+use Rattle.semantic.specs.Rows.{kindNumber, Row, Blank, Variable, Function, CallSite, Let, rowWidth, putRow}
+use Rattle.semantic.specs.Laws.Rows.{row-long}
+use Rattle.semantic.specs.Numbers.{statusOf}
+use Rattle.semantic.specs.Laws.Numbers.{status-kind, bit-one}
+use Rattle.semantic.specs.Decode.{informationOf, functionOf, letOf}
+use Rattle.semantic.specs.Laws.Decode.{information-back}
 use Rattle.semantic.specs.Laws.Kinds.{kind-low}
 use Rattle.semantic.specs.declared.CallKind.{CallKind}
 use Rattle.semantic.specs.declared.CallKind.the-variants.{Normal, TailCall, SelfTailCall}

@@ -7,12 +7,14 @@ use mathlib.Core.Path.{_≡_, refl, ap, sym, _∙_}
 use borrow.Author.Tests.{eqb-true}
 use lib.ListN.{length, replicate}
 use lib.Dec.{eqb}
-use Rattle.table.specs.Layout.{layout, zeros-layout}
+use Rattle.table.specs.Layout.{layout}
+use Rattle.table.specs.Laws.Layout.{zeros-layout}
 use Rattle.tree.specs.Record.{width}
 use Rattle.tree.specs.Tree.{Trees}
 use Rattle.tree.specs.Check.{Refusal, refusal}
 use Rattle.tree.specs.Laws.Acceptance.{accepted}
-use Rattle.semantic.specs.Rows.{Blank, rowWidth, putRow, row-long, putListEntry}
+use Rattle.semantic.specs.Rows.{Blank, rowWidth, putRow, putListEntry}
+use Rattle.semantic.specs.Laws.Rows.{row-long}
 use Rattle.pass.specs.State.{State}
 use Rattle.pass.specs.Run.{rowsMost, Tables, tablesOf, zeros, Outcome, outcome, fitting, Answers, fresh, settled, refusedFirst, orSecond, freshOutcome, settledOutcome}
 use Rattle.pass.specs.Bare.{bares}

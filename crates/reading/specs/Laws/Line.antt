@@ -5,7 +5,8 @@ use mathlib.Core.Option.{Option, none, some}
 use mathlib.Core.Path.{_≡_, refl, ap, sym, _∙_}
 use native.Mathlib.Omega.{arith}
 use lib.ListN.{length, length-append}
-use Rattle.printing.specs.Numeral.{numeral, numeral-length}
+use Rattle.printing.specs.Numeral.{numeral}
+use Rattle.printing.specs.Laws.Numeral.{numeral-length}
 use Rattle.printing.specs.Text.{LF, line, numbers}
 use Rattle.reading.specs.Reading.{Numbered, digits, numberIf, after, fieldAt, onto, numbersOf}
 use Rattle.reading.specs.Laws.Numbers.{numbered, never, Stops, number-sound, number-complete, after-sound, after-complete}

@@ -8,7 +8,7 @@ use native.Mathlib.Omega.{arith}
 use borrow.Author.Tests.{eqb-true}
 use lib.Dec.{eqb}
 use lib.ListN.{length, length-append}
-use Rattle.printing.specs.Numeral.{below-or}
+use Rattle.printing.specs.Laws.Below.{below-or}
 use Rattle.printing.specs.Text.{LF, namesMarks, classMarks, recordMarks}
 use Rattle.reading.specs.Reading.{
   Said,

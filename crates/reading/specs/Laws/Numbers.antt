@@ -8,7 +8,9 @@ use mathlib.Core.Path.{_≡_, refl, ap, sym, subst, _∙_}
 use native.Mathlib.Omega.{arith}
 use borrow.Author.Tests.{lt-ltb, le-ltb, leb-true, le-leb, eqb-true, eqb-false, eq-eqb, ne-eqb}
 use lib.Dec.{eqb, leb}
-use Rattle.printing.specs.Numeral.{numeral, numeral-small, numeral-more, numeral-snoc, below-or}
+use Rattle.printing.specs.Numeral.{numeral}
+use Rattle.printing.specs.Laws.Below.{below-or}
+use Rattle.printing.specs.Laws.Numeral.{numeral-small, numeral-more, numeral-snoc}
 use Rattle.reading.specs.Reading.{Numbered, after, isDigit, digits, fit, numberAt}
 
 abbrev pub numbered : ℕ → List ℕ → Numbered

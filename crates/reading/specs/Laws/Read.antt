@@ -10,7 +10,9 @@ use borrow.Author.Tests.{lt-ltb, le-ltb, ne-eqb}
 use lib.Dec.{eqb}
 use lib.ListN.{length, getD}
 use Rattle.tree.specs.Record.{Record}
-use Rattle.printing.specs.Numeral.{numeral, numeral-small, numeral-more, below-or}
+use Rattle.printing.specs.Numeral.{numeral}
+use Rattle.printing.specs.Laws.Below.{below-or}
+use Rattle.printing.specs.Laws.Numeral.{numeral-small, numeral-more}
 use Rattle.printing.specs.Text.{LF, line, numbers, classMarks, recordMarks}
 use Rattle.reading.specs.Reading.{numbersOf, Said, says, differs, next, class, entry, withLine, State, state, withByte, withBytes}
 use Rattle.reading.specs.Laws.Line.{body, line-body}

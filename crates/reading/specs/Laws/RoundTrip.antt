@@ -9,9 +9,10 @@ use native.Mathlib.Omega.{arith}
 use borrow.Author.Tests.{lt-ltb, le-ltb, eqb-true}
 use lib.Dec.{eqb}
 use lib.ListN.{length, length-append}
-use Rattle.table.specs.Layout.{layout, layout-append}
+use Rattle.table.specs.Layout.{layout}
+use Rattle.table.specs.Laws.Layout.{layout-append}
 use Rattle.tree.specs.Record.{Record, put}
-use Rattle.printing.specs.Numeral.{below-or}
+use Rattle.printing.specs.Laws.Below.{below-or}
 use Rattle.printing.specs.Text.{LF, namesMarks, classMarks, recordMarks, namesLine, classLine, recordLine}
 use Rattle.reading.specs.Reading.{
   digits,
@@ -36,7 +37,8 @@ use Rattle.reading.specs.Reading.{
   read,
 }
 use Rattle.reading.specs.Laws.Line.{body, line-body, Below, none-left, one-more, numbers-sound, numbers-complete, Parted, last, parted}
-use Rattle.reading.specs.Input.{input, All, all-none, all-more, all-snoc, Byte, Narrow, Fits}
+use Rattle.reading.specs.Input.{input, All, all-none, all-more, Byte, Narrow, Fits}
+use Rattle.reading.specs.Laws.Input.{all-snoc}
 use Rattle.reading.specs.Laws.Read.{line-class, line-record, class-fits, class-over, byte-end, byte-more, plain, Marks, no-mark, a-mark, reads-line}
 
 -- The marks of the input hold no LF and start with no digit

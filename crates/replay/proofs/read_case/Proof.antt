@@ -1,6 +1,6 @@
 -- `read_case`: each reading goes onward.
 use native.Mathlib.Omega.{arith}
-use Rattle.replay.specs.Reads.{reads-on}
+use Rattle.replay.specs.Laws.Reads.{reads-on}
 use borrow.Author.Needs.{needs}
 use Rattle.replay.proofs.read_case.Statement.{statement}
 use Rattle.replay.proofs.read_case.Tie as tie

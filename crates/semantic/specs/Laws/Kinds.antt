@@ -7,8 +7,10 @@ use borrow.Author.Tests.{ne-eqb, lt-ltb, le-ltb}
 use mathlib.Core.List.{List}
 use lib.ListN.{getD}
 use lib.Dec.{eqb}
-use Rattle.table.specs.Leaves.{Tells, tells-first}
-use Rattle.semantic.specs.Rows.{kindNumber, Row, Blank, Variable, Function, CallSite, Let, rowWidth, putRow, row-long}
+use Rattle.table.specs.Leaves.{Tells}
+use Rattle.table.specs.Laws.Leaves.{tells-first}
+use Rattle.semantic.specs.Rows.{kindNumber, Row, Blank, Variable, Function, CallSite, Let, rowWidth, putRow}
+use Rattle.semantic.specs.Laws.Rows.{row-long}
 use Rattle.semantic.specs.Kinds.{rowKind, kindOf, isBlank, isVariable, isIdentifier}
 use Rattle.semantic.specs.declared.IdentifierStatus.{IdentifierStatus}
 use Rattle.semantic.specs.declared.IdentifierStatus.the-variants.{Global, Local, LocallyDefinedFunction, LetVar, Captured, Free, HeapAllocated}

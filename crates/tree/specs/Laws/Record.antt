@@ -5,8 +5,9 @@ use mathlib.Core.Path.{_≡_, refl, ap, sym, _∙_}
 use native.Mathlib.Omega.{arith}
 use lib.ListN.{length, getD, take, drop}
 use lib.Seq.{take-all, take-append-add, drop-drop, getD-take}
-use Rattle.table.specs.Part.{part}
-use Rattle.table.specs.Layout.{layout, get-layout}
+use Rattle.table.specs.Laws.Part.{part}
+use Rattle.table.specs.Layout.{layout}
+use Rattle.table.specs.Laws.Layout.{get-layout}
 use Rattle.tree.specs.Record.{Record, width, put, numbers, records, blank, nth}
 
 pub put-long : (r : Record) → length (put r) ≡ width

@@ -5,7 +5,7 @@ use mathlib.Core.Path.{_≡_, refl, ap, sym, subst, _∙_}
 use native.Mathlib.Omega.{arith}
 use native.Mathlib.Nat.{mul-mod-right}
 use lib.ListN.{length, length-append, length-map}
-use Rattle.table.specs.Layout.{layout-append, length-layout}
+use Rattle.table.specs.Laws.Layout.{layout-append, length-layout}
 use Rattle.tree.specs.Laws.Record.{put-long}
 use Rattle.tree.specs.Record.{Record, width, put, numbers}
 use Rattle.tree.specs.Tree.{Tree, Trees, ident, const, if, letin, define, lambda, sequence, call, set!, nil, cons, many, named, flat, flats, size, sizes, nesting, nestings, Num, Nums}

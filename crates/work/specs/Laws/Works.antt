@@ -4,13 +4,14 @@ use mathlib.Core.List.{List}
 use mathlib.Core.Path.{_≡_, refl, ap, _∙_}
 use native.Mathlib.Omega.{arith}
 use lib.ListN.{length}
-use Rattle.table.specs.Layout.{length-layout}
+use Rattle.table.specs.Laws.Layout.{length-layout}
 use Rattle.table.specs.Region.{region}
 use Rattle.table.specs.Laws.Region.{region-length}
 use Rattle.scope_map.specs.Laws.Map.{map-length}
 use Rattle.pass.specs.State.{State}
 use Rattle.pass.specs.Run.{rowsMost, listEntriesMost}
-use Rattle.work.specs.Coded.{notedOf, secondOf, entryWidth, putEntryRow, entry-long, putBinder}
+use Rattle.work.specs.Coded.{notedOf, secondOf, entryWidth, putEntryRow, putBinder}
+use Rattle.work.specs.Laws.Coded.{entry-long}
 use Rattle.work.specs.Works.{workLong, entriesFirst, entriesLength, bindersFirst, bindersLength, recordAt, rowOf, Beside, Works, Spacious}
 use Rattle.work.specs.declared.Pass.{Pass}
 

@@ -7,8 +7,10 @@ use borrow.Author.Needs.{needs}
 use lib.ListN.{length, take}
 use Rattle.table.specs.Layout.{layout}
 use Rattle.semantic.specs.Rows.{Row, putRow}
-use Rattle.printing.specs.Text.{count, isCall, isTail}
-use Rattle.printing.proofs.Count.{bit-most, count-turn, count-end}
+use Rattle.semantic.specs.Kinds.{isCallSite, isTailRow}
+use Rattle.semantic.specs.Laws.Marks.{bit-low}
+use Rattle.printing.specs.Text.{count}
+use Rattle.printing.proofs.Count.{count-turn, count-end}
 use Rattle.printing.proofs.summary.count_calls.Statement.{statement}
 use Rattle.printing.proofs.summary.count_calls.Tie as tie
 
@@ -17,8 +19,8 @@ Inv-loop facts rows all₀ tail₀ i₀ all tail i =
     (i ≤ length facts / 20)
     × (all ≤ i)
     × (tail ≤ i)
-    × ((l : List Row) → facts ≡ layout putRow l → all ≡ count isCall (take i l))
-    × ((l : List Row) → facts ≡ layout putRow l → tail ≡ count isTail (take i l))
+    × ((l : List Row) → facts ≡ layout putRow l → all ≡ count isCallSite (take i l))
+    × ((l : List Row) → facts ≡ layout putRow l → tail ≡ count isTailRow (take i l))
 
 abbrev μ-loop : tie.MeasureT-loop
 μ-loop facts rows all₀ tail₀ i₀ all tail i = length facts / 20 - i
@@ -28,10 +30,10 @@ unfolding count
 loop-holds c = (omega arith, omega arith, omega arith, λ l e. refl, λ l e. refl)
 
 add-all : tie.Need-add-all Inv-loop μ-loop
-add-all c = omega (arith, c .one .ensures, bit-most (c .before .is-call .result))
+add-all c = omega (arith, c .one .ensures, bit-low (c .before .is-call .result))
 
 add-tail : tie.Need-add-tail Inv-loop μ-loop
-add-tail c = omega (arith, c .one2 .ensures, bit-most (c .before .is-tail .result))
+add-tail c = omega (arith, c .one2 .ensures, bit-low (c .before .is-tail .result))
 
 loop-again : tie.Need-loop-again Inv-loop μ-loop
 loop-again c =
@@ -47,10 +49,10 @@ loop-again c =
     let a = c₂ .one in
     let b = c .one2 in (
       omega arith,
-      omega (arith, a .ensures, bit-most (c₃ .is-call .result)),
-      omega (arith, b .ensures, bit-most (c₁ .is-tail .result)),
-      λ l e. count-turn isCall F l (v .i) (v .all) e h (c₃ .is-call .ensures) (a .ensures) (v .inv .3 l e),
-      λ l e. count-turn isTail F l (v .i) (v .tail) e h (c₁ .is-tail .ensures) (b .ensures) (v .inv .4 l e),
+      omega (arith, a .ensures, bit-low (c₃ .is-call .result)),
+      omega (arith, b .ensures, bit-low (c₁ .is-tail .result)),
+      λ l e. count-turn isCallSite F l (v .i) (v .all) e h (c₃ .is-call .ensures) (a .ensures) (v .inv .3 l e),
+      λ l e. count-turn isTailRow F l (v .i) (v .tail) e h (c₁ .is-tail .ensures) (b .ensures) (v .inv .4 l e),
     )
 
 returns : tie.Need-returns Inv-loop μ-loop
@@ -59,8 +61,8 @@ returns c =
     let v = c .before .loop in
     let h = c .loop-test .left in
     record {
-      all = λ l e. count-end isCall F l (v .i) (v .all) e h (v .inv .3 l e);
-      tail = λ l e. count-end isTail F l (v .i) (v .tail) e h (v .inv .4 l e);
+      all = λ l e. count-end isCallSite F l (v .i) (v .all) e h (v .inv .3 l e);
+      tail = λ l e. count-end isTailRow F l (v .i) (v .tail) e h (v .inv .4 l e);
     }
 
 pub count-calls-spec : {M : Type 1} → statement M

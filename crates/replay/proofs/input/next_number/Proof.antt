@@ -2,7 +2,7 @@
 use Prim.Native.Nat.{_-_, _≤_}
 use lib.ListN.{length}
 use native.Mathlib.Omega.{arith}
-use Rattle.replay.specs.Reads.{nothing}
+use Rattle.replay.specs.Laws.Reads.{nothing}
 use borrow.Author.Needs.{needs}
 use Rattle.replay.proofs.input.next_number.Statement.{statement}
 use Rattle.replay.proofs.input.next_number.Tie as tie

@@ -1,6 +1,7 @@
 -- `function_at`: the row's first number tells a lambda's.
 use Rattle.semantic.specs.Kinds.{functionIn}
-use Rattle.semantic.specs.Decode.{functionOf, function-back}
+use Rattle.semantic.specs.Decode.{functionOf}
+use Rattle.semantic.specs.Laws.Decode.{function-back}
 use Rattle.semantic.proofs.RowCase.{found, not-found}
 use borrow.Author.Needs.{needs}
 use Rattle.semantic.proofs.kinds.function_at.Statement.{statement}

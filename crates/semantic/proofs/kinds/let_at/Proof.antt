@@ -1,6 +1,7 @@
 -- `let_at`: the row's first number tells a let's.
 use Rattle.semantic.specs.Kinds.{letIn}
-use Rattle.semantic.specs.Decode.{letOf, let-back}
+use Rattle.semantic.specs.Decode.{letOf}
+use Rattle.semantic.specs.Laws.Decode.{let-back}
 use Rattle.semantic.proofs.RowCase.{found, not-found}
 use borrow.Author.Needs.{needs}
 use Rattle.semantic.proofs.kinds.let_at.Statement.{statement}

@@ -1,7 +1,8 @@
 -- `load_info`: the row is read, and read back.
 use mathlib.Core.Path.{refl}
-use Rattle.table.specs.Leaves.{tells-row}
-use Rattle.semantic.specs.Rows.{noListEntry, listEntryWidth, putListEntry, list-entry-long}
+use Rattle.table.specs.Laws.Leaves.{tells-row}
+use Rattle.semantic.specs.Rows.{noListEntry, listEntryWidth, putListEntry}
+use Rattle.semantic.specs.Laws.Rows.{list-entry-long}
 use Rattle.semantic.proofs.ListEntryCase.{info-told}
 use borrow.Author.Needs.{needs}
 use Rattle.semantic.proofs.list_entries.load_info.Statement.{statement}

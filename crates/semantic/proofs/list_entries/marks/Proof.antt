@@ -1,6 +1,6 @@
 -- `marks`: the sum is below 16.
 use native.Mathlib.Omega.{arith}
-use Rattle.semantic.specs.Marks.{bit-low}
+use Rattle.semantic.specs.Laws.Marks.{bit-low}
 use borrow.Author.Needs.{needs}
 use Rattle.semantic.proofs.list_entries.marks.Statement.{statement}
 use Rattle.semantic.proofs.list_entries.marks.Tie as tie

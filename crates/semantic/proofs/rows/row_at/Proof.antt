@@ -1,6 +1,7 @@
 -- `row_at`: a row's numbers are its part of the table.
-use Rattle.table.specs.Leaves.{tells-row}
-use Rattle.semantic.specs.Rows.{Blank, rowWidth, putRow, row-long}
+use Rattle.table.specs.Laws.Leaves.{tells-row}
+use Rattle.semantic.specs.Rows.{Blank, rowWidth, putRow}
+use Rattle.semantic.specs.Laws.Rows.{row-long}
 use borrow.Author.Needs.{needs}
 use Rattle.semantic.proofs.rows.row_at.Statement.{statement}
 use Rattle.semantic.proofs.rows.row_at.Tie as tie

@@ -1,6 +1,6 @@
 -- `put_capture`: the row is put in its place.
 use native.Mathlib.Omega.{arith}
-use Rattle.semantic.specs.Marks.{bit-low}
+use Rattle.semantic.specs.Laws.Marks.{bit-low}
 use Rattle.work.specs.Coded.{putCapture}
 use borrow.Author.Needs.{needs}
 use Rattle.work.proofs.captures.put_capture.Statement.{statement}

@@ -1,6 +1,6 @@
 -- `store_entry`: the row is put in its place.
 use native.Mathlib.Omega.{arith}
-use Rattle.semantic.specs.Marks.{bit-low}
+use Rattle.semantic.specs.Laws.Marks.{bit-low}
 use Rattle.work.specs.Coded.{putCoded}
 use Rattle.work.proofs.EntryCase.{stores-entry}
 use borrow.Author.Needs.{needs}

@@ -6,7 +6,7 @@ use native.Mathlib.Omega.{arith}
 use lib.Dec.{eqb}
 use Rattle.tree.specs.Tree.{bit}
 use Rattle.semantic.specs.Rows.{marks}
-use Rattle.semantic.specs.Numbers.{bit-one}
+use Rattle.semantic.specs.Laws.Numbers.{bit-one}
 
 pub bit-low : (b : Bool) → bit b ≤ 1
 bit-low true = omega arith

@@ -1,0 +1,4 @@
+pub mod Below
+pub mod Numeral
+pub mod Counts
+pub mod Numbers
