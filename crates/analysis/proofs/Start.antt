@@ -14,7 +14,8 @@ use Rattle.tree.specs.Tree.{Trees}
 use Rattle.tree.specs.Accepted.{Accepted}
 use Rattle.tree.specs.Laws.Acceptance.{many-records}
 use Rattle.scope_map.specs.ScopeMap.{new}
-use Rattle.scope_map.specs.Laws.Map.{mapValues, map-new}
+use Rattle.scope_map.specs.Map.{mapValues}
+use Rattle.scope_map.specs.Laws.Map.{map-new}
 use Rattle.scope_map.specs.Hints.{rowsLength, hintsLength, mapLength}
 use Rattle.scope_map.specs.Held.{Held}
 use Rattle.scope_map.specs.Laws.Held.{held-new}

@@ -8,7 +8,7 @@ use native.Mathlib.Omega.{arith}
 use native.Mathlib.Numerals.{add-one}
 use lib.ListN.{length, length-map}
 use Rattle.tree.specs.Tree.{named}
-use Rattle.scope_map.specs.Laws.Map.{mapValues}
+use Rattle.scope_map.specs.Map.{mapValues}
 use Rattle.scope_map.specs.declared.ScopeMap.{ScopeMap}
 use Rattle.semantic.specs.Rows.{Blank, ListEntry, putRow}
 use Rattle.semantic.specs.Kinds.{functionIn, functionFound}

@@ -1,2 +1,3 @@
 pub mod Simulation
+pub mod SameRecord
 pub mod Examples

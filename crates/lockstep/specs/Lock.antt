@@ -4,11 +4,11 @@ use mathlib.Core.List.{List, [], _∷_, _++_}
 use mathlib.Core.List.{List·Memᴰ as Member}
 use mathlib.Core.Bool.{cond}
 use mathlib.Core.Option.{Option, none, some}
-use mathlib.Core.Path.{_≡_, ap}
+use mathlib.Core.Path.{_≡_}
 use lib.ListN.{getElem?}
 use Rattle.tree.specs.Tree.{Tree, Trees, ident, const, if, letin, define, lambda, sequence, call, set!, nil, cons}
 use Rattle.r7rs.specs.Binding.{Means}
-use Rattle.r7rs.specs.Machine.{Moment, start, entered, read, pushed, standsAt, waiting, kend, kif, kseq, kpush, khead, kdrop, kret, kset, kdef, next, ended, stopped, Cells, lastN, butN, kand, kwhen}
+use Rattle.r7rs.specs.Machine.{Moment, start, entered, read, pushed, waiting, kend, kif, kseq, kpush, khead, kdrop, kret, kset, kdef, next, ended, stopped, Cells, lastN, butN, kand, kwhen}
 use Rattle.r7rs.specs.Plain.{Env, PVal, pconst, punit, pclo, Store, PMem, PBody, PKont, PState, POut}
 use Rattle.r7rs.specs.Run.{Ran}
 use Rattle.semantic.specs.Rows.{Row}
@@ -146,9 +146,6 @@ module _ (ts : Trees) (T : List Row) where
     pub cells : LikeCells ts T (p .mem .store) (s .mem) (p .mem .cells)
     pub running : LikeBody ts T (p .mem .store) (s .body) (p .body)
     pub callers : LikeBodies ts T (p .mem .store) (waiting (s .kont)) (untailed T (waiting (p .kont)))
-
-  pub same-record : {s : SState} {p : PState} → InStep s p → standsAt (s .moment) ≡ standsAt (p .moment)
-  same-record i = ap standsAt (i .moments)
 
   -- "or both have ended with like last values and cells, or both have stopped". Nothing else: no read or set! goes outside a frame.
   pub data Now : SOut → POut → Type 0 where

@@ -28,8 +28,8 @@ use Rattle.work.specs.Laws.Works.{depth-is}
 use Rattle.work.specs.Laws.Scope.{newest-known}
 use Rattle.work.specs.Leaves.{Becomes, Tells, StoresEntry}
 use Rattle.work.specs.Scope.{TellsId, isLiveRow, inRow, Defines}
-use Rattle.work.specs.Tied.{raw, Tied, Good, Here}
-use Rattle.work.specs.Laws.Tied.{rowCount, enter-facts, tied-works, tied-insert, tied-amend}
+use Rattle.work.specs.Tied.{raw, Tied, Good, Here, rowCount}
+use Rattle.work.specs.Laws.Tied.{enter-facts, tied-works, tied-insert, tied-amend}
 use Rattle.work.specs.Laws.Good.{sized-enter, sized-amend, good-each}
 use Rattle.work.specs.declared.Pass.{Pass}
 use Rattle.work.specs.declared.entries.Entry.{Entry as Coded}

@@ -25,9 +25,8 @@ use Rattle.work.specs.Entries.{usedMore}
 use Rattle.work.specs.Works.{Works, workLong}
 use Rattle.work.specs.Laws.Scope.{newest-known}
 use Rattle.work.specs.Leaves.{Tells, LoadsEntry}
-use Rattle.work.specs.Tied.{raw, Tied, Good}
+use Rattle.work.specs.Tied.{raw, Tied, Good, rowCount}
 use Rattle.pass_laws.specs.Visitable.{usesMost}
-use Rattle.work.specs.Laws.Tied.{rowCount}
 use Rattle.work.specs.declared.Pass.{Pass}
 use Rattle.work.specs.declared.entries.Entry.{Entry as Coded}
 use Rattle.work.specs.declared.scope.Binder.{Binder}

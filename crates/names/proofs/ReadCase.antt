@@ -21,8 +21,8 @@ use Rattle.work.specs.Coded.{coded, recordIn}
 use Rattle.work.specs.Entries.{usedMore, usedLast, nowCaptured, nowMutated}
 use Rattle.work.specs.Laws.Scope.{newest-known}
 use Rattle.work.specs.Leaves.{Tells, LoadsEntry, StoresEntry}
-use Rattle.work.specs.Tied.{raw, Tied, Here}
-use Rattle.work.specs.Laws.Tied.{rowCount, count-amend, count-entry, tied-insert, tied-change, tied-amend, tied-entry}
+use Rattle.work.specs.Tied.{raw, Tied, Here, rowCount}
+use Rattle.work.specs.Laws.Tied.{count-amend, count-entry, tied-insert, tied-change, tied-amend, tied-entry}
 use Rattle.work.specs.declared.Pass.{Pass}
 use Rattle.work.specs.declared.entries.Entry.{Entry as Coded}
 use Rattle.names.specs.Facts.{spanOf, FreeFact, GlobalFact, LocalFact, HomeFact}

@@ -7,7 +7,7 @@ use native.Mathlib.Omega.{arith}
 use borrow.Author.Tests.{eq-eqb, ne-eqb}
 use Rattle.tree.specs.Tree.{Ident}
 use Rattle.scope_map.specs.ScopeMap.{Live, getIn}
-use Rattle.scope_map.specs.Laws.Map.{mapLive}
+use Rattle.scope_map.specs.Map.{mapLive}
 use Rattle.scope_map.specs.Held.{foundIn}
 use Rattle.scope_map.specs.declared.Found.{Found}
 use Rattle.scope_map.specs.declared.Found.the-variants.{At, Nothing}

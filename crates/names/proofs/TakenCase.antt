@@ -29,9 +29,9 @@ use Rattle.work.specs.Passes.{withSecond}
 use Rattle.work.specs.Leaves.{LoadsEntry, StoresEntry}
 use Rattle.work.specs.Captures.{LoadsCapture, UsesCapture}
 use Rattle.work.specs.Laws.Captures.{found-below, captures-few, taken-uses}
-use Rattle.work.specs.Tied.{raw, Tied, Good}
+use Rattle.work.specs.Tied.{raw, Tied, Good, rowCount}
 use Rattle.pass_laws.specs.Visitable.{usesMost}
-use Rattle.work.specs.Laws.Tied.{rowCount, count-amend, count-entry, facts-entry, tied-works, tied-insert, tied-amend}
+use Rattle.work.specs.Laws.Tied.{count-amend, count-entry, facts-entry, tied-works, tied-insert, tied-amend}
 use Rattle.work.specs.declared.Pass.{Pass}
 use Rattle.work.specs.declared.Second.{Second}
 use Rattle.work.specs.declared.captures.Capture.{Capture as CodedCapture}

@@ -16,8 +16,7 @@ use Rattle.work.specs.Coded.{coded, captureOf}
 use Rattle.work.specs.Works.{Works}
 use Rattle.work.specs.Passes.{withSecond}
 use Rattle.work.specs.Scope.{BindersKnown}
-use Rattle.work.specs.Tied.{raw, Tied, Good, Here}
-use Rattle.work.specs.Laws.Tied.{rowCount}
+use Rattle.work.specs.Tied.{raw, Tied, Good, Here, rowCount}
 use Rattle.work.specs.declared.Pass.{Pass}
 use Rattle.work.specs.declared.Second.{Second}
 use Rattle.work.specs.declared.captures.Capture.{Capture as CodedCapture}

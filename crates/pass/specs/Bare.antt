@@ -4,7 +4,7 @@ use mathlib.Core.List.{map}
 use mathlib.Core.Option.{Option·map}
 use mathlib.Core.Path.{_≡_}
 use Rattle.tree.specs.Tree.{Node, Ident, Tree, Trees, ident, const, if, letin, define, lambda, sequence, call, set!, nil, cons, Sequence, begins, ands, whens}
-use Rattle.scope_map.specs.Laws.Map.{mapValues}
+use Rattle.scope_map.specs.Map.{mapValues}
 use Rattle.semantic.specs.Rows.{Row, Blank, Variable, Function, CallSite, Let, ListEntry}
 use Rattle.semantic.specs.declared.Span.{Span}
 use Rattle.semantic.specs.declared.SemanticInformation.{SemanticInformation}

@@ -1,4 +1,5 @@
 pub mod Laws
+pub mod Spread
 pub mod Static
 pub mod Stage
 pub mod Sound

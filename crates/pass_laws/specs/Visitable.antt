@@ -15,7 +15,7 @@ use Rattle.pass.specs.Visit.{Flags, topFlags}
 use Rattle.pass.specs.Run.{rowsMost, listEntriesMost}
 use Rattle.pass_laws.specs.Sound.{Sound, Counted, Holds, HoldsAll}
 use Rattle.pass_laws.specs.Stage.{Stage, StageArguments, StageChildren, StageTops, enterings, endOf}
-use Rattle.pass_laws.specs.Laws.Tops.{Spread}
+use Rattle.pass_laws.specs.Spread.{Spread}
 
 -- Far below what a number can hold
 

@@ -9,6 +9,7 @@ use native.Mathlib.Numerals.{add-one}
 use borrow.Author.Tests.{eq-eqb, ne-eqb}
 use lib.ListN.{length, getD, drop, replicate, drop-of-length-le}
 use lib.Seq.{drop-cons}
+use Rattle.tree.specs.Record.{width}
 use Rattle.reading.specs.Reading.{Numbered, after, isDigit, digits, fit, numberAt, numberIf, fieldAt, numbersOf, onto}
 use Rattle.reading.specs.Laws.Numbers.{
   numbered,
@@ -24,11 +25,12 @@ use Rattle.reading.specs.Laws.Numbers.{
   number-digit,
   number-other,
 }
-use Rattle.reading.specs.Laws.Line.{Below, none-left, one-more, numbers-none, numbers-some, numbers-sound}
+use Rattle.reading.specs.Input.{Below, none-left, one-more}
+use Rattle.reading.specs.Laws.Line.{numbers-none, numbers-some, numbers-sound}
 use Rattle.reading.specs.declared.line.Field.{Field}
 use Rattle.reading.specs.declared.line.Field.the-variants as Field
-use Rattle.reading.specs.Found.{Starts, starts, starts-not, Found, found, found-not, six, entered, allEntered, enter, saidOf, Next}
-use Rattle.reading.specs.declared.line.Six.{Six}
+use Rattle.reading.specs.Found.{Starts, starts, starts-not, Found, found, found-not, fieldsIn, entered, allEntered, enter, saidOf, Next}
+use Rattle.reading.specs.declared.line.Fields.{Fields}
 use Rattle.printing.specs.Text.{form=, id=, name=, count=, from=, to=, recordMarks}
 
 next : (l : List ℕ) (i : ℕ) → i < length l → drop i l ≡ getD l i 0 ∷ drop (i + 1) l
@@ -168,7 +170,7 @@ neither : (b : Bool) → _≡_ {A = Option (List ℕ)} (cond b none none) none
 neither true = refl
 neither false = refl
 
-module _ {l m : List ℕ} (r : Six) where
+module _ {l m : List ℕ} (r : Fields) where
   pub next-some : (f : Field) {v p : ℕ} → f ≡ Field.Value v p → Found l (fieldAt m (drop (r .at) l)) f
       → Next l m r (record { ok = r .ok; at = p; numbers = entered (r .numbers) v })
   next-some f {v} {p} e k =
@@ -189,22 +191,22 @@ module _ {l m : List ℕ} (r : Six) where
         ∙ neither (r .ok);
   }
 
-six-entered : {ns : List ℕ} → Below recordMarks ns → ns ≡ allEntered (replicate 6 0) ns
-six-entered (one-more a (one-more b (one-more c (one-more d (one-more e (one-more f none-left)))))) = refl
+fields-entered : {ns : List ℕ} → Below recordMarks ns → ns ≡ allEntered (replicate width 0) ns
+fields-entered (one-more a (one-more b (one-more c (one-more d (one-more e (one-more f none-left)))))) = refl
 
-pub all-six : (l : List ℕ) → numbersOf recordMarks l ≡ enter (replicate 6 0) (numbersOf recordMarks l)
-all-six l = go (numbersOf recordMarks l) refl
+pub all-fields : (l : List ℕ) → numbersOf recordMarks l ≡ enter (replicate width 0) (numbersOf recordMarks l)
+all-fields l = go (numbersOf recordMarks l) refl
   where
-    go : (o : Option (List ℕ)) → numbersOf recordMarks l ≡ o → o ≡ enter (replicate 6 0) o
+    go : (o : Option (List ℕ)) → numbersOf recordMarks l ≡ o → o ≡ enter (replicate width 0) o
     go none e = refl
-    go (some ns) e = ap some (six-entered (numbers-sound recordMarks l ns e .below))
+    go (some ns) e = ap some (fields-entered (numbers-sound recordMarks l ns e .below))
 
 -- a field for each mark, and the end of the line
-pub record-read : {l : List ℕ} {a b c d e f : Six} → Next l form= (record { ok = true; at = 0; numbers = replicate 6 0 }) a → Next l id= a b → Next l name= b c
+pub record-read : {l : List ℕ} {a b c d e f : Fields} → Next l form= (record { ok = true; at = 0; numbers = replicate width 0 }) a → Next l id= a b → Next l name= b c
     → Next l count= c d → Next l from= d e → Next l to= e f
-    → (f .at ≡ length l → numbersOf recordMarks l ≡ six f) × ((f .at ≡ length l → ⊥) → numbersOf recordMarks l ≡ none)
+    → (f .at ≡ length l → numbersOf recordMarks l ≡ fieldsIn f) × ((f .at ≡ length l → ⊥) → numbersOf recordMarks l ≡ none)
 record-read {l} {f = f} form id name count from to =
-    let k : numbersOf recordMarks l ≡ saidOf l f [] = all-six l ∙ form .is (drop 1 recordMarks) ∙ id .is (drop 2 recordMarks) ∙ name .is (drop 3 recordMarks)
+    let k : numbersOf recordMarks l ≡ saidOf l f [] = all-fields l ∙ form .is (drop 1 recordMarks) ∙ id .is (drop 2 recordMarks) ∙ name .is (drop 3 recordMarks)
     ∙ count .is (drop 4 recordMarks) ∙ from .is (drop 5 recordMarks) ∙ to .is [] in (
       λ h. k ∙ ap (λ (o : Option (List ℕ)). cond (f .ok) (enter (f .numbers) o) none) (line-ends l h),
       λ h. k ∙ ap (λ (o : Option (List ℕ)). cond (f .ok) (enter (f .numbers) o) none) (line-goes l (to .inside) h) ∙ neither (f .ok),

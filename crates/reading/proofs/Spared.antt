@@ -6,6 +6,7 @@ use mathlib.Core.Path.{_≡_, ap, sym, subst, _∙_}
 use native.Mathlib.Omega.{arith}
 use lib.ListN.{length, take, drop, set, length-append, length-set}
 use lib.Seq.{sets-eq, set-out, take-set-le, drop-set-lt, take-append-le, take-at, drop-at, length-take-le}
+use Rattle.tree.specs.Record.{width}
 use Rattle.printing.specs.Laws.Below.{below-or}
 use Rattle.reading.specs.Leaves.{Between, begun, Spares}
 use Rattle.reading.specs.Laws.Leaves.{between-none, between-then, begun-none, begun-some}
@@ -43,34 +44,34 @@ between-set T T′ i c h g e = record {
       ∙ ⊎-elim (λ u. drop-set-lt (shown (i + 1)) T i c (omega arith)) (λ u. ap (drop (shown (i + 1))) (set-out T i c u)) (below-or i (length T));
 }
 
-module _ {R R′ row : List ℕ} {i : ℕ} (small : i < 2 ^ 64) (six : length row ≡ 6) (w : RowStored R i row R′) where
-  row-in : 6 * i + 6 ≤ length R → Between (6 * i) (6 * shown (i + 1)) R R′
+module _ {R R′ row : List ℕ} {i : ℕ} (small : i < 2 ^ 64) (long : length row ≡ width) (w : RowStored R i row R′) where
+  row-in : width * i + width ≤ length R → Between (width * i) (width * shown (i + 1)) R R′
   row-in h =
-      let k : 6 * shown (i + 1) ≡ 6 * i + 6 = omega (arith, w .small) in
-      let l : length (take (6 * i) R) ≡ 6 * i = length-take-le (6 * i) R (omega arith) in
-      let m : length (take (6 * i) R ++ row) ≡ 6 * i + 6 = length-append (take (6 * i) R) row ∙ omega arith in
-      let e : R′ ≡ (take (6 * i) R ++ row) ++ drop (6 * i + 6) R =
-      w .is h ∙ sets-eq row R (6 * i) (omega arith) ∙ ap (λ (n : ℕ). (take (6 * i) R ++ row) ++ drop (6 * i + n) R) six in
+      let k : width * shown (i + 1) ≡ width * i + width = omega (arith, w .small) in
+      let l : length (take (width * i) R) ≡ width * i = length-take-le (width * i) R (omega arith) in
+      let m : length (take (width * i) R ++ row) ≡ width * i + width = length-append (take (width * i) R) row ∙ omega arith in
+      let e : R′ ≡ (take (width * i) R ++ row) ++ drop (width * i + width) R =
+      w .is h ∙ sets-eq row R (width * i) (omega arith) ∙ ap (λ (n : ℕ). (take (width * i) R ++ row) ++ drop (width * i + n) R) long in
       record {
         onward = omega arith;
         long = w .long;
         before =
-            ap (take (6 * i)) e
-            ∙ take-append-le (6 * i) (take (6 * i) R ++ row) (drop (6 * i + 6) R) (omega arith)
-            ∙ take-at (take (6 * i) R) row (6 * i) l;
-        past = rw k (ap (drop (6 * i + 6)) e ∙ drop-at (take (6 * i) R ++ row) (drop (6 * i + 6) R) (6 * i + 6) m);
+            ap (take (width * i)) e
+            ∙ take-append-le (width * i) (take (width * i) R ++ row) (drop (width * i + width) R) (omega arith)
+            ∙ take-at (take (width * i) R) row (width * i) l;
+        past = rw k (ap (drop (width * i + width)) e ∙ drop-at (take (width * i) R ++ row) (drop (width * i + width) R) (width * i + width) m);
       }
 
-  row-out : length R < 6 * i + 6 → Between (6 * i) (6 * shown (i + 1)) R R′
+  row-out : length R < width * i + width → Between (width * i) (width * shown (i + 1)) R R′
   row-out h = record {
     onward = omega arith;
     long = w .long;
-    before = ap (take (6 * i)) (w .out h);
-    past = ap (drop (6 * shown (i + 1))) (w .out h);
+    before = ap (take (width * i)) (w .out h);
+    past = ap (drop (width * shown (i + 1))) (w .out h);
   }
 
-  between-row : Between (6 * i) (6 * shown (i + 1)) R R′
-  between-row = ⊎-elim row-out row-in (below-or (length R) (6 * i + 6))
+  between-row : Between (width * i) (width * shown (i + 1)) R R′
+  between-row = ⊎-elim row-out row-in (below-or (length R) (width * i + width))
 
 module _ (r : Reading) (started : ¬ (r .lines ≡ 0)) {a b : ℕ} (ea : a ≡ shown (r .lines + 1)) where
   pub spares-class : {T T′ R : List ℕ} (c : ℕ) → r .classes < 2 ^ 64 → length T < 2 ^ 64 → b ≡ shown (r .classes + 1) → T′ ≡ set T (r .classes) c
@@ -82,11 +83,11 @@ module _ (r : Reading) (started : ¬ (r .lines ≡ 0)) {a b : ℕ} (ea : a ≡ s
         records = rw (begun-some (r .records) started, begun-some (r .records) z) between-none;
       }
 
-  pub spares-record : {T R R′ row : List ℕ} → r .records < 2 ^ 64 → length row ≡ 6 → b ≡ shown (r .records + 1) → RowStored R (r .records) row R′
+  pub spares-record : {T R R′ row : List ℕ} → r .records < 2 ^ 64 → length row ≡ width → b ≡ shown (r .records + 1) → RowStored R (r .records) row R′
       → Spares r T R (counted a (r .names) (r .classes) b 0) T R′
-  spares-record h six eb w =
+  spares-record h long eb w =
       let z : ¬ (a ≡ 0) = λ y. started (omega arith) in
       record {
         classes = rw (begun-some (r .classes) started, begun-some (r .classes) z) between-none;
-        records = rw (begun-some (r .records) started, begun-some b z, eb) (between-row h six w);
+        records = rw (begun-some (r .records) started, begun-some b z, eb) (between-row h long w);
       }

@@ -8,10 +8,11 @@ use lib.ListN.{length, take, drop, set, length-append, length-set}
 use lib.Seq.{sets, sets-eq, take-suc-set, take-at, length-take-le}
 use Rattle.table.specs.Layout.{layout}
 use Rattle.table.specs.Laws.Layout.{layout-append}
-use Rattle.tree.specs.Record.{Record, put, numbers}
+use Rattle.tree.specs.Record.{Record, put, numbers, width}
 use Rattle.printing.specs.Text.{namesMarks, classMarks, recordMarks}
 use Rattle.reading.specs.Reading.{numbersOf, Said, nothing, says, differs, next, first, class, entry, recordOf, withLine}
-use Rattle.reading.specs.Laws.Line.{Below, none-left, one-more, numbers-sound}
+use Rattle.reading.specs.Input.{Below, none-left, one-more}
+use Rattle.reading.specs.Laws.Line.{numbers-sound}
 use Rattle.reading.specs.Laws.Read.{line-class, line-record, class-fits, class-over}
 use Rattle.reading.specs.declared.reader.Reading.{Reading}
 use Rattle.reading.specs.Held.{shown, spoiled, Says, Tied, tied-nothing, tied-says, Turned, turned, spoilt, Turns, First, Class, Entry, RowStored}
@@ -97,28 +98,28 @@ class-some {r} {n} {cs} {rs} {T} {R} {T′} {l} {a} {b} {c} v h g o ea eb et =
 -- A record line
 
 keeps-record : (rs : List Record) (R R′ : List ℕ) (x : Record) (i : ℕ) → i ≡ shown (length rs)
-    → (6 * length rs ≤ length R → take (6 * length rs) R ≡ numbers rs)
-    → RowStored R i (put x) R′ → 6 * length (rs ++ (x ∷ [])) ≤ length R′ → take (6 * length (rs ++ (x ∷ []))) R′ ≡ numbers (rs ++ (x ∷ []))
+    → (width * length rs ≤ length R → take (width * length rs) R ≡ numbers rs)
+    → RowStored R i (put x) R′ → width * length (rs ++ (x ∷ [])) ≤ length R′ → take (width * length (rs ++ (x ∷ []))) R′ ≡ numbers (rs ++ (x ∷ []))
 unfolding layout
 keeps-record rs R R′ x i e k w h =
     let a : length (rs ++ (x ∷ [])) ≡ length rs + 1 = length-append rs (x ∷ []) in
     let j : i ≡ length rs = omega (arith, w .long, w .small) in
-    let f : 6 * length rs + 6 ≤ length R = omega (arith, w .long) in
-    let g : 6 * i + 6 ≤ length R = omega arith in
-    let t : R′ ≡ (take (6 * length rs) R ++ put x) ++ drop (6 * length rs + 6) R =
-    w .is g ∙ ap (λ (y : ℕ). sets R (6 * y) (put x)) j ∙ sets-eq (put x) R (6 * length rs) f in
-    let z : length (take (6 * length rs) R ++ put x) ≡ 6 * length (rs ++ (x ∷ [])) =
-    length-append (take (6 * length rs) R) (put x) ∙ omega (arith, length-take-le (6 * length rs) R (omega arith)) in
-    ap (take (6 * length (rs ++ (x ∷ [])))) t
-    ∙ take-at (take (6 * length rs) R ++ put x) (drop (6 * length rs + 6) R) (6 * length (rs ++ (x ∷ []))) z
+    let f : width * length rs + width ≤ length R = omega (arith, w .long) in
+    let g : width * i + width ≤ length R = omega arith in
+    let t : R′ ≡ (take (width * length rs) R ++ put x) ++ drop (width * length rs + width) R =
+    w .is g ∙ ap (λ (y : ℕ). sets R (width * y) (put x)) j ∙ sets-eq (put x) R (width * length rs) f in
+    let z : length (take (width * length rs) R ++ put x) ≡ width * length (rs ++ (x ∷ [])) =
+    length-append (take (width * length rs) R) (put x) ∙ omega (arith, length-take-le (width * length rs) R (omega arith)) in
+    ap (take (width * length (rs ++ (x ∷ [])))) t
+    ∙ take-at (take (width * length rs) R ++ put x) (drop (width * length rs + width) R) (width * length (rs ++ (x ∷ []))) z
     ∙ ap (λ (m : List ℕ). m ++ put x) (k (omega arith))
     ∙ sym (layout-append put rs (x ∷ []))
 
 row-is : {ns : List ℕ} → Below recordMarks ns → ns ≡ put (recordOf ns)
 row-is (one-more a (one-more b (one-more c (one-more d (one-more e (one-more f none-left)))))) = refl
 
-pub six-numbers : (l : List ℕ) {ns : List ℕ} → numbersOf recordMarks l ≡ some ns → length ns ≡ 6
-six-numbers l {ns} o = ap length (row-is (numbers-sound recordMarks l ns o .below))
+pub record-long : (l : List ℕ) {ns : List ℕ} → numbersOf recordMarks l ≡ some ns → length ns ≡ width
+record-long l {ns} o = ap length (row-is (numbers-sound recordMarks l ns o .below))
 
 pub record-some : {r : Reading} {n : ℕ} {cs : List ℕ} {rs : List Record} {T R R′ l ns : List ℕ} {a b : ℕ} → Says r n cs rs T R → n ≤ length cs
     → numbersOf recordMarks l ≡ some ns → a ≡ shown (r .lines + 1) → b ≡ shown (r .records + 1) → RowStored R (r .records) ns R′

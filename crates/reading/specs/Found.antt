@@ -10,7 +10,7 @@ use Rattle.reading.specs.declared.line.Field.{Field}
 use Rattle.reading.specs.declared.line.Field.the-variants as field
 use Rattle.reading.specs.declared.line.Only.{Only}
 use Rattle.reading.specs.declared.line.Only.the-variants as only
-use Rattle.reading.specs.declared.line.Six.{Six}
+use Rattle.reading.specs.declared.line.Fields.{Fields}
 
 -- whether the mark m stands in l at the place
 pub data Starts (l : List ℕ) (at : ℕ) (m : List ℕ) : Bool → Type 0 where
@@ -28,8 +28,8 @@ ones only.Nothing = none
 
 -- The numbers of a record's line
 
-abbrev pub six : Six → Option (List ℕ)
-six r = cond (r .ok) (some (r .numbers)) none
+abbrev pub fieldsIn : Fields → Option (List ℕ)
+fieldsIn r = cond (r .ok) (some (r .numbers)) none
 
 -- a number enters as the last, and the first leaves
 abbrev pub entered : List ℕ → ℕ → List ℕ
@@ -44,10 +44,10 @@ enter a none = none
 enter a (some ns) = some (allEntered a ns)
 
 -- what the line says, where these marks are left
-abbrev pub saidOf : List ℕ → Six → List (List ℕ) → Option (List ℕ)
+abbrev pub saidOf : List ℕ → Fields → List (List ℕ) → Option (List ℕ)
 saidOf l r ms = cond (r .ok) (enter (r .numbers) (numbersOf ms (drop (r .at) l))) none
 
 -- the field of the mark m is read too
-pub record Next (l m : List ℕ) (r q : Six) : Type 0 where
+pub record Next (l m : List ℕ) (r q : Fields) : Type 0 where
   pub inside : q .at ≤ length l
   pub is : (ms : List (List ℕ)) → saidOf l r (m ∷ ms) ≡ saidOf l q ms

@@ -6,7 +6,7 @@ use mathlib.Core.Path.{_≡_}
 use lib.Dec.{eqb, ltb}
 use lib.ListN.{length, take}
 use lib.Seq.{sets}
-use Rattle.tree.specs.Record.{Record, numbers}
+use Rattle.tree.specs.Record.{Record, numbers, width}
 use Rattle.reading.specs.Reading.{Said, nothing, says, differs, next, withLine, State, state, withBytes, bad, good, read}
 use Rattle.reading.specs.Leaves.{Spares, Leaves}
 use Rattle.reading.specs.declared.reader.Reading.{Reading}
@@ -23,7 +23,7 @@ spoiled r = record { lines = r .lines; bad = shown (r .lines + 1); names = r .na
 -- the tables hold the classes and the records, where they have room for them all
 pub record Kept (cs : List ℕ) (rs : List Record) (T R : List ℕ) : Type 0 where
   pub classes : length cs ≤ length T → take (length cs) T ≡ cs
-  pub records : 6 * length rs ≤ length R → take (6 * length rs) R ≡ numbers rs
+  pub records : width * length rs ≤ length R → take (width * length rs) R ≡ numbers rs
 
 -- the state after lines that say this
 pub record Says (r : Reading) (n : ℕ) (cs : List ℕ) (rs : List Record) (T R : List ℕ) : Type 0 where
@@ -110,7 +110,7 @@ pub record Entry (l : List ℕ) (r : Reading) (R : List ℕ) (r′ : Reading) (R
 
 -- row i is written where it fits
 pub record RowStored (R : List ℕ) (i : ℕ) (row : List ℕ) (R′ : List ℕ) : Type 0 where
-  pub is : 6 * i + 6 ≤ length R → R′ ≡ sets R (6 * i) row
-  pub out : length R < 6 * i + 6 → R′ ≡ R
+  pub is : width * i + width ≤ length R → R′ ≡ sets R (width * i) row
+  pub out : length R < width * i + width → R′ ≡ R
   pub long : length R′ ≡ length R
   pub small : length R < 2 ^ 64

@@ -5,6 +5,7 @@ use mathlib.Core.List.{List}
 use mathlib.Core.Path.{_≡_}
 use lib.Dec.{eqb}
 use lib.ListN.{length, take, drop}
+use Rattle.tree.specs.Record.{width}
 use Rattle.reading.specs.declared.reader.Reading.{Reading}
 
 -- Of a table all is left but its entries from a up to b
@@ -28,7 +29,7 @@ recordsRead r = begun (r .lines) (r .records)
 -- Only entries of the tables for what was now read are written
 pub record Spares (r : Reading) (T R : List ℕ) (r′ : Reading) (T′ R′ : List ℕ) : Type 0 where
   pub classes : Between (classesRead r) (classesRead r′) T T′
-  pub records : Between (6 * recordsRead r) (6 * recordsRead r′) R R′
+  pub records : Between (width * recordsRead r) (width * recordsRead r′) R R′
 
 -- nothing at all is changed
 pub record Same (r : Reading) (L T R : List ℕ) (r′ : Reading) (L′ T′ R′ : List ℕ) : Type 0 where

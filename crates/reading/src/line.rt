@@ -7,7 +7,7 @@ ghost use lib.ListN.{length, drop};
 ghost use Rattle.table.specs.EntryExit.{old};
 ghost use Rattle.printing.specs.Text.{recordMarks};
 ghost use Rattle.reading.specs.Reading.{fit, numberAt, fieldAt, numbersOf, isDigit as Reading·isDigit, digits as Reading·digits};
-ghost use Rattle.reading.specs.Found.{Starts, Found, ones, six, Next};
+ghost use Rattle.reading.specs.Found.{Starts, Found, ones, fieldsIn, Next};
 
 // A number, and the place after it.
 pub enum Field {
@@ -21,7 +21,7 @@ pub enum Only {
 }
 
 // What was read of a record's line: the newest number is the last, and the place is after it.
-pub struct Six {
+pub struct Fields {
     pub ok: bool,
     pub at: usize,
     pub numbers: [u32; WIDTH],
@@ -118,20 +118,20 @@ pub fn single(l: &[u8], mark: &[u8]) -> Only
 }
 
 // The number after the mark is read too.
-fn next(l: &[u8], r: Six, mark: &[u8]) -> Six
+fn next(l: &[u8], r: Fields, mark: &[u8]) -> Fields
     requires { ⌜ r .at ≤ length (now l) ⌝ }
     ensures { λ q. ⌜ Next (old l) (old mark) r q ⌝ }
 {
     let at = r.at;
     let a = r.numbers;
     let Field::Value(n, end) = field_at(l, at, mark) else {
-        return Six {
+        return Fields {
             ok: false,
             at,
             numbers: a,
         };
     };
-    Six {
+    Fields {
         ok: r.ok,
         at: end,
         numbers: [a[1], a[2], a[3], a[4], a[5], n],
@@ -139,10 +139,10 @@ fn next(l: &[u8], r: Six, mark: &[u8]) -> Six
 }
 
 // The numbers of a record's line.
-pub fn record(l: &[u8]) -> Six
-    ensures { λ r. ⌜ numbersOf recordMarks (old l) ≡ six r ⌝ }
+pub fn record(l: &[u8]) -> Fields
+    ensures { λ r. ⌜ numbersOf recordMarks (old l) ≡ fieldsIn r ⌝ }
 {
-    let start = Six {
+    let start = Fields {
         ok: true,
         at: 0,
         numbers: [0; WIDTH],

@@ -1,4 +1,5 @@
 pub mod ScopeMap
+pub mod Map
 pub mod Rows
 pub mod Hints
 pub mod Held

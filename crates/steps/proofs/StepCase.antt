@@ -5,7 +5,7 @@ use mathlib.Core.Bool.{Bool}
 use mathlib.Core.Option.{Option}
 use mathlib.Core.Path.{_≡_, refl, ap, sym, _∙_}
 use Rattle.tree.specs.Tree.{Ident, Node, Tree}
-use Rattle.scope_map.specs.Laws.Map.{mapValues}
+use Rattle.scope_map.specs.Map.{mapValues}
 use Rattle.pass.specs.State.{State}
 use Rattle.pass.specs.Lambda.{openLambda, closeLambda, openLet, closeLet}
 use Rattle.pass_laws.specs.Laws.Preserved.{open-let-preserves}

@@ -9,7 +9,8 @@ use Rattle.table.specs.Region.{region, replaced}
 use Rattle.table.specs.Laws.Region.{set-region, set-elsewhere, elsewhere-same, elsewhere-wider}
 use Rattle.tree.specs.Tree.{bit}
 use Rattle.scope_map.specs.ScopeMap.{Live, pushLayer, popLayer, getIn}
-use Rattle.scope_map.specs.Laws.Map.{mapValues, map-popLayer}
+use Rattle.scope_map.specs.Map.{mapValues}
+use Rattle.scope_map.specs.Laws.Map.{map-popLayer}
 use Rattle.scope_map.specs.Held.{Gets}
 use Rattle.scope_map.specs.Held as map
 use Rattle.scope_map.specs.declared.ScopeMap.{ScopeMap as Map}

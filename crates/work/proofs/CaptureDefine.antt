@@ -9,7 +9,8 @@ use lib.Dec.{ltb}
 use Rattle.table.specs.Region.{region, replaced}
 use Rattle.table.specs.Laws.Region.{Elsewhere, replaced-region, replaced-elsewhere, sets-replaced, elsewhere-then, elsewhere-wider}
 use Rattle.scope_map.specs.ScopeMap.{ScopeMap, define}
-use Rattle.scope_map.specs.Laws.Map.{mapLive, mapValues, map-length, map-hasAtTop, map-define}
+use Rattle.scope_map.specs.Map.{mapLive, mapValues}
+use Rattle.scope_map.specs.Laws.Map.{map-length, map-hasAtTop, map-define}
 use Rattle.scope_map.specs.Hints.{rowsLength}
 use Rattle.scope_map.specs.Held.{Held, placeIn, Places}
 use Rattle.scope_map.specs.Held as map

@@ -12,7 +12,8 @@ use Rattle.table.specs.Region.{region}
 use Rattle.table.specs.Laws.Region.{Elsewhere}
 use Rattle.scope_map.specs.ScopeMap.{ScopeMap, Live, isAt, replaceIn, belowLayer, getIn, popLayer, hasAtTop, define}
 use Rattle.scope_map.specs.Laws.Size.{replace-size}
-use Rattle.scope_map.specs.Laws.Map.{mapValue, mapLive, map-length}
+use Rattle.scope_map.specs.Map.{mapValue, mapLive}
+use Rattle.scope_map.specs.Laws.Map.{map-length}
 use Rattle.scope_map.specs.Laws.Rows.{place-below}
 use Rattle.scope_map.specs.Held.{foundIn, placeIn}
 use Rattle.scope_map.specs.declared.Found.the-variants.{At}

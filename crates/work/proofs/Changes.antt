@@ -10,7 +10,7 @@ use Rattle.table.specs.Region.{region, replaced}
 use Rattle.table.specs.Laws.Region.{Elsewhere, within, replaced-region, replaced-elsewhere, set-region, set-elsewhere, elsewhere-same, elsewhere-then}
 use Rattle.tree.specs.Tree.{Ident}
 use Rattle.scope_map.specs.ScopeMap.{ScopeMap}
-use Rattle.scope_map.specs.Laws.Map.{mapValues}
+use Rattle.scope_map.specs.Map.{mapValues}
 use Rattle.scope_map.specs.Held.{Held}
 use Rattle.scope_map.specs.declared.ScopeMap.{ScopeMap as Map}
 use Rattle.semantic.specs.Rows.{ListEntry}

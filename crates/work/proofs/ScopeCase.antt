@@ -14,7 +14,8 @@ use Rattle.tree.specs.Record.{Record, records, nth}
 use Rattle.tree.specs.Tree.{Ident}
 use Rattle.scope_map.specs.ScopeMap.{ScopeMap, Live, layerIn, belowLayer, get, hasAtTop, define}
 use Rattle.scope_map.specs.Laws.Size.{below-size}
-use Rattle.scope_map.specs.Laws.Map.{mapValue, mapValues, map-length, map-getD, map-get, map-hasAtTop, map-define, map-belowLayer}
+use Rattle.scope_map.specs.Map.{mapValue, mapValues}
+use Rattle.scope_map.specs.Laws.Map.{map-length, map-getD, map-get, map-hasAtTop, map-define, map-belowLayer}
 use Rattle.scope_map.specs.Rows.{rowAt, liveOf}
 use Rattle.scope_map.specs.Laws.Rows.{length-liveIn, live-row}
 use Rattle.scope_map.specs.Hints.{Roomy}

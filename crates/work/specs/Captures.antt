@@ -8,7 +8,7 @@ use lib.Seq.{sets}
 use lib.Dec.{eqb}
 use Rattle.table.specs.Region.{region, replaced}
 use Rattle.scope_map.specs.ScopeMap.{Live, get, define, pushLayer}
-use Rattle.scope_map.specs.Laws.Map.{mapLive}
+use Rattle.scope_map.specs.Map.{mapLive}
 use Rattle.scope_map.specs.Held.{foundIn, Becomes}
 use Rattle.scope_map.specs.declared.ScopeMap.{ScopeMap as Map}
 use Rattle.scope_map.specs.declared.Found.{Found}

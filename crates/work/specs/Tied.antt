@@ -2,6 +2,7 @@
 use Prim.Native.Nat.{ℕ}
 use mathlib.Core.List.{List}
 use mathlib.Core.Path.{_≡_}
+use lib.ListN.{length}
 use Rattle.table.specs.Layout.{layout}
 use Rattle.tree.specs.Tree.{Ident}
 use Rattle.semantic.specs.Rows.{putRow, putListEntry}
@@ -31,6 +32,10 @@ pub record Tied (z : Raw) (s : State) : Type 0 where
 -- the identifiers are the tree's
 abbrev pub Good : List ℕ → State → Type 0
 Good rs s = visitable.Good (Known rs) s
+
+-- how many rows of facts there are
+abbrev pub rowCount : State → ℕ
+rowCount s = length (s .facts .rows)
 
 -- the record at holds the identifier x
 pub record Here (rs : List ℕ) (at : ℕ) (z : Raw) (s : State) (x : Ident) : Type 0 where

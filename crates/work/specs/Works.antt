@@ -9,7 +9,7 @@ use Rattle.table.specs.Region.{region}
 use Rattle.tree.specs.Tree.{Ident}
 use Rattle.tree.specs.Check.{Refusal}
 use Rattle.scope_map.specs.ScopeMap.{Live}
-use Rattle.scope_map.specs.Laws.Map.{mapValues}
+use Rattle.scope_map.specs.Map.{mapValues}
 use Rattle.scope_map.specs.Hints.{rowsLength, mapLength}
 use Rattle.scope_map.specs.Held.{Held}
 use Rattle.pass.specs.State.{State, Capture}

@@ -10,7 +10,7 @@ use lib.ListN.{length, getD, drop, length-drop}
 use lib.Dec.{ltb}
 use Rattle.tree.specs.Tree.{Ident}
 use Rattle.scope_map.specs.ScopeMap.{Live}
-use Rattle.scope_map.specs.Laws.Map.{mapLive}
+use Rattle.scope_map.specs.Map.{mapLive}
 use Rattle.scope_map.specs.Held.{Sorted}
 use Rattle.scope_map.specs.declared.Row.{Row}
 use Rattle.pass.specs.State.{State}

@@ -8,7 +8,7 @@ use lib.ListN.{length}
 use lib.Dec.{ltb}
 use Rattle.tree.specs.Tree.{Ident}
 use Rattle.scope_map.specs.ScopeMap.{ScopeMap, define, hasAtTop}
-use Rattle.scope_map.specs.Laws.Map.{mapValues}
+use Rattle.scope_map.specs.Map.{mapValues}
 use Rattle.scope_map.specs.Held.{Held}
 use Rattle.scope_map.specs.declared.ScopeMap.{ScopeMap as Map}
 use Rattle.pass.specs.State.{State, Capture, Entry, withNames, putEntry, depth}

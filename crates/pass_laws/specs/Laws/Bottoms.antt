@@ -18,7 +18,8 @@ use Rattle.r7rs.specs.Bottom.{Define, defineOf, definesOf, lastOr, isLambdaOf, 
 use Rattle.pass.specs.State.{binderIn}
 use Rattle.pass.specs.Run.{rowsMost, fresh}
 use Rattle.pass_laws.specs.Laws.Layers.{liveAt}
-use Rattle.pass_laws.specs.Laws.Tops.{Spread, spread-top}
+use Rattle.pass_laws.specs.Spread.{Spread}
+use Rattle.pass_laws.specs.Laws.Tops.{spread-top}
 use Rattle.pass_laws.specs.Laws.Globals.{definedIn, all-defined, lambdasIn, valuesIn, enteredAll, define-at}
 use Rattle.pass_laws.specs.Laws.All.{all-++, all-map}
 use Rattle.pass_laws.specs.Laws.Levels.{each-map, each-mention, level, placed}

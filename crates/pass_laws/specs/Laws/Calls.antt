@@ -32,7 +32,8 @@ use Rattle.pass_laws.specs.Laws.Scopes.{Any, names-any, lambda-depth, le
 use Rattle.pass_laws.specs.Laws.Names.{value-changes, read-changes, mutate-changes}
 use Rattle.pass_laws.specs.Laws.Visits.{tail-changes, call-changes, clear-changes, before-changes, after-changes, children-changes, visit-changes, arguments-visited, children-visited, top-visited, tops-visited, writes-cores}
 use Rattle.pass_laws.specs.Laws.Ranges.{Covers, names-writes, tree-writes, trees-writes, tree-any, trees-any}
-use Rattle.pass_laws.specs.Laws.Tops.{Spread, spread-end, spread-top, spread-writes, calls-top}
+use Rattle.pass_laws.specs.Spread.{Spread}
+use Rattle.pass_laws.specs.Laws.Tops.{spread-end, spread-top, spread-writes, calls-top}
 use Rattle.pass_laws.specs.Laws.Keeps.{Off, Agree, narrow, earlier, visited, visited-arguments}
 
 -- the row is a call's fact, of a tail call as t says

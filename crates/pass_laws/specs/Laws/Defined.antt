@@ -27,7 +27,8 @@ use Rattle.pass_laws.specs.Laws.Visits.{Writes, stays, top-visited, chil
 use Rattle.pass_laws.specs.Laws.Ranges.{tree-writes, tree-any, trees-any}
 use Rattle.pass_laws.specs.Laws.Scopes.{Any}
 use Rattle.pass_laws.specs.Laws.Keeps.{Off, But, but, keeps, ran}
-use Rattle.pass_laws.specs.Laws.Tops.{Spread, spread-end, spread-writes, spread-top}
+use Rattle.pass_laws.specs.Spread.{Spread}
+use Rattle.pass_laws.specs.Laws.Tops.{spread-end, spread-writes, spread-top}
 use Rattle.pass_laws.specs.Laws.Globals.{DefineAt, define-at}
 
 -- a row that says so

@@ -29,7 +29,8 @@ use Rattle.pass_laws.specs.Laws.Scopes.{Any, names-any, leave-changes, l
 use Rattle.pass_laws.specs.Laws.Names.{define-changes, value-changes, read-changes, mutate-changes}
 use Rattle.pass_laws.specs.Laws.Visits.{before-changes, after-changes, children-changes, call-changes, clear-changes, visit-changes, arguments-visited, children-visited, top-visited, tops-visited, writes-cores}
 use Rattle.pass_laws.specs.Laws.Ranges.{Covers, names-writes, tree-writes, trees-writes, tree-any, trees-any}
-use Rattle.pass_laws.specs.Laws.Tops.{Spread, spread-cores, spread-end, spread-top, spread-writes}
+use Rattle.pass_laws.specs.Spread.{Spread}
+use Rattle.pass_laws.specs.Laws.Tops.{spread-cores, spread-end, spread-top, spread-writes}
 use Rattle.pass_laws.specs.Laws.Keeps.{Off, But, Agree, narrow, earlier, visited, visited-arguments, ran}
 use Rattle.pass_laws.specs.Laws.Ends.{Made, made}
 use Rattle.pass_laws.specs.Laws.Globals.{SparedBy, Spared}

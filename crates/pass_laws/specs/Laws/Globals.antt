@@ -22,7 +22,8 @@ use Rattle.pass_laws.specs.Laws.Moves.{by}
 use Rattle.pass_laws.specs.Laws.Names.{define-changes, shadow-changes}
 use Rattle.pass_laws.specs.Laws.Ranges.{Covers}
 use Rattle.pass_laws.specs.Laws.Keeps.{Off}
-use Rattle.pass_laws.specs.Laws.Tops.{Spread, spread-end}
+use Rattle.pass_laws.specs.Spread.{Spread}
+use Rattle.pass_laws.specs.Laws.Tops.{spread-end}
 use Rattle.pass_laws.specs.Laws.Layers.{liveAt}
 use Rattle.pass_laws.specs.Laws.Finds.{Global, Finds, all-map}
 use Rattle.pass_laws.specs.Laws.Onward.{Parts, untouched, calmly, fewer}

@@ -11,7 +11,8 @@ use Rattle.tree.specs.Define.{_⊕_, topOf, topLevel}
 use Rattle.tree.specs.Site.{lambdas, lambdasIn, letLayer}
 use Rattle.tree.specs.Accepted.{All}
 use Rattle.pass_laws.specs.Laws.All.{all-++, all-of, all-map, all-zip}
-use Rattle.pass_laws.specs.Laws.Tops.{Spread, spread-end}
+use Rattle.pass_laws.specs.Spread.{Spread}
+use Rattle.pass_laws.specs.Laws.Tops.{spread-end}
 use Rattle.pass_laws.specs.Laws.Globals.{SparedBy, Spared, spared-past}
 use Rattle.pass_laws.specs.Laws.Script.{spared-before}
 

@@ -25,7 +25,8 @@ use Rattle.pass_laws.specs.Laws.Moves.{by}
 use Rattle.pass_laws.specs.Laws.Visits.{stays, top-visited, tops-visited}
 use Rattle.pass_laws.specs.Laws.Ranges.{tree-any, trees-any}
 use Rattle.pass_laws.specs.Laws.Keeps.{Agree, narrow, earlier}
-use Rattle.pass_laws.specs.Laws.Tops.{Spread, spread-top, spread-end, spread-writes}
+use Rattle.pass_laws.specs.Spread.{Spread}
+use Rattle.pass_laws.specs.Laws.Tops.{spread-top, spread-end, spread-writes}
 use Rattle.pass_laws.specs.Laws.Live.{none-left, none-right}
 use Rattle.pass_laws.specs.Laws.Says.{cellOf, usesIn, Says, Presumes, presumes-left, presumes-right}
 use Rattle.pass_laws.specs.Laws.Finds.{Finds, layered}

@@ -18,7 +18,8 @@ use Rattle.r7rs.specs.Bottom.{Define, defineOf, definesOf}
 use Rattle.pass_laws.specs.Laws.All.{all-++, all-left, all-right, all-map}
 use Rattle.pass_laws.specs.Laws.Keeps.{Off}
 use Rattle.pass_laws.specs.Laws.Says.{mentions-in}
-use Rattle.pass_laws.specs.Laws.Tops.{Spread, spread-top, spread-end}
+use Rattle.pass_laws.specs.Spread.{Spread}
+use Rattle.pass_laws.specs.Laws.Tops.{spread-top, spread-end}
 use Rattle.pass_laws.specs.Laws.Script.{walk-top}
 use Rattle.pass_laws.specs.Laws.Counts.{share, share-same, share-other}
 

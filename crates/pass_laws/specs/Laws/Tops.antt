@@ -9,13 +9,9 @@ use Rattle.tree.specs.Define.{_⊕_, topOf, topLevel}
 use Rattle.r7rs.specs.Tail.{Call, calls, callsIn, callsLast}
 use Rattle.tree.specs.Core.{core, cores}
 use Rattle.tree.specs.Laws.Core.{to-core, num-core}
+use Rattle.pass_laws.specs.Spread.{Spread}
 use Rattle.pass_laws.specs.Laws.Visits.{Writes, WritesAll}
 use Rattle.pass_laws.specs.Laws.Ranges.{Covers, tree-writes}
-
--- trees in order between the records i and j, perhaps with other records between them
-abbrev pub Spread : ℕ → ℕ → Trees → Type 0
-Spread i j nil = i ≤ j
-Spread i j (cons t ts) = (k : ℕ) × (i ≤ k) × Num k t × Spread (k + size t) j ts
 
 pub spread-within : (i j k m : ℕ) (ts : Trees) → i ≤ j → k ≤ m → Spread j k ts → Spread i m ts
 spread-within i j k m nil h g p = omega arith

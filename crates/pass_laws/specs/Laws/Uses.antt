@@ -18,7 +18,8 @@ use Rattle.pass.specs.Run.{rowsMost, noFacts, start, run, fresh}
 use Rattle.pass_laws.specs.Laws.Changes.{keeps-noted}
 use Rattle.pass_laws.specs.Laws.Visits.{stays, top-visited, tops-visited}
 use Rattle.pass_laws.specs.Laws.Ranges.{Covers, tree-any, trees-any}
-use Rattle.pass_laws.specs.Laws.Tops.{Spread, spread-top, spread-end}
+use Rattle.pass_laws.specs.Spread.{Spread}
+use Rattle.pass_laws.specs.Laws.Tops.{spread-top, spread-end}
 use Rattle.pass_laws.specs.Laws.Live.{none-left, none-right}
 use Rattle.pass_laws.specs.Laws.Says.{cellOf}
 use Rattle.pass_laws.specs.Laws.Finds.{Finds, layered}

@@ -8,6 +8,7 @@ use lib.ListN.{length, length-append}
 use Rattle.printing.specs.Numeral.{numeral}
 use Rattle.printing.specs.Laws.Numeral.{numeral-length}
 use Rattle.printing.specs.Text.{LF, line, numbers}
+use Rattle.reading.specs.Input.{Below, none-left, one-more}
 use Rattle.reading.specs.Reading.{Numbered, digits, numberIf, after, fieldAt, onto, numbersOf}
 use Rattle.reading.specs.Laws.Numbers.{numbered, never, Stops, number-sound, number-complete, after-sound, after-complete}
 
@@ -25,11 +26,6 @@ line-body (m ∷ ms) (n ∷ ns) =
     ap (λ (l : List ℕ). m ++ (numeral n ++ l)) (line-body ms ns)
     ∙ ap (λ (l : List ℕ). m ++ l) (sym (append-assoc (numeral n) (body ms ns) (LF ∷ [])))
     ∙ sym (append-assoc m (numeral n ++ body ms ns) (LF ∷ []))
-
--- a number below 2^32 for each mark
-pub data Below : List (List ℕ) → List ℕ → Type 0 where
-  none-left : Below [] []
-  one-more : {m : List ℕ} {ms : List (List ℕ)} {n : ℕ} {ns : List ℕ} → n < 2 ^ 32 → Below ms ns → Below (m ∷ ms) (n ∷ ns)
 
 pub record Prints (ms : List (List ℕ)) (ns l : List ℕ) : Type 0 where
   pub text : l ≡ body ms ns

@@ -36,8 +36,8 @@ use Rattle.reading.specs.Reading.{
   answer,
   read,
 }
-use Rattle.reading.specs.Laws.Line.{body, line-body, Below, none-left, one-more, numbers-sound, numbers-complete, Parted, last, parted}
-use Rattle.reading.specs.Input.{input, All, all-none, all-more, Byte, Narrow, Fits}
+use Rattle.reading.specs.Laws.Line.{body, line-body, numbers-sound, numbers-complete, Parted, last, parted}
+use Rattle.reading.specs.Input.{input, All, all-none, all-more, Byte, Narrow, Fits, Below, none-left, one-more}
 use Rattle.reading.specs.Laws.Input.{all-snoc}
 use Rattle.reading.specs.Laws.Read.{line-class, line-record, class-fits, class-over, byte-end, byte-more, plain, Marks, no-mark, a-mark, reads-line}
 

@@ -11,7 +11,8 @@ use lib.Dec.{eqb}
 use Rattle.table.specs.Region.{region}
 use Rattle.tree.specs.Tree.{bit}
 use Rattle.scope_map.specs.ScopeMap.{Live, get, getIn}
-use Rattle.scope_map.specs.Laws.Map.{mapLive, map-length}
+use Rattle.scope_map.specs.Map.{mapLive}
+use Rattle.scope_map.specs.Laws.Map.{map-length}
 use Rattle.scope_map.specs.Hints.{rowsLength}
 use Rattle.scope_map.specs.Held.{foundIn}
 use Rattle.scope_map.specs.declared.Found.the-variants.{At, Nothing}

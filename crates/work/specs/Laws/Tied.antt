@@ -18,14 +18,11 @@ use Rattle.work.specs.Coded.{coded}
 use Rattle.work.specs.Works.{Works}
 use Rattle.work.specs.Laws.Kept.{insert-kept}
 use Rattle.work.specs.Leaves.{StoresEntry}
-use Rattle.work.specs.Tied.{raw, Tied}
+use Rattle.work.specs.Tied.{rowCount, raw, Tied}
 use Rattle.work.specs.declared.Pass.{Pass}
 use Rattle.work.specs.declared.entries.Entry.{Entry as Coded}
 
 -- The facts that a change leaves, and how many rows there are
-
-abbrev pub rowCount : State → ℕ
-rowCount s = length (s .facts .rows)
 
 module _ (s : State) (i : ℕ) where
   pub count-insert : (r : Row) → rowCount (insert i r s) ≡ rowCount s

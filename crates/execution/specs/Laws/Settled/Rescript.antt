@@ -24,7 +24,8 @@ use Rattle.pass_laws.specs.Laws.Names.{define-changes, shadow-changes}
 use Rattle.pass_laws.specs.Laws.Visits.{stays, top-visited, tops-visited}
 use Rattle.pass_laws.specs.Laws.Ranges.{Covers, tree-any, trees-any}
 use Rattle.pass_laws.specs.Laws.Keeps.{Off, Agree, narrow, earlier}
-use Rattle.pass_laws.specs.Laws.Tops.{Spread, spread-end, spread-writes}
+use Rattle.pass_laws.specs.Spread.{Spread}
+use Rattle.pass_laws.specs.Laws.Tops.{spread-end, spread-writes}
 use Rattle.pass_laws.specs.Laws.Live.{none-left, none-right}
 use Rattle.pass_laws.specs.Laws.Layers.{liveAt}
 use Rattle.pass_laws.specs.Laws.Says.{cellOf, usesIn, Each, SaysCell, Says}

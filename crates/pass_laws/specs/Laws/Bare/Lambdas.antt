@@ -7,7 +7,8 @@ use mathlib.Core.Path.{_≡_, refl, ap, sym, _∙_}
 use lib.ListN.{length-map, List·getD-map}
 use Rattle.tree.specs.Tree.{Ident, Node, Tree}
 use Rattle.scope_map.specs.ScopeMap.{ScopeMap, Live, layerIn, newestLayer}
-use Rattle.scope_map.specs.Laws.Map.{mapValues, mapLive, map-popLayer, map-newestLayer}
+use Rattle.scope_map.specs.Map.{mapValues, mapLive}
+use Rattle.scope_map.specs.Laws.Map.{map-popLayer, map-newestLayer}
 use Rattle.semantic.specs.Rows.{Row, Blank, Variable, Function, CallSite, Let, ListEntry, noListEntry}
 use Rattle.semantic.specs.declared.IdentifierStatus.{IdentifierStatus}
 use Rattle.semantic.specs.declared.FunctionInformation.{FunctionInformation}

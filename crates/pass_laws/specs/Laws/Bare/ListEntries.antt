@@ -9,7 +9,8 @@ use lib.Dec.{eqb, ltb}
 use Rattle.tree.specs.Tree.{Ident}
 use Rattle.tree.specs.Check.{member}
 use Rattle.scope_map.specs.ScopeMap.{ScopeMap, Live, get}
-use Rattle.scope_map.specs.Laws.Map.{mapValue, mapValues, mapLive, map-get, map-define}
+use Rattle.scope_map.specs.Map.{mapValue, mapValues, mapLive}
+use Rattle.scope_map.specs.Laws.Map.{map-get, map-define}
 use Rattle.semantic.specs.Rows.{ListEntry}
 use Rattle.semantic.specs.declared.ListAt.{ListAt}
 use Rattle.semantic.specs.declared.ScopeInfo.{ScopeInfo}

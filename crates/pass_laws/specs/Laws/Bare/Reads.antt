@@ -9,7 +9,8 @@ use Rattle.tree.specs.Tree.{Ident, Tree}
 use Rattle.tree.specs.Core.{core}
 use Rattle.scope_map.specs.ScopeMap.{ScopeMap, Live, hasAtTop}
 use Rattle.scope_map.specs.ScopeMap as scopeMap
-use Rattle.scope_map.specs.Laws.Map.{mapValue, mapValues, mapLive, map-define, map-hasAtTop}
+use Rattle.scope_map.specs.Map.{mapValue, mapValues, mapLive}
+use Rattle.scope_map.specs.Laws.Map.{map-define, map-hasAtTop}
 use Rattle.semantic.specs.Information.{NONE, new, shadows, withHeapOffset, withReadHeapOffset, withUsageCount, refersTo, withOffset, aliasesTo, markBuiltin, markRequired, markShadowed}
 use Rattle.semantic.specs.Rows.{Row, Blank, Variable, Function, CallSite, Let}
 use Rattle.semantic.specs.declared.IdentifierStatus.{IdentifierStatus}

@@ -5,7 +5,7 @@ use mathlib.Core.Bool.{Bool, true, false}
 use mathlib.Core.Path.{_≡_, refl, ap, _∙_}
 use Rattle.tree.specs.Tree.{Ident, Tree, Trees, ident, const, if, letin, define, lambda, sequence, call, set!, nil, cons}
 use Rattle.tree.specs.Define.{topLevel}
-use Rattle.scope_map.specs.Laws.Map.{mapLive}
+use Rattle.scope_map.specs.Map.{mapLive}
 use Rattle.semantic.specs.Information.{NONE}
 use Rattle.semantic.specs.Rows.{Blank, noListEntry}
 use Rattle.semantic.specs.declared.IdentifierStatus.the-variants.{Global}

@@ -6,7 +6,8 @@ use mathlib.Core.Path.{_≡_, refl, ap, _∙_}
 use lib.ListN.{List·getD-map}
 use Rattle.tree.specs.Tree.{Ident}
 use Rattle.scope_map.specs.ScopeMap.{Live, get}
-use Rattle.scope_map.specs.Laws.Map.{mapValue, map-get}
+use Rattle.scope_map.specs.Map.{mapValue}
+use Rattle.scope_map.specs.Laws.Map.{map-get}
 use Rattle.semantic.specs.Rows.{Row, Blank, Variable, Function, CallSite, Let, ListEntry, noListEntry}
 use Rattle.semantic.specs.declared.SemanticInformation.{SemanticInformation}
 use Rattle.pass.specs.State.{Entry, State, withContext, withRows, withEntries, rowAt, insert, amended, amend, noEntry, entryAt, putEntry, listEntryAt, infoAt, binderIn, newest, depth, idOf}

@@ -18,7 +18,8 @@ use Rattle.pass_laws.specs.Laws.Visits.{children-changes}
 use Rattle.pass_laws.specs.Laws.Ranges.{trees-any}
 use Rattle.pass_laws.specs.Laws.Keeps.{ran}
 use Rattle.pass_laws.specs.Laws.Rows.{blank-rows}
-use Rattle.pass_laws.specs.Laws.Tops.{Spread, spread-within, spread-top}
+use Rattle.pass_laws.specs.Spread.{Spread}
+use Rattle.pass_laws.specs.Laws.Tops.{spread-within, spread-top}
 use Rattle.pass_laws.specs.Laws.Stage.Lists.{Shorter, same-rows, lists-shorter, lists-within}
 use Rattle.pass_laws.specs.Laws.Stage.Still.{Stored, stored-then}
 use Rattle.pass_laws.specs.Laws.Stage.Entering.{apart-steps}

@@ -17,7 +17,8 @@ use Rattle.pass_laws.specs.Laws.Moves.{by}
 use Rattle.pass_laws.specs.Laws.Visits.{children-changes, top-visited, tops-visited}
 use Rattle.pass_laws.specs.Laws.Ranges.{tree-writes, tree-any}
 use Rattle.pass_laws.specs.Laws.Keeps.{Off}
-use Rattle.pass_laws.specs.Laws.Tops.{Spread, spread-end, spread-writes}
+use Rattle.pass_laws.specs.Spread.{Spread}
+use Rattle.pass_laws.specs.Laws.Tops.{spread-end, spread-writes}
 use Rattle.pass_laws.specs.Laws.Cases.{by-child}
 use Rattle.pass_laws.specs.Laws.Stage.Lists.{Lasting}
 use Rattle.pass_laws.specs.Laws.Stage.Still.{Stored, as-full, stored-then}

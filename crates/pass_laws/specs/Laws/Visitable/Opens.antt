@@ -11,7 +11,7 @@ use Rattle.pass.specs.State.{State, rowAt}
 use Rattle.pass.specs.Visit.{Flags, topFlags, isLambda}
 use Rattle.pass_laws.specs.Sound.{Inside, Opens, OpensArguments, OpensChildren, OpensDefine, OpensTop, OpensTops, OpensTested}
 use Rattle.pass_laws.specs.Stage.{EntersWithin, Stage, StageArguments, StageChildren, StageTops}
-use Rattle.pass_laws.specs.Laws.Tops.{Spread}
+use Rattle.pass_laws.specs.Spread.{Spread}
 use Rattle.pass_laws.specs.Laws.Stage.Parts.{first-argument, next-arguments, first-child, next-children, begin-children, and-children, when-test, when-children, if-first, if-second, if-third, let-initials, let-body, define-body, call-arguments, call-head, set-expression}
 use Rattle.pass_laws.specs.Laws.Stage.Lambdas.{lambda-body, lambda-enters}
 use Rattle.pass_laws.specs.Laws.Stage.Top.{lambda-define-body, value-define-body}

@@ -5,7 +5,7 @@ use mathlib.Core.Path.{ap, _∙_}
 use native.Mathlib.Omega.{arith}
 use borrow.Author.Tests.{not-true, not-false}
 use Rattle.reading.proofs.Spared.{spares-spoiled, spares-record}
-use Rattle.reading.proofs.Turn.{six-numbers, record-none, record-some}
+use Rattle.reading.proofs.Turn.{record-long, record-none, record-some}
 use borrow.Author.Needs.{needs}
 use Rattle.reading.proofs.reader.record_line.Statement.{statement}
 use Rattle.reading.proofs.reader.record_line.Tie as tie
@@ -29,7 +29,7 @@ returns-2 c =
     let e = w .ensures ∙ ap (λ (b : Bool). cond b (some (w .result .numbers)) none) (not-false (w .result .ok) (c₃ .if1 .left)) in
     record {
       is = λ T n cs rs v h. record-some v h e (c₁ .next .ensures) (c .next2 .ensures) (c₂ .store-record .ensures);
-      spares = λ T h. spares-record _ h (c₁ .next .ensures) (omega (arith, c₅ .good)) (six-numbers _ e) (c .next2 .ensures) (c₂ .store-record .ensures);
+      spares = λ T h. spares-record _ h (c₁ .next .ensures) (omega (arith, c₅ .good)) (record-long _ e) (c .next2 .ensures) (c₂ .store-record .ensures);
     }
 
 pub record-line-spec : {M : Type 1} → statement M
