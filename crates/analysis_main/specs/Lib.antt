@@ -1,4 +1,1 @@
-pub mod Lengths
-pub mod Held
-pub mod Runs
-pub mod Scripts
+pub mod Tried

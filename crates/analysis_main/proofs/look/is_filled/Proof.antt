@@ -4,13 +4,13 @@ use mathlib.Core.Path.{_≡_, refl, _∙_, sym}
 use native.Mathlib.Omega.{arith}
 use lib.ListN.{length, drop}
 use borrow.Author.Needs.{needs}
-use Rattle.analysis_main.specs.Held.{filled}
+use Rattle.analysis_main.specs.Tried.{isFilled}
 use Rattle.analysis_main.proofs.Filled.{filled-same, filled-other, filled-end}
-use Rattle.analysis_main.proofs.held.is_filled.Statement.{statement}
-use Rattle.analysis_main.proofs.held.is_filled.Tie as tie
+use Rattle.analysis_main.proofs.look.is_filled.Statement.{statement}
+use Rattle.analysis_main.proofs.look.is_filled.Tie as tie
 
 abbrev Inv-loop : tie.InvT-loop
-Inv-loop t x i₀ i = (i ≤ length t) × (filled x t ≡ filled x (drop i t))
+Inv-loop t x i₀ i = (i ≤ length t) × (isFilled x t ≡ isFilled x (drop i t))
 
 abbrev μ-loop : tie.MeasureT-loop
 μ-loop t x i₀ i = length t - i
