@@ -133,6 +133,16 @@ scripts =
       settled = none;
       says = argumentsAt 0 (2 ∷ 8 ∷ 5 ∷ []) ∷ argumentsAt 8 [] ∷ [];
     }
+    -- (define f (lambda (x) (let ((y (lambda () (f x)))) (f y)))): the context is none in a let's initial expressions, and again f's in its body
+    ∷ record {
+      names = 3;
+      tree = only (define (bare 0) (named 1 0) (lambda (at 2) (named 3 1 ∷ []) (letin (at 4) (named 5 2 ∷ [])
+          (only (lambda (at 6) [] (call (at 7) (reads 8 0) (only (reads 9 1))))) (call (at 10) (reads 11 0) (only (reads 12 2))))));
+      fresh = none;
+      settled = none;
+      says =
+          callAt 7 (some TailCall) ∷ callAt 10 (some (SelfTailCall 1)) ∷ twice (callAt 7 (some TailCall)) ∷ twice (callAt 10 (some (SelfTailCall 1))) ∷ [];
+    }
     ∷ []
 
 pub scripts-hold : map computed scripts ≡ map expected scripts
