@@ -10,3 +10,4 @@ pub mod Acceptance
 pub mod Numbered
 pub mod Within
 pub mod Stands
+pub mod Site

@@ -2,13 +2,13 @@
 -- exactly if the call stands in tail position.
 use Prim.Native.Nat.{ℕ, _+_, _≤_, _<_}
 use mathlib.Core.List.{List, _++_}
-use mathlib.Core.Bool.{Bool, true, false, cond, _&&_, true≢false}
+use mathlib.Core.Bool.{Bool, true, false, _&&_, true≢false}
 use mathlib.Core.Option.{Option}
 use mathlib.Core.Path.{_≡_, refl, ap, sym, _∙_}
 use native.Mathlib.Omega.{arith}
-use borrow.Author.Tests.{lt-ltb, eqb-true}
+use borrow.Author.Tests.{lt-ltb}
 use lib.ListN.{length, getD}
-use lib.Dec.{eqb, ltb}
+use lib.Dec.{ltb}
 use Rattle.tree.specs.Tree.{Ident, Node, Tree, Trees, ident, const, if, letin, define, lambda, sequence, call, set!, nil, cons, many, size, sizes, Num, Nums, begins, ands, whens}
 use Rattle.tree.specs.Define.{topLevel}
 use Rattle.tree.specs.Accepted.{All}
@@ -17,7 +17,7 @@ use Rattle.semantic.specs.Rows.{Row, Blank, CallSite}
 use Rattle.semantic.specs.declared.CallSiteInformation.{CallSiteInformation}
 use Rattle.r7rs.specs.Tail.{Call, calls, callsIn, callsLast, callsTested}
 use Rattle.tree.specs.Core.{core, cores, isConstant, isConstantForm}
-use Rattle.tree.specs.Site.{letLayer}
+use Rattle.tree.specs.Laws.Site.{let-le}
 use Rattle.semantic.specs.declared.IdentifierStatus.the-variants.{LocallyDefinedFunction, Global}
 use Rattle.pass.specs.State.{Facts, State, withContext, insert, rowAt, depth}
 use Rattle.semantic.specs.Kinds.{isTail}
@@ -83,13 +83,6 @@ pub record Ready (N : ℕ) (t : Bool) (s : State) : Type 0 where
   pub bottom : 1 ≤ depth s
   pub deep : t ≡ true → 2 ≤ depth s
 
-let-deeper : (d : ℕ) → d ≤ letLayer d
-let-deeper d = go (eqb d 1) refl
-  where
-    go : (b : Bool) → eqb d 1 ≡ b → d ≤ cond b 2 d
-    go true e = omega (arith, eqb-true d 1 e)
-    go false e = omega arith
-
 module _ {N : ℕ} where
   pub still : {t : Bool} {r s : State} → Ready N t r → Changes Any r s → Ready N t s
   still a c = record {
@@ -114,7 +107,7 @@ module _ {N : ℕ} where
       → Ready N t s → Ready N t (openLet n xs height function s)
   in-let {s = s} n xs height function a =
       let d = let-depth n xs height function s (a .bottom) in
-      let g = let-deeper (depth s) in
+      let g = let-le (depth s) in
       record {
         long = omega (arith, a .long, moves-lengths (into-let {own = Any} n xs height function s (names-any xs)) .rows);
         bottom = omega (arith, a .bottom);

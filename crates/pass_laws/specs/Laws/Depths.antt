@@ -1,18 +1,18 @@
 -- A lambda's fact tells the layer that it is made at, after one run and after two, inner defines or not.
 use Prim.Native.Nat.{ℕ, suc, _+_, _≤_, _<_}
 use mathlib.Core.List.{List, _++_}
-use mathlib.Core.Bool.{Bool, true, false, cond}
+use mathlib.Core.Bool.{Bool, true, false}
 use mathlib.Core.Option.{Option, none, some, Option·some-ne-none, Option·some-injective}
 use mathlib.Core.Path.{_≡_, refl, ap, sym, subst, _∙_}
 use native.Mathlib.Omega.{arith}
 use borrow.Author.Tests.{lt-ltb}
 use lib.ListN.{length, getD, length-replicate}
-use lib.Dec.{eqb}
 use Rattle.tree.specs.Tree.{Ident, Node, Tree, Trees, ident, const, if, letin, define, lambda, sequence, call, set!, nil, cons, many, size, sizes, Num, Nums, begins, ands, whens}
 use Rattle.tree.specs.Core.{cores}
 use Rattle.tree.specs.Define.{topLevel}
 use Rattle.tree.specs.Site.{lambdas, lambdasIn, letLayer}
 use Rattle.tree.specs.Accepted.{All}
+use Rattle.tree.specs.Laws.Site.{let-le}
 use Rattle.scope_map.specs.ScopeMap.{ScopeMap}
 use Rattle.semantic.specs.Information.{NONE}
 use Rattle.semantic.specs.Rows.{Row, Blank, Variable, Function, CallSite, Let, ListEntry}
@@ -87,13 +87,6 @@ still a c =
 
 bottom : {N d : ℕ} {s : State} → At N d s → 1 ≤ depth s
 bottom a = omega (arith, a .deep, a .one)
-
-let-one : (d : ℕ) → 1 ≤ d → 1 ≤ letLayer d
-let-one d h = go (eqb d 1)
-  where
-    go : (b : Bool) → 1 ≤ cond b 2 d
-    go true = omega arith
-    go false = h
 
 -- the names of lambda defines enter
 
@@ -181,7 +174,7 @@ module _ (classes : List ℕ) (N : ℕ) (R T : List Row) where
         let r₄ : At N (letLayer d) s₄ = record {
           long = omega (arith, r₃ .long, moves-lengths (into-let {own = Any} m xs (f .height) (f .function) s₃ (names-any xs)) .rows);
           deep = let-depth m xs (f .height) (f .function) s₃ (bottom r₃) ∙ ap letLayer (r₃ .deep);
-          one = let-one d (r .one);
+          one = omega (arith, let-le d, r .one);
         } in
         let j = i + 1 + length xs in
         let k = j + sizes es in

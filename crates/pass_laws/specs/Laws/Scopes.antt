@@ -12,6 +12,7 @@ use lib.Dec.{eqb, ltb}
 use Rattle.tree.specs.Tree.{Ident, Node, Tree}
 use Rattle.tree.specs.Accepted.{All}
 use Rattle.tree.specs.Site.{letLayer}
+use Rattle.tree.specs.Laws.Site.{let-le}
 use Rattle.scope_map.specs.ScopeMap.{ScopeMap, Live, newestLayer}
 use Rattle.semantic.specs.Information.{markLastUsage}
 use Rattle.semantic.specs.Rows.{Row, Blank, Variable, Function, CallSite, Let, ListEntry, noListEntry}
@@ -176,13 +177,6 @@ unfolding openLayer openScope
 opened-depth true s = refl
 opened-depth false s = refl
 
-let-pos : (d : ℕ) → 1 ≤ d → 1 ≤ letLayer d
-let-pos d h = go (eqb d 1)
-  where
-    go : (b : Bool) → 1 ≤ cond b 2 d
-    go true = omega arith
-    go false = h
-
 pub let-deep : (d : ℕ) (b : Bool) → eqb d 1 ≡ b → cond b (suc d) d ≡ cond b 2 d
 let-deep d true e = ap suc (eqb-true d 1 e)
 let-deep d false e = refl
@@ -191,7 +185,7 @@ pub let-depth : (n : Node) (xs : List Ident) (height : ℕ) (function : Option N
 unfolding openLet
 let-depth n xs height function s h =
     let e = opened-depth (atBottom s) s ∙ let-deep (depth s) (atBottom s) refl in
-    keeps-depth (names-changes {own = Any} _ height _ _ xs 0 0 (openLayer (atBottom s) s) (names-any xs)) (rw e (let-pos (depth s) h)) ∙ e
+    keeps-depth (names-changes {own = Any} _ height _ _ xs 0 0 (openLayer (atBottom s) s) (names-any xs)) (rw e (omega (arith, let-le (depth s), h))) ∙ e
 
 pub let-stays : (n : Node) (xs : List Ident) (height : ℕ) (function : Option Node) (s : State) → 1 ≤ depth s → 1 ≤ depth (openLet n xs height function s)
-let-stays n xs height function s h = rw (let-depth n xs height function s h) (let-pos (depth s) h)
+let-stays n xs height function s h = rw (let-depth n xs height function s h) (omega (arith, let-le (depth s), h))

@@ -8,6 +8,7 @@ use native.Mathlib.Omega.{arith}
 use lib.ListN.{length, getElem?, take, length-append, length-take, length-drop}
 use Rattle.tree.specs.Tree.{Ident, Tree, Trees}
 use Rattle.tree.specs.Site.{letLayer}
+use Rattle.tree.specs.Laws.Site.{let-two}
 use Rattle.r7rs.specs.Machine.{lastN}
 use Rattle.r7rs.specs.Plain.{Env, PVal, pclo, Store, bindEnv, locations}
 use Rattle.semantic.specs.Rows.{Row}
@@ -15,7 +16,7 @@ use Rattle.pass_laws.specs.Static.{Bound, Ctx, enterAll}
 use Rattle.lockstep.specs.Slot.{SVal, sclo, pack, frames, copied}
 use Rattle.lockstep.specs.Laws.Simulation.Lists.{at-seam, at-drop, at-take}
 use Rattle.lockstep.specs.Laws.Simulation.Binders.{Placed}
-use Rattle.lockstep.specs.Laws.Simulation.Scope.{let-two, let-deep, Entering, Scope, sc-nil, sc-own, sc-outer, scope-enter, let-scope, scope-close}
+use Rattle.lockstep.specs.Laws.Simulation.Scope.{let-deep, Entering, Scope, sc-nil, sc-own, sc-outer, scope-enter, let-scope, scope-close}
 use Rattle.lockstep.specs.Laws.Simulation.Relation.{readIn, Expr, Lambda, Alike, a-clo, Names, no-names, keep, skip, AlikeAll, alike-nil, alike-cons, Held}
 use Rattle.lockstep.specs.Laws.Simulation.Mono
 use Rattle.lockstep.specs.Laws.Simulation.Mono.{grown-append}

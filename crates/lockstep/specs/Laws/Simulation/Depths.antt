@@ -9,13 +9,14 @@ use Rattle.tree.specs.Tree.{Tree, Trees}
 use Rattle.tree.specs.Accepted.{All}
 use Rattle.tree.specs.Laws.Acceptance.Tests.{all-map}
 use Rattle.tree.specs.Site.{letLayer}
+use Rattle.tree.specs.Laws.Site.{let-le}
 use Rattle.semantic.specs.Rows.{Row, Variable}
 use Rattle.semantic.specs.declared.SemanticInformation.{SemanticInformation}
 use Rattle.pass_laws.specs.Static.{Bound, Ctx, isCell, Ref, ref-cell, ref-own, ref-outer, Aim, aim-cell, aim-own, aim-outer, r-ident, r-const, r-if, r-let, r-define, r-lambda, r-begin, r-call, r-set, Args, a-nil, a-cons, Seq, s-nil, s-one, s-more, r-and, r-when, r-no-test}
 use Rattle.lockstep.specs.Facts.{rowOf}
 use Rattle.lockstep.specs.Lock.{idents, identsIn}
 use Rattle.lockstep.specs.Laws.Simulation.Lists.{all-append}
-use Rattle.lockstep.specs.Laws.Simulation.Scope.{let-le, let-below}
+use Rattle.lockstep.specs.Laws.Simulation.Scope.{let-below}
 use Rattle.lockstep.specs.Laws.Simulation.Relation.{presumed, Expr, DeepAt, Deep}
 
 module _ (ts : Trees) (T : List Row) (M : ℕ → Bool) where

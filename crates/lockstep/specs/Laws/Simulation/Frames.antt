@@ -10,13 +10,14 @@ use native.Mathlib.Omega.{arith}
 use lib.ListN.{length, drop, getElem?, length-append, length-take}
 use Rattle.tree.specs.Tree.{Ident, Trees}
 use Rattle.tree.specs.Site.{letLayer}
+use Rattle.tree.specs.Laws.Site.{let-cases}
 use Rattle.r7rs.specs.Machine.{butN}
 use Rattle.r7rs.specs.Plain.{Env, PVal, Store, bindEnv, locations}
 use Rattle.semantic.specs.Rows.{Row}
 use Rattle.pass_laws.specs.Static.{Bound, Ctx, enterAll}
 use Rattle.lockstep.specs.Slot.{SVal, packFrame, pack, unpackFrame, unpack}
 use Rattle.lockstep.specs.Laws.Simulation.Lists.{at-append, at-take, drop-tail}
-use Rattle.lockstep.specs.Laws.Simulation.Scope.{let-cases, let-deep, Scope, sc-nil, sc-own, sc-outer, scope-up}
+use Rattle.lockstep.specs.Laws.Simulation.Scope.{let-deep, Scope, sc-nil, sc-own, sc-outer, scope-up}
 use Rattle.lockstep.specs.Laws.Simulation.Relation.{slotOf, readIn, Names, no-names, keep, skip, AlikeAll, alike-nil, alike-cons, Held}
 use Rattle.lockstep.specs.Laws.Simulation.Read.{own-read, outer-read}
 

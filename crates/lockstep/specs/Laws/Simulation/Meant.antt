@@ -9,6 +9,7 @@ use lib.ListN.{length}
 use lib.Dec.{eqb}
 use Rattle.tree.specs.Tree.{Ident, Tree, Trees, many}
 use Rattle.tree.specs.Accepted.{All}
+use Rattle.tree.specs.Laws.Site.{let-two}
 use Rattle.r7rs.specs.Binding.{Binder, Place, Mention, top, raised, lambdaBody, letBody, binders, parameters, letNames, within, Event, enters, mentions, ends, walk, walkArguments, walkAll, events, mentionsIn, meant, Use, useOf, usesOf, uses, Means}
 use Rattle.r7rs.specs.Binding as binding
 use Rattle.semantic.specs.Rows.{Row, Variable}
@@ -19,7 +20,7 @@ use Rattle.pass_laws.specs.Static.{Bound, Ctx, lookup, enterAll, isCell, isOwn,
 use Rattle.lockstep.specs.Facts.{frameIn, rowOf, home}
 use Rattle.lockstep.specs.Laws.Simulation.Lists.{all-append, all-member}
 use Rattle.lockstep.specs.Laws.Simulation.Binders.{slotAt, Placed, PlacedRising, PlacedAll}
-use Rattle.lockstep.specs.Laws.Simulation.Scope.{let-two, Housed, Entering, none-enters, one-enters, entering}
+use Rattle.lockstep.specs.Laws.Simulation.Scope.{Housed, Entering, none-enters, one-enters, entering}
 use Rattle.lockstep.specs.Laws.Simulation.Relation.{presumed, Expr}
 use Rattle.lockstep.specs.Laws.Simulation.Read.{home-of}
 

@@ -1,16 +1,14 @@
 -- The scope of a body: its names with their rows and slots, and how deep and high each lies.
 use Prim.Native.Nat.{ℕ, zero, suc, _+_, _-_, _≤_, _<_}
 use mathlib.Core.List.{List, [], _∷_}
-use mathlib.Core.Bool.{Bool, true, false, cond}
 use mathlib.Core.Logic.{_⊎_, inl, inr, ⊎-elim}
 use mathlib.Core.Option.{some}
 use mathlib.Core.Path.{_≡_, refl, ap, _∙_}
 use native.Mathlib.Omega.{arith}
-use borrow.Author.Tests.{eqb-true, eqb-false}
 use lib.ListN.{length}
-use lib.Dec.{eqb}
 use Rattle.tree.specs.Tree.{Ident, Trees}
 use Rattle.tree.specs.Site.{letLayer}
+use Rattle.tree.specs.Laws.Site.{let-cases}
 use Rattle.semantic.specs.Rows.{Row}
 use Rattle.pass_laws.specs.Static.{Bound, Ctx, enterAll, DepthAt, Noted, noted-nil, noted-cons}
 use Rattle.lockstep.specs.Facts.{frameOf, frameIn, rowOf, rowOfId}
@@ -18,20 +16,6 @@ use Rattle.lockstep.specs.Laws.Simulation.Binders.{slotAt, Stands, Stand
 
 abbrev pub bound : Ident → ℕ → ℕ → Bound
 bound x d s = record { binder = x; depth = d; slot = s }
-
--- a let at depth 1 opens depth 2; any other stays at its depth
-pub let-cases : (d : ℕ) → ((d ≡ 1) × (letLayer d ≡ 2)) ⊎ (¬ (d ≡ 1) × (letLayer d ≡ d))
-let-cases d = go (eqb d 1) refl
-  where
-    go : (b : Bool) → eqb d 1 ≡ b → ((d ≡ 1) × (cond b 2 d ≡ 2)) ⊎ (¬ (d ≡ 1) × (cond b 2 d ≡ d))
-    go true e = inl (eqb-true d 1 e, refl)
-    go false e = inr (eqb-false d 1 e, refl)
-
-pub let-two : (d : ℕ) → 1 ≤ d → 2 ≤ letLayer d
-let-two d l = ⊎-elim (λ c. omega arith) (λ c. omega arith) (let-cases d)
-
-pub let-le : (d : ℕ) → d ≤ letLayer d
-let-le d = ⊎-elim (λ c. omega arith) (λ c. omega arith) (let-cases d)
 
 pub let-below : {n : ℕ} (d : ℕ) → 2 ≤ n → d ≤ n → letLayer d ≤ n
 let-below d two l = ⊎-elim (λ c. omega arith) (λ c. omega arith) (let-cases d)

@@ -7,6 +7,7 @@ use mathlib.Core.Path.{_≡_, refl, ap, _∙_}
 use native.Mathlib.Omega.{arith}
 use lib.ListN.{length, drop}
 use Rattle.tree.specs.Tree.{Ident, Tree, Trees, many}
+use Rattle.tree.specs.Laws.Site.{let-two}
 use Rattle.r7rs.specs.Machine.{After, Moment, Cells, state, lastN, butN}
 use Rattle.r7rs.specs.Plain.{Env, PVal, Store, PMem, PBody, PKont, POut, mem, body, bindEnv, locations, plainly}
 use Rattle.r7rs.specs.Steps
@@ -16,7 +17,7 @@ use Rattle.pass_laws.specs.Static.{Ctx, Args, a-nil, a-cons, r-ident, r-const, 
 use Rattle.lockstep.specs.Slot.{SVal, SBody, SMem, SKont, SOut, frames, slots, bySlots}
 use Rattle.lockstep.specs.Laws.Simulation.Lists.{drop-tail, last-none, but-none}
 use Rattle.lockstep.specs.Laws.Simulation.Binders.{Placed, PlacedRising, PlacedAll}
-use Rattle.lockstep.specs.Laws.Simulation.Scope.{let-two, entering}
+use Rattle.lockstep.specs.Laws.Simulation.Scope.{entering}
 use Rattle.lockstep.specs.Laws.Simulation.Relation.{presumed, Expr, Then, then-head, then-body, a-unit, AlikeAll, alike-nil, AlikeHand, neither, each, AlikeCells, Held, Deep, Waits, w-if, w-seq, w-and, w-when, w-push, w-head, w-drop, w-set, w-def, Pushing, pushing, Both, b-start, b-enter, b-read, b-pushed, Same, s-next, s-ended, s-stopped}
 use Rattle.lockstep.specs.Laws.Simulation.Mono
 use Rattle.lockstep.specs.Laws.Simulation.Mono.{grown-append}

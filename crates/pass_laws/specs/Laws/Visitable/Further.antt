@@ -1,13 +1,12 @@
 -- How far counts and layers can have grown from one place of a walk to a later one, by the records between them.
-use Prim.Native.Nat.{ℕ, suc, _+_, _≤_}
+use Prim.Native.Nat.{ℕ, _+_, _≤_}
 use mathlib.Core.List.{List}
-use mathlib.Core.Bool.{Bool, true, false, cond}
+use mathlib.Core.Bool.{Bool}
 use mathlib.Core.Option.{Option}
 use mathlib.Core.Path.{refl}
 use native.Mathlib.Omega.{arith}
-use lib.Dec.{eqb}
 use Rattle.tree.specs.Tree.{Ident, Node, Tree, Trees, size, sizes}
-use Rattle.tree.specs.Site.{letLayer}
+use Rattle.tree.specs.Laws.Site.{let-next}
 use Rattle.semantic.specs.declared.IdentifierStatus.{IdentifierStatus}
 use Rattle.pass.specs.State.{State, withContext, depth}
 use Rattle.pass.specs.Read.{enterTopLevelValue, mutate}
@@ -97,13 +96,6 @@ module _ {s : State} (h : 1 ≤ depth s) where
 
 -- into a body
 
-let-deeper : (d : ℕ) → 1 ≤ d → letLayer d ≤ suc d
-let-deeper d h = pick (eqb d 1)
-  where
-    pick : (b : Bool) → cond b 2 d ≤ suc d
-    pick true = omega arith
-    pick false = omega arith
-
 module _ {s : State} (h : 1 ≤ depth s) where
   pub further-let : (n : Node) (xs : List Ident) (height : ℕ) (function : Option Node) → Further 1 s (openLet n xs height function s)
   further-let n xs height function =
@@ -111,7 +103,7 @@ module _ {s : State} (h : 1 ≤ depth s) where
       record {
         lengths = moves-lengths (into-let {own = Any} n xs height function s (names-any xs));
         counted = λ k c. counted-grow (omega arith) (counted-open-let n xs height function c);
-        layers = omega (arith, let-depth n xs height function s h, let-deeper (depth s) h);
+        layers = omega (arith, let-depth n xs height function s h, let-next (depth s) h);
         captureLayers = omega (arith, a .stacked .depth);
       }
 
