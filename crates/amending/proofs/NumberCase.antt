@@ -8,7 +8,7 @@ use native.Mathlib.Omega.{arith}
 use borrow.Author.Tests.{ltb-false}
 use native.Mathlib.Numerals.{add-one}
 use lib.ListN.{length, get_or, set}
-use Rattle.scope_map.specs.Laws.Size.{define-size}
+use Rattle.scope_map.proofs.Laws.Size.{define-size}
 use Rattle.semantic.specs.Rows.{ListEntry, no_list_entry}
 use Rattle.semantic.specs.ListEntries.{on_info}
 use Rattle.semantic.specs.declared.ListAt.{ListAt}

@@ -5,7 +5,7 @@ use mathlib.Core.Bool.{Bool}
 use mathlib.Core.Option.{Option}
 use mathlib.Core.Path.{◌≡◌, refl, ap, sym, subst, ◌∙◌}
 use native.Mathlib.Omega.{arith}
-use lib.ListN.{length, get_or, set}
+use lib.ListN.{get_or, set}
 use Rattle.table.specs.Layout.{layout}
 use Rattle.semantic.specs.Rows.{no_list_entry, put_list_entry}
 use Rattle.semantic.specs.ListEntries.{on_info}

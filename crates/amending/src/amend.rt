@@ -32,7 +32,7 @@ use work::scope::Binder;
 const SEARCHED: usize = 16384;
 
 // A lambda: its parameters, and the records of its body.
-#[derive(Drop)]
+#[derive(Clone, Copy)]
 pub struct Lambda {
     pub names: Names,
     pub first: usize,
@@ -40,7 +40,7 @@ pub struct Lambda {
 }
 
 // The same, where its list is amended: with whether a lambda stands among the records.
-#[derive(Drop)]
+#[derive(Clone, Copy)]
 pub struct Ending {
     pub names: Names,
     pub first: usize,

@@ -15,7 +15,7 @@ use work::captures::{Capture, define_capture, newest_capture};
 use work::{Pass, narrow};
 
 // What the newest capture of a name stands for.
-#[derive(Drop)]
+#[derive(Clone, Copy)]
 pub enum Nearby {
     Info(ScopeInfo),
     Nothing,
@@ -62,7 +62,7 @@ fn is_near(o: Nearby) -> bool
 }
 
 // The offsets that are read of the newest capture of an entry's name, where that is near, else of the entry's own number and slot.
-#[derive(Drop)]
+#[derive(Clone, Copy)]
 pub struct Offsets {
     pub capture: u32,
     pub heap: u32,
@@ -133,7 +133,7 @@ fn take_row(
 }
 
 // What is threaded after a row, and the next number.
-#[derive(Drop)]
+#[derive(Clone, Copy)]
 pub struct Numbered {
     pub pass: Pass,
     pub next: u32,

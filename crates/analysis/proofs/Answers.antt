@@ -9,7 +9,7 @@ use lib.ListN.{length, replicate, length-replicate}
 use Rattle.tree.specs.Record.{records}
 use Rattle.tree.specs.Tree.{Trees}
 use Rattle.tree.specs.Check.{Refusal, refusal}
-use Rattle.tree.specs.Laws.Acceptance.{accepted, only}
+use Rattle.tree.proofs.Laws.Acceptance.{accepted, only}
 use Rattle.tree.specs.Starts.{TellsStarts}
 use Rattle.pass.specs.Run.{rows_most, Tables, Outcome, fitting, Answers}
 use Rattle.answers.specs.Answer.{refusal_in}

@@ -7,7 +7,7 @@ use lib.ListN.{length}
 use Rattle.tree.specs.Record.{records}
 use Rattle.tree.specs.Tree.{Trees}
 use Rattle.tree.specs.Accepted.{Accepted}
-use Rattle.tree.specs.Laws.Acceptance.{unique}
+use Rattle.tree.proofs.Laws.Acceptance.{unique}
 use Rattle.pass.specs.State.{State}
 use Rattle.pass.specs.Run.{work_length, no_facts, fresh, settled, refused_first, fresh_outcome, settled_outcome}
 use Rattle.work.specs.Passes.{pass_new}

@@ -3,6 +3,7 @@ ghost use Rattle.std.specs.Prelude.{◌≡◌};
 ghost use Rattle.analysis_main.specs.Tried.{is_filled};
 
 use answers::Answer;
+use std::io;
 
 // What every number is before a call.
 pub const FILLING: u32 = 1234567891;
@@ -22,31 +23,24 @@ fn is_filled(t: &[u32], x: u32) -> bool
 }
 
 // A table without numbers is as it was.
-pub fn say_table(name: &[u8], t: &[u32]) {
-    io::write_all(1, name);
+pub fn say_table(rt: &impl Print, name: &str, t: &[u32]) -> io::Result<()> {
+    print!(rt; "{name}")?;
     if is_filled(t, FILLING) {
-        io::write_all(1, b"unchanged");
-        return;
+        return print!(rt; "unchanged");
     }
     if is_filled(t, 0) {
-        io::write_all(1, b"zero");
-        return;
+        return print!(rt; "zero");
     }
-    io::write_all(1, b"changed");
+    print!(rt; "changed")
 }
 
-fn say_refused(number: u32, at: usize) {
-    io::write_all(1, b"refused=");
-    io::print_decimal(1, number as u64);
-    io::write_all(1, b" at=");
-    io::print_decimal(1, at as u64);
+fn say_refused(rt: &impl Print, number: u32, at: usize) -> io::Result<()> {
+    print!(rt; "refused={number} at={at}")
 }
 
-pub fn say_answer(a: Answer) {
+pub fn say_answer(rt: &impl Print, a: Answer) -> io::Result<()> {
     match a {
-        Answer::Accepted => {
-            io::write_all(1, b"accepted");
-        }
-        Answer::Refused(n, i) => say_refused(n, i),
+        Answer::Accepted => print!(rt; "accepted"),
+        Answer::Refused(n, i) => say_refused(rt, n, i),
     }
 }

@@ -11,6 +11,7 @@ ghost use Rattle.analysis_main.specs.Tried.{Runs};
 
 use answers::{Answer, FACTS, LIST_ENTRIES};
 use look::{FILLING, say_answer, say_table};
+use std::io;
 use work::WORK;
 
 // (lambda (x) x), and the same with a form at record 2 that there is not.
@@ -38,6 +39,7 @@ fn run(
 
 // A line of what the call answers and of what it leaves.
 fn call(
+    rt: &impl Print,
     settled: bool,
     records: &[u32],
     classes: &[u8],
@@ -45,18 +47,27 @@ fn call(
     captured: &mut [u32],
     arguments: &mut [u32],
     work: &mut [u32],
-) {
+) -> io::Result<()> {
     let a = run(settled, records, classes, facts, captured, arguments, work);
-    say_answer(a);
-    say_table(b" facts=", facts);
-    say_table(b" captured=", captured);
-    say_table(b" arguments=", arguments);
-    say_table(b" work=", work);
-    io::write_all(1, b"\n");
+    say_answer(rt, a)?;
+    say_table(rt, " facts=", facts)?;
+    say_table(rt, " captured=", captured)?;
+    say_table(rt, " arguments=", arguments)?;
+    say_table(rt, " work=", work)?;
+    print!(rt; "\n")
 }
 
 // Lends the first f, c, a and w numbers of arrays that are one number longer than the set lengths.
-fn lend(settled: bool, rs: &[u32], classes: &[u8], f: usize, c: usize, a: usize, w: usize)
+fn lend(
+    rt: &impl Print,
+    settled: bool,
+    rs: &[u32],
+    classes: &[u8],
+    f: usize,
+    c: usize,
+    a: usize,
+    w: usize,
+) -> io::Result<()>
     requires { (f ≤ facts_length + 1) × (c ≤ list_entries_length + 1) × (a ≤ list_entries_length + 1) × (w ≤ work_length + 1) }
 {
     let mut facts = [FILLING; FACTS + 1];
@@ -64,6 +75,7 @@ fn lend(settled: bool, rs: &[u32], classes: &[u8], f: usize, c: usize, a: usize,
     let mut arguments = [FILLING; LIST_ENTRIES + 1];
     let mut work = [FILLING; WORK + 1];
     call(
+        rt,
         settled,
         rs,
         classes,
@@ -71,15 +83,23 @@ fn lend(settled: bool, rs: &[u32], classes: &[u8], f: usize, c: usize, a: usize,
         &mut captured[..c],
         &mut arguments[..a],
         &mut work[..w],
-    );
+    )
 }
 
 // A script that is accepted where the lengths are right.
-fn script(settled: bool, name: &[u8], f: usize, c: usize, a: usize, w: usize)
+fn script(
+    rt: &impl Print,
+    settled: bool,
+    name: &str,
+    f: usize,
+    c: usize,
+    a: usize,
+    w: usize,
+) -> io::Result<()>
     requires { (f ≤ facts_length + 1) × (c ≤ list_entries_length + 1) × (a ≤ list_entries_length + 1) × (w ≤ work_length + 1) }
 {
-    io::write_all(1, name);
-    lend(settled, &SCRIPT, &[0; 1], f, c, a, w);
+    print!(rt; "{name}")?;
+    lend(rt, settled, &SCRIPT, &[0; 1], f, c, a, w)
 }
 
 // Tables of their set lengths, which are F, L, L and W.
@@ -89,46 +109,53 @@ const L: usize = LIST_ENTRIES;
 
 const W: usize = WORK;
 
-fn records(settled: bool, name: &[u8], rs: &[u32], classes: &[u8]) {
-    io::write_all(1, name);
-    lend(settled, rs, classes, F, L, L, W);
+fn records(
+    rt: &impl Print,
+    settled: bool,
+    name: &str,
+    rs: &[u32],
+    classes: &[u8],
+) -> io::Result<()> {
+    print!(rt; "{name}")?;
+    lend(rt, settled, rs, classes, F, L, L, W)
 }
 
-fn wrong_lengths(settled: bool) {
-    script(settled, b"facts short: ", F - 1, L, L, W);
-    script(settled, b"captured short: ", F, L - 1, L, W);
-    script(settled, b"arguments short: ", F, L, L - 1, W);
-    script(settled, b"work short: ", F, L, L, W - 1);
-    script(settled, b"facts long: ", F + 1, L, L, W);
-    script(settled, b"captured long: ", F, L + 1, L, W);
-    script(settled, b"arguments long: ", F, L, L + 1, W);
-    script(settled, b"work long: ", F, L, L, W + 1);
-    script(settled, b"no facts: ", 0, L, L, W);
-    script(settled, b"no tables: ", 0, 0, 0, 0);
-    records(settled, b"1 number: ", &[6], &[0; 1]);
-    records(settled, b"5 numbers: ", &[6, 1, 0, 1, 0], &[0; 1]);
+fn wrong_lengths(rt: &impl Print, settled: bool) -> io::Result<()> {
+    script(rt, settled, "facts short: ", F - 1, L, L, W)?;
+    script(rt, settled, "captured short: ", F, L - 1, L, W)?;
+    script(rt, settled, "arguments short: ", F, L, L - 1, W)?;
+    script(rt, settled, "work short: ", F, L, L, W - 1)?;
+    script(rt, settled, "facts long: ", F + 1, L, L, W)?;
+    script(rt, settled, "captured long: ", F, L + 1, L, W)?;
+    script(rt, settled, "arguments long: ", F, L, L + 1, W)?;
+    script(rt, settled, "work long: ", F, L, L, W + 1)?;
+    script(rt, settled, "no facts: ", 0, L, L, W)?;
+    script(rt, settled, "no tables: ", 0, 0, 0, 0)?;
+    records(rt, settled, "1 number: ", &[6], &[0; 1])?;
+    records(rt, settled, "5 numbers: ", &[6, 1, 0, 1, 0], &[0; 1])?;
     records(
+        rt,
         settled,
-        b"7 numbers, unfit: ",
+        "7 numbers, unfit: ",
         &[13, 1, 0, 1, 0, 0, 1],
         &[0; 1],
-    );
-    io::write_all(1, b"work long, unfit: ");
-    lend(settled, &UNFIT, &[0; 1], F, L, L, W + 1);
+    )?;
+    print!(rt; "work long, unfit: ")?;
+    lend(rt, settled, &UNFIT, &[0; 1], F, L, L, W + 1)
 }
 
-fn set_lengths(settled: bool) {
-    records(settled, b"1025 names: ", &SCRIPT, &[0; 1025]);
-    records(settled, b"form 13: ", &UNFIT, &[0; 1]);
-    records(settled, b"(lambda (x) x): ", &SCRIPT, &[0; 1]);
-    records(settled, b"no records: ", &[0; 0], &[0; 0]);
+fn set_lengths(rt: &impl Print, settled: bool) -> io::Result<()> {
+    records(rt, settled, "1025 names: ", &SCRIPT, &[0; 1025])?;
+    records(rt, settled, "form 13: ", &UNFIT, &[0; 1])?;
+    records(rt, settled, "(lambda (x) x): ", &SCRIPT, &[0; 1])?;
+    records(rt, settled, "no records: ", &[0; 0], &[0; 0])
 }
 
-fn main() {
-    io::write_all(1, b"fresh\n");
-    wrong_lengths(false);
-    set_lengths(false);
-    io::write_all(1, b"settled\n");
-    wrong_lengths(true);
-    set_lengths(true);
+fn main(rt: HostRuntime) -> io::Result<()> {
+    println!(rt; "fresh")?;
+    wrong_lengths(&rt, false)?;
+    set_lengths(&rt, false)?;
+    println!(rt; "settled")?;
+    wrong_lengths(&rt, true)?;
+    set_lengths(&rt, true)
 }

@@ -18,7 +18,7 @@ pub const FACTS: usize = 81920;
 pub const LIST_ENTRIES: usize = 53248;
 
 // What an operation answers: that the tables hold the facts, or a refusal's number and record.
-#[derive(Drop)]
+#[derive(Clone, Copy)]
 pub enum Answer {
     Accepted,
     Refused(u32, usize),

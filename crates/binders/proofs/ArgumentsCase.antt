@@ -10,7 +10,7 @@ use Rattle.table.specs.Laws.Layout.{length-layout}
 use Rattle.tree.specs.Record.{records, nth}
 use Rattle.tree.specs.Tree.{Ident, named, NumNames}
 use Rattle.tree.specs.Stands.{NamesStand}
-use Rattle.tree.specs.Laws.Stands.{first_name, later-names}
+use Rattle.tree.proofs.Laws.Stands.{first_name, later-names}
 use Rattle.scope_map.specs.ScopeMap.{Live, newest_layer}
 use Rattle.scope_map.specs.declared.Row.{Row}
 use Rattle.semantic.specs.Rows.{ListEntry, list_entry_width, put_list_entry}

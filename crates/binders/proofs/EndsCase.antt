@@ -7,7 +7,7 @@ use native.Mathlib.Omega.{arith}
 use lib.ListN.{length, length-map}
 use Rattle.tree.specs.Record.{records, nth}
 use Rattle.tree.specs.Tree.{Ident, named}
-use Rattle.tree.specs.Laws.Stands.{names-inside}
+use Rattle.tree.proofs.Laws.Stands.{names-inside}
 use Rattle.tree.specs.Accepted.{All}
 use Rattle.scope_map.specs.ScopeMap.{Live, newest_layer}
 use Rattle.scope_map.specs.declared.Row.{Row}

@@ -6,7 +6,7 @@ use native.Mathlib.Omega.{arith}
 use lib.ListN.{length}
 use Rattle.tree.specs.Tree.{Ident, NumNames}
 use Rattle.tree.specs.Stands.{NamesStand}
-use Rattle.tree.specs.Laws.Stands.{first_name, later-names}
+use Rattle.tree.proofs.Laws.Stands.{first_name, later-names}
 use Rattle.pass.specs.State.{State}
 use Rattle.work.specs.Tied.{Raw, Tied, Here, Fits}
 use Rattle.walk.specs.declared.uses.Names.{Names}

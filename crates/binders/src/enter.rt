@@ -27,13 +27,13 @@ pub fn no_list() -> ListAt
 
 // How many heap entries the lambda around has, plus one; 0 where there is none. An enum would be stored in narrow words and copied in a wide one,
 // and such a copy waits for the stores (docs/SPEED.md, 49).
-#[derive(Drop)]
+#[derive(Clone, Copy)]
 pub struct Heaps {
     pub code: u32,
 }
 
 // What names that enter have in common: their kind, the slot of the first, the heap entries around, and the list of the run before.
-#[derive(Drop)]
+#[derive(Clone, Copy)]
 pub struct Entering {
     pub kind: IdentifierStatus,
     pub base: u32,
@@ -132,7 +132,7 @@ fn enter_name(
 }
 
 // What names that entered change of the pass: what the last one does, and the first refusal of a second run.
-#[derive(Drop)]
+#[derive(Clone, Copy)]
 pub struct EnteredNames {
     pub name: EnteredName,
     pub second: Second,

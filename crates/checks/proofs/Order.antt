@@ -9,7 +9,7 @@ use lib.ListN.{length}
 use Rattle.tree.specs.Record.{width, records}
 use Rattle.tree.specs.Check.{Refusal, or_else, check1, check2, check3, check4, check5, check6, check7, check16, check8, refusal}
 use Rattle.checks.specs.Private.Order.{from3, from8}
-use Rattle.tree.specs.Laws.Acceptance.Passes.{silent}
+use Rattle.tree.proofs.Laws.Acceptance.Passes.{silent}
 use Rattle.checks.specs.Private.Clear.{Clear}
 use Rattle.scans.specs.declared.scan.Found.{Found}
 use Rattle.scans.specs.declared.scan.Found.TheVariants.{At, Nothing}

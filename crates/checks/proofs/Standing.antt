@@ -13,7 +13,7 @@ use Rattle.tree.specs.Form.{children_of}
 use Rattle.tree.specs.Place.{Open, taken, after, Placed, placed, left}
 use Rattle.tree.specs.First.{on, first}
 use Rattle.scans.proofs.First.{on-zero, first_next, first-none}
-use Rattle.tree.specs.Laws.Acceptance.Walk.{placing, length_taken}
+use Rattle.tree.proofs.Laws.Acceptance.Walk.{placing, length_taken}
 use Rattle.scans.specs.Deep.{is_deep, first_deep}
 use Rattle.checks.specs.declared.sweep.Innermost.{Innermost}
 use Rattle.scans.specs.ToCome.{Live}

@@ -10,13 +10,13 @@ use lib.Dec.{eqb}
 use lib.ListN.{length, set, replicate}
 use Rattle.tree.specs.Record.{Record, records, nth}
 use Rattle.tree.specs.Form.{names_of, children_of}
-use Rattle.tree.specs.Laws.Acceptance.Walk.{empty_call}
+use Rattle.tree.proofs.Laws.Acceptance.Walk.{empty_call}
 use Rattle.checks.specs.declared.sweep.Innermost.{Innermost}
 use Rattle.checks.specs.Private.Held.{Steps}
 use Rattle.tree.specs.Check.{check3, check7, check16, untested}
 use Rattle.scans.specs.Sound.{Sound}
 use Rattle.checks.specs.Private.Clear.{Clear}
-use Rattle.tree.specs.Laws.Form.{fit-names}
+use Rattle.tree.proofs.Laws.Form.{fit-names}
 use Rattle.scans.proofs.Search.{outside, At, begin, next, fails, end}
 use Rattle.scans.proofs.Naming.{Naming, no_children, naming_begin, naming-next, none-due, none_misnamed}
 use Rattle.checks.proofs.Standing.{Standing, stand_begin, stand_next, stand_near, stand_shallow, stand_none, stand_whole}

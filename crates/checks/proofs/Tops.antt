@@ -7,13 +7,13 @@ use lib.ListN.{length}
 use Rattle.tree.specs.Record.{Record, records}
 use Rattle.tree.specs.Form.{form_of, names_of, others_of}
 use Rattle.tree.specs.Tree.{Ident, Tree, Trees, nil, cons, many, named, flat, flats, size, sizes, Num, Nums}
-use Rattle.tree.specs.Laws.Parts.{names, others, flat_with, size-own, num_own, Each, induct}
+use Rattle.tree.proofs.Laws.Parts.{names, others, flat_with, size-own, num_own, Each, induct}
 use Rattle.tree.specs.Place.{Open, closed, taken, after}
 use Rattle.checks.specs.Leaves.{at_top, tops_in}
 use Rattle.tree.specs.Starts.{starts}
 use Rattle.tree.specs.Accepted.{Accepted}
-use Rattle.tree.specs.Laws.Acceptance.{holds}
-use Rattle.tree.specs.Laws.Acceptance.Walk.{opened, still_open}
+use Rattle.tree.proofs.Laws.Acceptance.{holds}
+use Rattle.tree.proofs.Laws.Acceptance.Walk.{opened, still_open}
 
 -- names are no starts
 tops_names : (xs : List Ident) (k : ℕ) (s : List Open) (l : List Record) (i : ℕ)

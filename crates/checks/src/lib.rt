@@ -18,7 +18,7 @@ mod sweep;
 const MOST_NAMES: usize = 1024;
 
 // What the checks say: fit for the pass, or the first check that refuses, with the first record it applies to.
-#[derive(Drop)]
+#[derive(Clone, Copy)]
 pub enum Checked {
     Fit,
     // 1: the numbers are no whole records

@@ -21,7 +21,7 @@ const CHILD: usize = 128;
 const PLACES: usize = 65;
 
 // The innermost open record, and the place where the next one out is kept.
-#[derive(Drop)]
+#[derive(Clone, Copy)]
 struct Innermost {
     word: usize,
     under: usize,

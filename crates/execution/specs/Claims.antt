@@ -12,7 +12,7 @@ use Rattle.execution.specs.Calls.{CallsRecorded}
 use Rattle.pass.specs.Bare.{bares}
 use Rattle.r7rs.specs.Binding.{events}
 use Rattle.r7rs.specs.Tail.{calls_in}
-use Rattle.r7rs.specs.Laws.Expansion.{keys}
+use Rattle.r7rs.specs.Tail.{keys}
 use Rattle.r7rs.specs.Alike.{RunAlike}
 use Rattle.r7rs.specs.Run.{plain}
 use Rattle.lockstep.specs.Slot.{slots}

@@ -4,4 +4,3 @@ pub mod Premises
 pub mod References
 pub mod Acceptance
 pub mod Positions
-pub mod Laws

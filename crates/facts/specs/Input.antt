@@ -1,4 +1,4 @@
--- No contract can say which bytes a call of C's reads. So each of these is of some bytes.
+-- No contract can say which bytes a read gives. So each of these is of some bytes.
 use Rattle.std.specs.Prelude.{ℕ, ◌≤◌, true, List, length, take}
 use Rattle.reading.specs.Held.{Holds, Fed}
 use Rattle.reading.specs.declared.reader.Reading.{Reading}

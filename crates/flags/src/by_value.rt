@@ -4,7 +4,7 @@ ghost use Rattle.flags.specs.Part.{Room, Hands};
 use crate::in_place::{enter, leave};
 use crate::{Flags, Part};
 
-#[derive(Drop)]
+#[derive(Clone, Copy)]
 pub struct Both {
     pub first: Flags,
     pub second: Flags,

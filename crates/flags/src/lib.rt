@@ -12,14 +12,14 @@ ghost use Rattle.pass.specs.Visit.{top_flags};
 use semantic::NONE;
 
 // `function_context`: the record of the innermost lambda, counted from 1, and its id. With no lambda around, 0 and NONE (docs/DECISIONS.md, 34).
-#[derive(Drop)]
+#[derive(Clone, Copy)]
 pub struct Around {
     pub code: u32,
     pub id: u32,
 }
 
 // In this order it takes 20 bytes, one of them padding.
-#[derive(Drop)]
+#[derive(Clone, Copy)]
 pub struct Flags {
     // `stack_offset`
     pub height: u32,
@@ -35,7 +35,7 @@ pub struct Flags {
 }
 
 // A part of an expression, with what its flags depend on.
-#[derive(Drop)]
+#[derive(Clone, Copy)]
 pub enum Part {
     // no tail position: the test of an if, an initial expression, the expression of a set!
     NotTail,

@@ -10,12 +10,12 @@ use borrow.Author.Tests.{ne_eqb}
 use Rattle.tree.specs.Record.{records, nth}
 use Rattle.tree.specs.Tree.{Node, Tree, Trees, ident, const, if, letin, define, lambda, sequence, call, set!, nil, cons, begins, ands, whens, many}
 use Rattle.tree.specs.Core.{core, peel}
-use Rattle.tree.specs.Laws.Core.{core_peel}
-use Rattle.tree.specs.Laws.Parts.{own}
-use Rattle.tree.specs.Laws.Stands.{root, root_form}
-use Rattle.tree.specs.Laws.Stands.Parts.{call_parts}
+use Rattle.tree.proofs.Laws.Core.{core_peel}
+use Rattle.tree.proofs.Laws.Parts.{own}
+use Rattle.tree.proofs.Laws.Stands.{root, root_form}
+use Rattle.tree.proofs.Laws.Stands.Parts.{call_parts}
 use Rattle.tree.specs.Stands.{Stands}
-use Rattle.tree.specs.Laws.Stands.Forms.{ident_of_lem}
+use Rattle.tree.proofs.Laws.Stands.Forms.{ident_of_lem}
 use Rattle.semantic.specs.Information.{NONE}
 use Rattle.semantic.specs.Rows.{Blank, CallSite, row_width, put_row}
 use Rattle.semantic.specs.Kinds.{refers_in}
@@ -23,7 +23,6 @@ use Rattle.semantic.specs.Leaves.{Stores, Tells}
 use Rattle.semantic.specs.declared.CallKind.{CallKind}
 use Rattle.semantic.specs.declared.Span.{Span}
 use Rattle.pass.specs.State.{State}
-use Rattle.pass.specs.Read.{span}
 use Rattle.pass.specs.Visit.{is_self, call_kind, node_span, call_site, call_fact, clear_context}
 use Rattle.pass.specs.Run.{rows_most, facts_length}
 use Rattle.work.specs.Passes.{in_context}

@@ -10,12 +10,12 @@ use lib.Dec.{eqb, ltb}
 use Rattle.tree.specs.Record.{records, nth}
 use Rattle.tree.specs.Tree.{Ident, Node, Tree, Trees, ident, const, if, letin, define, lambda, sequence, call, set!, nil, cons, many, size}
 use Rattle.tree.specs.Core.{core, cores, peel}
-use Rattle.tree.specs.Laws.Core.{by_peel}
-use Rattle.tree.specs.Laws.Parts.{own}
+use Rattle.tree.proofs.Laws.Core.{by_peel}
+use Rattle.tree.proofs.Laws.Parts.{own}
 use Rattle.tree.specs.Stands.{Stands, StandAll}
-use Rattle.tree.specs.Laws.Stands.{root, root_form}
-use Rattle.tree.specs.Laws.Stands.Parts.{call_parts}
-use Rattle.tree.specs.Laws.Stands.Forms.{ident_of_lem}
+use Rattle.tree.proofs.Laws.Stands.{root, root_form}
+use Rattle.tree.proofs.Laws.Stands.Parts.{call_parts}
+use Rattle.tree.proofs.Laws.Stands.Forms.{ident_of_lem}
 use Rattle.semantic.specs.Information.{mark_last_usage}
 use Rattle.semantic.specs.Rows.{Blank, row_width, put_row}
 use Rattle.semantic.specs.Amend.{amended}

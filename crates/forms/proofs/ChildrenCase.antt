@@ -8,12 +8,12 @@ use lib.ListN.{length}
 use Rattle.tree.specs.Record.{records, nth}
 use Rattle.tree.specs.Tree.{Ident, Tree, Trees, many}
 use Rattle.tree.specs.Core.{core, cores, peel}
-use Rattle.tree.specs.Laws.Core.{by_peel}
-use Rattle.tree.specs.Laws.Parts.{own}
+use Rattle.tree.proofs.Laws.Core.{by_peel}
+use Rattle.tree.proofs.Laws.Parts.{own}
 use Rattle.tree.specs.Stands.{Stands, StandAll}
-use Rattle.tree.specs.Laws.Stands.{root, root_form}
-use Rattle.tree.specs.Laws.Stands.Parts.{define_parts}
-use Rattle.tree.specs.Laws.Stands.Forms.{define_of_lem}
+use Rattle.tree.proofs.Laws.Stands.{root, root_form}
+use Rattle.tree.proofs.Laws.Stands.Parts.{define_parts}
+use Rattle.tree.proofs.Laws.Stands.Forms.{define_of_lem}
 use Rattle.semantic.specs.Information.{NONE}
 use Rattle.semantic.specs.Rows.{Variable}
 use Rattle.semantic.specs.declared.IdentifierStatus.{IdentifierStatus}
@@ -38,11 +38,11 @@ use Rattle.forms.proofs.DefinesCase.{define_here}
 
 -- a define that enters keeps a state good
 module _ (classes : List ℕ) (kind : IdentifierStatus) (alias : ℕ) (x : Ident) (b : Tree) where
-  sized_define : (s : State) → Sized s (enter_define classes kind alias x b s)
+  pub sized_define : (s : State) → Sized s (enter_define classes kind alias x b s)
   unfolding enter_define
   sized_define s = sized_then (sized_enter x top_level_entry s) (sized_insert x.at (Variable (define_fact classes kind alias x b s)) (enter x top_level_entry s))
 
-  good_define : {rs : List ℕ} {s : State} → Known rs x → Good rs s → Good rs (enter_define classes kind alias x b s)
+  pub good_define : {rs : List ℕ} {s : State} → Known rs x → Good rs s → Good rs (enter_define classes kind alias x b s)
   good_define {s = s} k g = good_where (λ Q. Q.ident x) k tt g (sized_define s) (λ Q l q F z h. each_define z classes kind alias x b q h)
 
 -- One tree

@@ -8,7 +8,7 @@ use lib.ListN.{length}
 use Rattle.tree.specs.Record.{records, nth}
 use Rattle.tree.specs.Tree.{Ident, Node, Tree, define}
 use Rattle.tree.specs.Stands.{Stands}
-use Rattle.tree.specs.Laws.Stands.Parts.{NamedParts, define_parts}
+use Rattle.tree.proofs.Laws.Stands.Parts.{NamedParts, define_parts}
 use Rattle.semantic.specs.Information.{NONE}
 use Rattle.semantic.specs.declared.IdentifierStatus.TheVariants.{Local}
 use Rattle.pass.specs.State.{State, with_context}

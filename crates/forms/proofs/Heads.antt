@@ -1,10 +1,10 @@
 -- A call's head as what it is: what stands at the record that `core_at` reaches, and whether it is a constant.
-use mathlib.Core.Bool.{true, false, true≢false}
+use mathlib.Core.Bool.{false, true≢false}
 use mathlib.Core.Path.{◌≡◌, refl}
 use Rattle.tree.specs.Tree.{Tree}
 use Rattle.tree.specs.Core.{core, peel}
-use Rattle.tree.specs.Laws.Core.{Peeled, same, none, peeled}
-use Rattle.tree.specs.Laws.Parts.{own}
+use Rattle.tree.proofs.Laws.Core.{Peeled, same, none, peeled}
+use Rattle.tree.proofs.Laws.Parts.{own}
 use Rattle.forms.specs.Calls.{constant_record}
 
 no_constant : {c t : Tree} → Peeled c t → constant_record (own t) ≡ false → c ≡ t

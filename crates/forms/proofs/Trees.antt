@@ -5,8 +5,8 @@ use mathlib.Core.Path.{◌≡◌, refl, sym, subst, ◌∙◌}
 use native.Mathlib.Omega.{arith}
 use Rattle.tree.specs.Tree.{Tree, Trees, nil, cons, many, flat, flats, Num}
 use Rattle.tree.specs.Stands.{Within, Stands, StandAll}
-use Rattle.tree.specs.Laws.Within.{front}
-use Rattle.tree.specs.Laws.Stands.{first_tree, later_trees, tree_few}
+use Rattle.tree.proofs.Laws.Within.{front}
+use Rattle.tree.proofs.Laws.Stands.{first_tree, later_trees, tree_few}
 use Rattle.pass.specs.State.{State}
 use Rattle.work.specs.Tied.{Raw, Tied, Fits}
 use Rattle.walk.specs.Contract.{StepsOver}

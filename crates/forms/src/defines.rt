@@ -11,7 +11,7 @@ use walk::extent::step_over;
 use work::Pass;
 
 // What a define changes of the pass as it opens, and as it closes.
-#[derive(Drop)]
+#[derive(Clone, Copy)]
 pub struct EnteredDefine {
     pub context: u32,
     pub name: EnteredName,

@@ -39,7 +39,7 @@ use Rattle.lists.specs.Contract.{Told, Held, StoresList, Inside}
 use Rattle.amending.specs.Contract.{HasBody, SomeLambda, amended_list, AmendsList}
 use Rattle.amending.specs.declared.amend.Lambda.{Lambda}
 use Rattle.layers.specs.Contract.{LambdaEnds, ClosesLambda}
-use Rattle.work.specs.Laws.Fits.{fact_inside, tied_insert, told}
+use Rattle.work.specs.Laws.Fits.{fact_inside, tied_insert}
 use Rattle.binders.specs.Leave.{MarksLasts, LayerFits, StoresLayer, NamesEnd, EndsParameters}
 use Rattle.layers.specs.Lambdas.{layers_closed, ClosesLayers, made_list, layer_list, with_lists, entries_between, captured_list_at, argument_list_at, function_fact, ListsEnd, EndsLists}
 use Rattle.layers.specs.declared.lambda.EndedLists.{EndedLists}

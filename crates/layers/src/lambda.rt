@@ -135,7 +135,7 @@ fn between(from: usize, to: usize) -> ListAt
 }
 
 // The pass after a lambda's lists are made or amended, and where they lie.
-#[derive(Drop)]
+#[derive(Clone, Copy)]
 struct EndedLists {
     pass: Pass,
     captured: ListAt,

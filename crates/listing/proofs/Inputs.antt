@@ -10,9 +10,9 @@ use borrow.Author.Tests.{lt-ltb, eq-eqb}
 use lib.Dec.{ltb}
 use lib.ListN.{length, take}
 use Rattle.tree.specs.Record.{Record, width, numbers, records}
-use Rattle.tree.specs.Laws.Tree.{whole_numbers}
+use Rattle.tree.proofs.Laws.Tree.{whole_numbers}
 use Rattle.tree.specs.Check.{Refusal, when, check1, check2, refusal}
-use Rattle.tree.specs.Laws.Acceptance.{accepted as acceptance, only}
+use Rattle.tree.proofs.Laws.Acceptance.{accepted as acceptance, only}
 use Rattle.pass.specs.Run.{Tables, zeros, lengths_fit}
 use Rattle.printing.specs.Laws.Below.{below_or}
 use Rattle.printing.specs.Puts.{Line}

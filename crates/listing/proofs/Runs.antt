@@ -9,7 +9,7 @@ use lib.ListN.{length}
 use Rattle.table.specs.Layout.{layout}
 use Rattle.tree.specs.Record.{width}
 use Rattle.tree.specs.Tree.{Trees, sizes, flats}
-use Rattle.tree.specs.Laws.Tree.{length-numbers, length_flats}
+use Rattle.tree.proofs.Laws.Tree.{length-numbers, length_flats}
 use Rattle.tree.specs.Check.{Refusal}
 use Rattle.tree.specs.Accepted.{Accepted}
 use Rattle.semantic.specs.Rows.{put_row}

@@ -5,6 +5,8 @@ ghost use Rattle.listing_main.specs.Parts.{Ends};
 
 use listing::{CLASS_TABLE, RECORD_TABLE, TEXT, text};
 use reading::reader::{feed, start};
+use std::io;
+use std::io::Read;
 
 // Whether `---` and LF stand at the place.
 fn is_parting(input: &[u8], at: usize) -> bool
@@ -41,42 +43,57 @@ fn part_end(input: &[u8], at: usize) -> usize
     i
 }
 
-fn print_one(input: &[u8]) {
+fn print_one(rt: &impl Print, input: &[u8]) -> io::Result<()> {
     let mut line = [0u8; 92];
     let mut classes = [0u8; CLASS_TABLE];
     let mut records = [0u32; RECORD_TABLE];
     let mut out = [0u8; TEXT];
     let r = feed(input, &mut line, &mut classes, &mut records, start());
     let n = text(r, &classes, &records, &mut out);
-    io::write_all(1, &out[..n]);
+    rt.write_all(&out[..n])
 }
 
-fn print_parting() {
-    io::write_all(1, b"---\n");
+fn print_parting(rt: &impl Print) -> io::Result<()> {
+    println!(rt; "---")
 }
 
-fn print_all(input: &[u8]) {
+fn print_all(rt: &impl Print, input: &[u8]) -> io::Result<()> {
     let mut at = 0;
     loop {
         let end = part_end(input, at);
-        print_one(&input[at..end]);
+        print_one(rt, &input[at..end])?;
         if end == input.len() {
-            return;
+            return Ok(());
         }
-        print_parting();
+        print_parting(rt)?;
         at = end + 4;
     }
 }
 
-// Room for all inputs. As with the kit's buffers, the length alone is told.
+// Room for all inputs. The length alone is told.
 fn space() -> [u8; 1048576]
     ensures { 1048576 ≡ length result }
 {
     [0; 1048576]
 }
 
-fn main() {
+// Reads until the buffer is full, the input ends or a read fails, and answers how many bytes it put at its start.
+fn read_full(input: &mut impl Read, buf: &mut [u8]) -> usize
+    ensures { result ≤ length buf.new }
+{
+    let mut done = 0;
+    while done < buf.len() {
+        let n = input.read(&mut buf[done..]).unwrap_or(0);
+        if n == 0 {
+            break;
+        }
+        done += n;
+    }
+    done
+}
+
+fn main(rt: HostRuntime) -> io::Result<()> {
     let mut input = space();
-    let end = io::read_full(0, &mut input);
-    print_all(&input[..end]);
+    let end = read_full(&mut rt.stdin(), &mut input);
+    print_all(&rt, &input[..end])
 }

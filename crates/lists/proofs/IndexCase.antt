@@ -15,7 +15,7 @@ use Rattle.tree.specs.Tree.{Ident}
 use Rattle.tree.specs.Check.{member}
 use Rattle.tree.specs.Accepted.{All}
 use Rattle.tree.specs.Stands.{NamesStand}
-use Rattle.tree.specs.Laws.Stands.{first_name, first_place, later-names}
+use Rattle.tree.proofs.Laws.Stands.{first_name, first_place, later-names}
 use Rattle.scope_map.specs.ScopeMap.{Live, get_in}
 use Rattle.scope_map.specs.declared.Row.{Row}
 use Rattle.pass.specs.State.{State, Scope, binder_in}

@@ -1,4 +1,3 @@
 pub mod Facts
 pub mod Slot
 pub mod Lock
-pub mod Laws

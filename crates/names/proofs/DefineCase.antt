@@ -19,7 +19,7 @@ use Rattle.semantic.specs.declared.IdentifierStatus.TheVariants.{Global}
 use Rattle.semantic.specs.declared.SemanticInformation.{SemanticInformation}
 use Rattle.semantic.specs.declared.Span.{Span}
 use Rattle.pass.specs.State.{State, Entry, put_entry, insert, amend, with_names, top_level_entry, newest, depth}
-use Rattle.pass.specs.Read.{note_live, enter, status_at, define_fact, enter_define, shadow_if_builtin, shadow, enter_top_level_value, alias}
+use Rattle.pass.specs.Read.{note_live, enter, status_at, define_fact, enter_define, shadow_if_builtin, shadow, enter_top_level_value}
 use Rattle.pass_laws.specs.Laws.Sound.Each.{each_mark}
 use Rattle.pass_laws.specs.Laws.Sound.Names.{marked_uses}
 use Rattle.work.specs.Coded.{coded, record_in}

@@ -14,7 +14,7 @@ use Rattle.semantic.specs.Leaves.{Amends}
 use Rattle.semantic.specs.declared.SemanticInformation.{SemanticInformation}
 use Rattle.semantic.specs.declared.Span.{Span}
 use Rattle.pass.specs.State.{State, Capture, entry_at, newest, depth}
-use Rattle.pass.specs.Read.{Rule, no_entry, depth_one, current_layer_lem, taken_capture, home_slot_lem, capture_rule, entry_rule, rule_of, read, is_prelude}
+use Rattle.pass.specs.Read.{Rule, no_entry, depth_one, current_layer, taken_capture, home_slot, capture_rule, entry_rule, rule_of, read, is_prelude}
 use Rattle.work.specs.Known.{Known}
 use Rattle.work.specs.Coded.{record_in}
 use Rattle.work.specs.Laws.Works.{depth_is}
@@ -23,7 +23,7 @@ use Rattle.work.specs.Laws.Scope.{newest-known}
 use Rattle.work.specs.Tied.{raw, Here}
 use Rattle.work.specs.declared.Pass.{Pass}
 use Rattle.work.specs.declared.Second.{Second}
-use Rattle.names.specs.Rules.{Stands, Same, no_entry_lem, depth-one, current_layer, taken-capture, home_slot}
+use Rattle.names.specs.Rules.{Stands, Same, no_entry_lem, depth-one, same_current_layer, taken-capture, same_home_slot}
 use Rattle.names.specs.Facts.{span_of, FreeFact}
 use Rattle.names.specs.Contract.{Does, Decides}
 use Rattle.names.specs.Steps.{Bound, ToldPrelude, ToldDepth, ReadsBy, TakenBound, ReadsTaken}
@@ -37,9 +37,9 @@ use Rattle.names.proofs.ReadCase.{reads_free}
 binder_of : Rule → Option Ident
 binder_of no_entry = none
 binder_of (depth_one y) = some y
-binder_of (current_layer_lem y) = some y
+binder_of (current_layer y) = some y
 binder_of (taken_capture y c) = some y
-binder_of (home_slot_lem y) = some y
+binder_of (home_slot y) = some y
 
 rule_binder : (s : State) (x : ℕ) → newest s x ≡ binder_of (rule_of s x)
 unfolding rule_of binder_of
@@ -49,11 +49,11 @@ rule_binder s x = go (newest s x)
     last y none = refl
     last y (some c) = refl
 
-    local : (y : Ident) (b : Bool) → some y ≡ binder_of (cond b (current_layer_lem y) (capture_rule y (get s.captures x)))
+    local : (y : Ident) (b : Bool) → some y ≡ binder_of (cond b (current_layer y) (capture_rule y (get s.captures x)))
     local y true = refl
     local y false = last y (get s.captures x)
 
-    global : (y : Ident) (a b : Bool) → some y ≡ binder_of (cond a (depth_one y) (cond b (current_layer_lem y) (capture_rule y (get s.captures x))))
+    global : (y : Ident) (a b : Bool) → some y ≡ binder_of (cond a (depth_one y) (cond b (current_layer y) (capture_rule y (get s.captures x))))
     global y true b = refl
     global y false b = local y b
 
@@ -82,11 +82,11 @@ module _ {s : State} {x : ℕ} where
   ruled_global : {q : Rule} {b : ℕ} → Same s x (decision.DepthOne b) q → Ruled depth_one q b
   ruled_global (depth-one e) = record { y = _; is = refl; at = e }
 
-  ruled_local : {q : Rule} {b : ℕ} → Same s x (decision.CurrentLayer b) q → Ruled current_layer_lem q b
-  ruled_local (current_layer e) = record { y = _; is = refl; at = e }
+  ruled_local : {q : Rule} {b : ℕ} → Same s x (decision.CurrentLayer b) q → Ruled current_layer q b
+  ruled_local (same_current_layer e) = record { y = _; is = refl; at = e }
 
-  ruled_home : {q : Rule} {b : ℕ} → Same s x (decision.HomeSlot b) q → Ruled home_slot_lem q b
-  ruled_home (home_slot e) = record { y = _; is = refl; at = e }
+  ruled_home : {q : Rule} {b : ℕ} → Same s x (decision.HomeSlot b) q → Ruled home_slot q b
+  ruled_home (same_home_slot e) = record { y = _; is = refl; at = e }
 
   ruled_taken : {q : Rule} {b place row : ℕ} → Same s x (decision.TakenCapture b place row) q → RuledTaken s x q b place row
   ruled_taken (taken-capture e t) = record { y = _; c = _; is = refl; at = e; stands = t }
@@ -135,11 +135,11 @@ module _ {rs : List ℕ} {at : ℕ} {p : Pass} {F C w : List ℕ} {name : ℕ} (
 
     pub bound_local : {A : List ℕ} {s : State} {x : Ident} {b : ℕ} → Here rs at (raw p F C A w) s x → r ≡ decision.CurrentLayer b → Bound rs at b F w
     unfolding binder_of
-    bound_local h e = bound current_layer_lem (λ y. refl) h (ruled_local (told h d e))
+    bound_local h e = bound current_layer (λ y. refl) h (ruled_local (told h d e))
 
     pub bound-home : {A : List ℕ} {s : State} {x : Ident} {b : ℕ} → Here rs at (raw p F C A w) s x → r ≡ decision.HomeSlot b → Bound rs at b F w
     unfolding binder_of
-    bound-home h e = bound home_slot_lem (λ y. refl) h (ruled_home (told h d e))
+    bound-home h e = bound home_slot (λ y. refl) h (ruled_home (told h d e))
 
     pub bound-taken : {A : List ℕ} {s : State} {x : Ident} {b place row : ℕ} → Here rs at (raw p F C A w) s x → r ≡ decision.TakenCapture b place row
         → TakenBound rs at b place row p F C w
@@ -157,14 +157,14 @@ module _ {rs : List ℕ} {at : ℕ} {p : Pass} {F C w : List ℕ} {name : ℕ} (
           does depth_one (λ y. refl) classes k (λ A s x h. (ruled_global (told h d e), q ∙ ap (λ (x : ℕ). is_prelude classes x) (named_here h)))
 
       pub does_local : {b m : ℕ} → r ≡ decision.CurrentLayer b → m ≡ p.scope.depth
-          → ReadsBy current_layer_lem (ToldDepth m) rs at b F w F' w' → Does rs at p F C w (read classes) p F' w'
+          → ReadsBy current_layer (ToldDepth m) rs at b F w F' w' → Does rs at p F C w (read classes) p F' w'
       unfolding binder_of
-      does_local e q k = does current_layer_lem (λ y. refl) classes k (λ A s x h. (ruled_local (told h d e), q ∙ depth_is h.tied.works))
+      does_local e q k = does current_layer (λ y. refl) classes k (λ A s x h. (ruled_local (told h d e), q ∙ depth_is h.tied.works))
 
       pub does_home : {b m : ℕ} → r ≡ decision.HomeSlot b → m ≡ p.scope.depth
-          → ReadsBy home_slot_lem (ToldDepth m) rs at b F w F' w' → Does rs at p F C w (read classes) p F' w'
+          → ReadsBy home_slot (ToldDepth m) rs at b F w F' w' → Does rs at p F C w (read classes) p F' w'
       unfolding binder_of
-      does_home e q k = does home_slot_lem (λ y. refl) classes k (λ A s x h. (ruled_home (told h d e), q ∙ depth_is h.tied.works))
+      does_home e q k = does home_slot (λ y. refl) classes k (λ A s x h. (ruled_home (told h d e), q ∙ depth_is h.tied.works))
 
       pub does_taken : {b place row : ℕ} {u : Second} → r ≡ decision.TakenCapture b place row → ReadsTaken rs at b place row p F C w u F' w'
           → Does rs at p F C w (read classes) (with_second u p) F' w'

@@ -14,7 +14,7 @@ use Rattle.semantic.specs.Leaves.{Stores, Amends}
 use Rattle.semantic.specs.declared.Span.{Span}
 use Rattle.semantic.specs.declared.SemanticInformation.{SemanticInformation}
 use Rattle.pass.specs.State.{State, Entry, entry_at, put_entry, insert, amend, used_entry, last_entry, captured_entry, mutated_entry, newest, depth}
-use Rattle.pass.specs.Read.{is_prelude, one_use_more, count_uses, free_fact, global_fact, local_fact, home_fact, mutate, no_entry, depth_one, current_layer_lem, home_slot_lem, read_by}
+use Rattle.pass.specs.Read.{is_prelude, one_use_more, count_uses, free_fact, global_fact, local_fact, home_fact, mutate, no_entry, depth_one, current_layer, home_slot, read_by}
 use Rattle.pass.specs.Run.{rows_most}
 use Rattle.work.specs.Known.{Known}
 use Rattle.work.specs.Coded.{coded, record_in}
@@ -70,7 +70,7 @@ module _ {rs F w F' w' F'' : List ℕ} {at b id : ℕ} {p : Span} {r : SemanticI
   }
 
   pub reads_local : {d : ℕ} {e f u : Coded} → LoadsEntry w b e → f ≡ used_more e → u ≡ used_last at f → PutsUse b u F w F' w'
-      → LocalFact d id u p r → Stores put_row F' at (Variable r) F'' → ReadsBy current_layer_lem (ToldDepth d) rs at b F w F'' w'
+      → LocalFact d id u p r → Stores put_row F' at (Variable r) F'' → ReadsBy current_layer (ToldDepth d) rs at b F w F'' w'
   reads_local {u = u} l e₁ e₂ k fact m = record {
     is = λ classes q C A s x y h ky py t.
         let v = last_entry x (used_entry (entry_at s y.at)) in
@@ -80,7 +80,7 @@ module _ {rs F w F' w' F'' : List ℕ} {at b id : ℕ} {p : Span} {r : SemanticI
   }
 
   pub reads-home : {d : ℕ} {e f u o : Coded} → LoadsEntry w b e → f ≡ used_more e → u ≡ used_last at f → o ≡ now_captured u → PutsUse b o F w F' w'
-      → HomeFact d id o p r → Stores put_row F' at (Variable r) F'' → ReadsBy home_slot_lem (ToldDepth d) rs at b F w F'' w'
+      → HomeFact d id o p r → Stores put_row F' at (Variable r) F'' → ReadsBy home_slot (ToldDepth d) rs at b F w F'' w'
   reads-home {o = o} l e₁ e₂ e₃ k fact m = record {
     is = λ classes q C A s x y h ky py t.
         let v = captured_entry (last_entry x (used_entry (entry_at s y.at))) in

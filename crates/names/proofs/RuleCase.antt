@@ -13,7 +13,6 @@ use Rattle.scope_map.specs.declared.Found.{Found}
 use Rattle.scope_map.specs.declared.Found.TheVariants.{At, Nothing}
 use Rattle.pass.specs.State.{State, Capture, entry_at, newest, depth}
 use Rattle.pass.specs.Read.{rule_of}
-use Rattle.pass.specs.Read as pass
 use Rattle.work.specs.Coded.{record_in}
 use Rattle.work.specs.Works.{Works, row_of}
 use Rattle.work.specs.Laws.Works.{depth_is}
@@ -24,7 +23,7 @@ use Rattle.work.specs.Laws.Captures.{Looked, no_capture, the_capture, found_capt
 use Rattle.work.specs.Tied.{Good}
 use Rattle.work.specs.declared.Pass.{Pass}
 use Rattle.work.specs.declared.entries.Entry.{Entry as Coded}
-use Rattle.names.specs.Rules.{no_entry_lem, depth-one, current_layer, taken-capture, home_slot}
+use Rattle.names.specs.Rules.{no_entry_lem, depth-one, same_current_layer, taken-capture, same_home_slot}
 use Rattle.names.specs.Contract.{Decides}
 use Rattle.names.specs.Steps.{DecidesCapture}
 use Rattle.names.specs.declared.read.Rule.{Rule}
@@ -51,7 +50,7 @@ module _ {l : List (Live Capture)} {x : ℕ} where
 
 module _ {p : Pass} {w : List ℕ} {name b : ℕ} where
   pub decides_home : {r : Found} → GetsCapture p w name r → r ≡ Nothing → DecidesCapture p w name b (HomeSlot b)
-  decides_home t q = record { is = λ s y k e. rw (found_nothing (found_capture s.captures.live name) (sym q ∙ t.is s k)) (home_slot e) }
+  decides_home t q = record { is = λ s y k e. rw (found_nothing (found_capture s.captures.live name) (sym q ∙ t.is s k)) (same_home_slot e) }
 
   pub decides_taken : {f : Found} {place layer v row : ℕ} → GetsCapture p w name f → f ≡ At place layer v → row ≡ v
       → DecidesCapture p w name b (TakenCapture b place row)
@@ -103,7 +102,7 @@ module _ {p : Pass} {w : List ℕ} {name : ℕ} where
         is = λ rs s k g.
             let z = entered s k g in
             let n = (entry_at s z.y.at).depth in
-            rw (z.is, ne_eqb n 1 (λ i. d (sym z.deep ∙ i)), eq-eqb n (depth s) (z.deep ∙ f ∙ h ∙ depth_is k)) (current_layer z.at);
+            rw (z.is, ne_eqb n 1 (λ i. d (sym z.deep ∙ i)), eq-eqb n (depth s) (z.deep ∙ f ∙ h ∙ depth_is k)) (same_current_layer z.at);
       }
 
       pub decides_capture : {r : Rule} → (e.depth ≡ n → ⊥) → DecidesCapture p w name b r → Decides p w name r

@@ -1,5 +1,5 @@
 -- What the functions that read, set and define names promise, of every state that the tables hold.
-use Rattle.std.specs.Prelude.{ℕ, ◌+◌, ◌*◌, ◌≤◌, ◌<◌, List, ◌≡◌, length}
+use Rattle.std.specs.Prelude.{ℕ, ◌+◌, ◌*◌, ◌≤◌, ◌<◌, List, ◌≡◌}
 use Rattle.tree.specs.Tree.{Ident, Tree}
 use Rattle.scope_map.specs.Hints.{rows_length}
 use Rattle.semantic.specs.Rows.{Variable}

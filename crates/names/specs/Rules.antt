@@ -22,6 +22,6 @@ pub record Stands (s : State) (x place row : ℕ) (c : Capture) : Type 0 where
 pub data Same (s : State) (x : ℕ) : Rule → pass.Rule → Type 0 where
   no_entry_lem : Same s x NoEntry pass.no_entry
   depth-one : {i : ℕ} {b : Ident} → b.at ≡ i → Same s x (DepthOne i) (pass.depth_one b)
-  current_layer : {i : ℕ} {b : Ident} → b.at ≡ i → Same s x (CurrentLayer i) (pass.current_layer_lem b)
+  same_current_layer : {i : ℕ} {b : Ident} → b.at ≡ i → Same s x (CurrentLayer i) (pass.current_layer b)
   taken-capture : {i place row : ℕ} {b : Ident} {c : Capture} → b.at ≡ i → Stands s x place row c → Same s x (TakenCapture i place row) (pass.taken_capture b c)
-  home_slot : {i : ℕ} {b : Ident} → b.at ≡ i → Same s x (HomeSlot i) (pass.home_slot_lem b)
+  same_home_slot : {i : ℕ} {b : Ident} → b.at ≡ i → Same s x (HomeSlot i) (pass.home_slot b)

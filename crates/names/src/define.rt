@@ -14,7 +14,7 @@ use work::scope::{Binder, is_live_row};
 use work::{Noted, Pass};
 
 // What a name that enters changes of the pass: how many names live, and refusal 9.
-#[derive(Drop)]
+#[derive(Clone, Copy)]
 pub struct EnteredName {
     pub length: usize,
     pub nine: Noted,

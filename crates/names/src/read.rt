@@ -1,7 +1,7 @@
 // An identifier is read, and what set! does to its name.
 ghost use Rattle.std.specs.Prelude.{◌≡◌, ◌+◌, ◌*◌, ◌≤◌, ◌<◌, length};
 ghost use Rattle.semantic.specs.Rows.{row_width};
-ghost use Rattle.pass.specs.Read.{depth_one, current_layer_lem, home_slot_lem, read};
+ghost use Rattle.pass.specs.Read.{depth_one, current_layer, home_slot, read};
 ghost use Rattle.pass.specs.Run.{rows_most};
 ghost use Rattle.work.specs.Works.{Spacious, work_long};
 ghost use Rattle.work.specs.Passes.{with_second};
@@ -21,7 +21,7 @@ use work::scope::Binder;
 use work::{Pass, Second};
 
 // Which rule decides a read. The numbers are the binder's record and, of a capture, its place and its row of the captured entries.
-#[derive(Drop)]
+#[derive(Clone, Copy)]
 pub enum Rule {
     NoEntry,
     DepthOne(usize),
@@ -92,7 +92,7 @@ fn put_use(b: usize, e: Entry, facts: &mut [u32], work: &mut [u32])
 
 fn read_local(all: &[u32], at: usize, depth: u32, b: usize, facts: &mut [u32], work: &mut [u32])
     requires { Bound all.now at b facts.old work.old }
-    ensures { ReadsBy current_layer_lem (ToldDepth depth) all.now at b
+    ensures { ReadsBy current_layer (ToldDepth depth) all.now at b
         facts.old work.old facts.new work.new }
 {
     let e = work::entries::load_entry(work, b);
@@ -110,7 +110,7 @@ fn read_local(all: &[u32], at: usize, depth: u32, b: usize, facts: &mut [u32], w
 
 fn read_home(all: &[u32], at: usize, depth: u32, b: usize, facts: &mut [u32], work: &mut [u32])
     requires { Bound all.now at b facts.old work.old }
-    ensures { ReadsBy home_slot_lem (ToldDepth depth) all.now at b
+    ensures { ReadsBy home_slot (ToldDepth depth) all.now at b
         facts.old work.old facts.new work.new }
 {
     let e = work::entries::load_entry(work, b);

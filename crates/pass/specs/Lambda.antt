@@ -1,5 +1,5 @@
 -- Names that enter and leave: lambdas and lets. docs/RULES.md, 8 to 10.
-use Rattle.std.specs.Prelude.{ℕ, zero, suc, ◌+◌, ◌-◌, List, [], ◌∷◌, ◌++◌, map, Bool, true, false, cond, not, ◌&&◌, ◌||◌, length, get_or, eqb, ltb}
+use Rattle.std.specs.Prelude.{ℕ, suc, ◌+◌, List, [], ◌∷◌, ◌++◌, map, Bool, true, false, cond, ◌&&◌, ◌||◌, length, get_or, eqb}
 use Rattle.std.proofs.Math.Option.{Option, none, some}
 use Rattle.tree.specs.Tree.{Ident, Node, Tree, Trees, ident, const, if, letin, define, lambda, sequence, call, set!, nil, cons}
 use Rattle.tree.specs.Check.{member}
@@ -10,11 +10,10 @@ use Rattle.semantic.specs.Rows.{Row, Blank, Variable, Function, CallSite, Let, L
 use Rattle.semantic.specs.Kinds.{let_in}
 use Rattle.semantic.specs.declared.IdentifierStatus.{IdentifierStatus}
 use Rattle.semantic.specs.declared.IdentifierStatus.TheVariants.{Local, LetVar, HeapAllocated}
-use Rattle.semantic.specs.declared.ListAt.{ListAt}
 use Rattle.semantic.specs.declared.FunctionInformation.{FunctionInformation}
 use Rattle.semantic.specs.declared.LetInformation.{LetInformation}
 use Rattle.semantic.specs.declared.SemanticInformation.{SemanticInformation}
-use Rattle.pass.specs.State.{Entry, Capture, State, with_names, with_captures, with_context, insert, amend, row_at, entry_at, local_entry, heap_entry, list_entry_of, id_of, newest, depth, note_second}
+use Rattle.pass.specs.State.{Capture, State, with_names, with_captures, with_context, insert, amend, row_at, entry_at, local_entry, heap_entry, list_entry_of, id_of, newest, depth, note_second}
 use Rattle.pass.specs.Read.{span, enter}
 use Rattle.pass.specs.Lists.{captured_vars, sort_by_id, list_in, store_captured, store_arguments, rewrite_captured, number_list, heap_count, names_of, keep, amend_list}
 pub use Rattle.semantic.specs.Kinds.{function_in}

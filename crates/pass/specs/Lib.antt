@@ -5,4 +5,3 @@ pub mod Lambda
 pub mod Visit
 pub mod Run
 pub mod Bare
-pub mod Laws

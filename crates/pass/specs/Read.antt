@@ -1,16 +1,15 @@
 -- A name is read, set, or enters the scope. docs/RULES.md, 3, 5 and 6.
-use Rattle.std.specs.Prelude.{ℕ, ◌/◌, ◌%◌, suc, List, [], ◌∷◌, ◌++◌, Bool, true, false, cond, not, ◌&&◌, get_or, eqb, ltb}
+use Rattle.std.specs.Prelude.{ℕ, ◌/◌, ◌%◌, suc, List, [], ◌∷◌, Bool, true, false, cond, not, ◌&&◌, get_or, eqb, ltb}
 use Rattle.std.proofs.Math.Option.{Option, none, some}
-use Rattle.tree.specs.Tree.{Ident, Node, Tree, Trees, ident, const, if, letin, define, lambda, sequence, call, set!, nil, cons}
+use Rattle.tree.specs.Tree.{Ident, Tree, Trees, ident, const, if, letin, define, lambda, sequence, call, set!, nil, cons}
 use Rattle.tree.specs.Core.{core}
 use Rattle.scope_map.specs.ScopeMap.{ScopeMap, Live, get, has_at_top}
 use Rattle.scope_map.specs.ScopeMap as map
 use Rattle.semantic.specs.Information.{NONE, new, shadows, with_usage_count, refers_to, aliases_to, mark_builtin, mark_required, with_offset, with_capture_index, with_read_capture_offset, with_heap_offset, with_read_heap_offset, with_captured_from_enclosing, mark_set, mark_shadowed}
-use Rattle.semantic.specs.Rows.{Row, Variable, ListEntry}
+use Rattle.semantic.specs.Rows.{Row, Variable}
 use Rattle.semantic.specs.Amend.{used_or}
-use Rattle.semantic.specs.ListEntries.{on_info}
 use Rattle.semantic.specs.declared.IdentifierStatus.{IdentifierStatus}
-use Rattle.semantic.specs.declared.IdentifierStatus.TheVariants.{Global, Local, LetVar, Captured, Free, HeapAllocated}
+use Rattle.semantic.specs.declared.IdentifierStatus.TheVariants.{Global, Local, Captured, Free, HeapAllocated}
 use Rattle.semantic.specs.declared.Span.{Span}
 use Rattle.semantic.specs.declared.SemanticInformation.{SemanticInformation}
 use Rattle.semantic.specs.declared.ScopeInfo.{ScopeInfo}
@@ -124,19 +123,19 @@ module _ (classes : List ℕ) where
 pub data Rule : Type 0 where
   no_entry : Rule
   depth_one : Ident → Rule  -- the newest entry has depth 1
-  current_layer_lem : Ident → Rule  -- it has the depth of the scope
+  current_layer : Ident → Rule  -- it has the depth of the scope
   taken_capture : Ident → Capture → Rule  -- the captures hold the name
-  home_slot_lem : Ident → Rule
+  home_slot : Ident → Rule
 
 abbrev pub capture_rule : Ident → Option (Live Capture) → Rule
-capture_rule b none = home_slot_lem b
+capture_rule b none = home_slot b
 capture_rule b (some c) = taken_capture b c.value
 
 abbrev pub entry_rule : State → ℕ → Option Ident → Rule
 entry_rule s x none = no_entry
 entry_rule s x (some b) =
     cond (eqb (entry_at s b.at).depth 1) (depth_one b)
-    (cond (eqb (entry_at s b.at).depth (depth s)) (current_layer_lem b) (capture_rule b (get s.captures x)))
+    (cond (eqb (entry_at s b.at).depth (depth s)) (current_layer b) (capture_rule b (get s.captures x)))
 
 unfoldable pub rule_of : State → ℕ → Rule
 rule_of s x = entry_rule s x (newest s x)
@@ -206,7 +205,7 @@ module _ (classes : List ℕ) where
   read_by (depth_one b) x s =
       insert x.at (Variable (global_fact (is_prelude classes x.name) b x))
       (amend one_use_more b.at (put_entry b.at (used_entry (entry_at s b.at)) s))
-  read_by (current_layer_lem b) x s =
+  read_by (current_layer b) x s =
       let e = last_entry x (used_entry (entry_at s b.at)) in
       insert x.at (Variable (local_fact (depth s) b e x)) (count_uses e.usage_count b (put_entry b.at e s))
   read_by (taken_capture b c) x s =
@@ -215,7 +214,7 @@ module _ (classes : List ℕ) where
       (insert x.at (Variable (taken_fact (depth s) c v x))
       (count_uses (suc c.usage_count) c.binder
       (put_entry b.at (captured_entry (last_entry x (entry_at s b.at))) (use_capture x.name s))))
-  read_by (home_slot_lem b) x s =
+  read_by (home_slot b) x s =
       let e = captured_entry (last_entry x (used_entry (entry_at s b.at))) in
       insert x.at (Variable (home_fact (depth s) b e x)) (count_uses e.usage_count b (put_entry b.at e s))
 

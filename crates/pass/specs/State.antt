@@ -1,10 +1,9 @@
 -- What the pass works on: the facts, the scope, the captures, the define that it is in, and the refusals noted. `Analysis` and `AnalysisPass`.
-use Rattle.std.specs.Prelude.{ℕ, zero, suc, ◌+◌, List, [], ◌∷◌, ◌++◌, Bool, true, false, get_or, set, replicate}
+use Rattle.std.specs.Prelude.{ℕ, suc, List, Bool, true, false, get_or, set}
 use Rattle.std.proofs.Math.Option.{Option, none, some}
 use Rattle.tree.specs.Tree.{Ident}
 use Rattle.tree.specs.Check.{Refusal}
 use Rattle.scope_map.specs.ScopeMap.{ScopeMap, Live, get}
-use Rattle.scope_map.specs.ScopeMap as map
 use Rattle.semantic.specs.Information.{NONE}
 use Rattle.semantic.specs.Rows.{Row, Blank, ListEntry, no_list_entry}
 use Rattle.semantic.specs.declared.SemanticInformation.{SemanticInformation}

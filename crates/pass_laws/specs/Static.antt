@@ -1,16 +1,14 @@
 -- What the facts of a fresh run say of a tree without inner define, place by place, in R7RS's terms: the bridge between the pass and all that
 -- is read off its facts. `Rec Γ d h t e`: the rows T are those of the expression e in the scope Γ, at depth d and height h, in tail
 -- position of a lambda if t.
-use Rattle.std.specs.Prelude.{ℕ, zero, suc, ◌+◌, ◌≤◌, ◌<◌, ◌≡◌, List, [], ◌∷◌, Bool, true, false, cond, length, get_or, eqb}
+use Rattle.std.specs.Prelude.{ℕ, suc, ◌+◌, ◌≤◌, ◌<◌, ◌≡◌, List, [], ◌∷◌, Bool, true, false, cond, length, get_or, eqb}
 use Rattle.std.proofs.Math.Option.{Option, none, some}
 use Rattle.tree.specs.Tree.{Ident, Node, Tree, Trees, ident, const, if, letin, define, lambda, sequence, call, set!, nil, cons, many, begins, ands, whens}
 use Rattle.tree.specs.Site.{let_layer}
 use Rattle.semantic.specs.Kinds.{is_tail_row}
-use Rattle.semantic.specs.Rows.{Row, Blank, Variable, Function, CallSite, Let}
+use Rattle.semantic.specs.Rows.{Row, Blank, Variable, Function}
 use Rattle.semantic.specs.declared.IdentifierStatus.{IdentifierStatus}
 use Rattle.semantic.specs.declared.IdentifierStatus.TheVariants.{Global, Local, LocallyDefinedFunction, LetVar, Captured, Free, HeapAllocated}
-use Rattle.semantic.specs.declared.CallKind.{CallKind}
-use Rattle.semantic.specs.declared.CallKind.TheVariants.{Normal, TailCall, SelfTailCall}
 use Rattle.semantic.specs.declared.SemanticInformation.{SemanticInformation}
 
 -- The scope: the parameters and let names in scope, newest first, with the depth of their layer and their slot

@@ -11,7 +11,7 @@ use crate::text::{long_number, number, word};
 use semantic::fields::{CALL_SITE, ROW, call};
 
 // How many calls have a fact, and how many of them are of kind 2 or 3.
-#[derive(Drop)]
+#[derive(Clone, Copy)]
 pub struct Calls {
     pub all: u32,
     pub tail: u32,

@@ -6,4 +6,3 @@ pub mod Steps
 pub mod Plain
 pub mod Run
 pub mod Alike
-pub mod Laws

@@ -5,7 +5,7 @@ use mathlib.Core.Path.{◌≡◌, refl, ap, sym, ◌∙◌}
 use native.Mathlib.Omega.{arith}
 use borrow.Author.Tests.{lt-ltb, le-ltb, eq-eqb, ne_eqb}
 use lib.ListN.{length}
-use Rattle.reading.specs.Reading.{Said, nothing, says, next, bad, ending, answer, read}
+use Rattle.reading.specs.Reading.{Said, nothing, says, differs, next, bad, ending, answer, read}
 use Rattle.reading.specs.Laws.Lost.{reached, read_is}
 use Rattle.reading.specs.declared.reader.Reading.{Reading}
 use Rattle.reading.specs.declared.reader.Input.{Input}
@@ -62,6 +62,7 @@ module _ (r : Reading) (fine : r.bad ≡ 0) (none : r.length ≡ 0) where
     where
       go : (b T R : List ℕ) (s : Said) → read b ≡ ending s → Tied r T R s → Answers b T R (input.Bad 1)
       go b T R nothing e (tied_nothing h i) = is_bad 1 e refl
+      go b T R (differs k) e t = elim t [ ]
       go b T R (says n cs rs) e (tied_says v) = absurd (omega (arith, v.lines))
 
   pub ends_short : {k : ℕ} → (r.lines ≡ 0 → ⊥) → r.classes < r.names → k ≡ shown (r.lines + 1) → Finished r (input.Bad k)
@@ -74,6 +75,7 @@ module _ (r : Reading) (fine : r.bad ≡ 0) (none : r.length ≡ 0) where
     where
       go : (b T R : List ℕ) (s : Said) → read b ≡ ending s → Tied r T R s → Answers b T R (input.Bad k)
       go b T R nothing e (tied_nothing g i) = absurd (z g)
+      go b T R (differs k) e t = elim t [ ]
       go b T R (says n cs rs) e (tied_says v) =
           is_bad (next (says n cs rs)) (e ∙ rw (ending, lt-ltb (length cs) n (omega (arith, v.classes, v.names)))) (q ∙ tied_next (tied_says v))
 
@@ -84,5 +86,6 @@ module _ (r : Reading) (fine : r.bad ≡ 0) (none : r.length ≡ 0) where
     where
       go : (b T R : List ℕ) (s : Said) → read b ≡ ending s → Tied r T R s → Answers b T R (input.Good r.classes r.records)
       go b T R nothing e (tied_nothing g i) = absurd (z g)
+      go b T R (differs k) e t = elim t [ ]
       go b T R (says n cs rs) e (tied_says v) =
           is_good cs rs (e ∙ rw (ending, le-ltb (length cs) n (omega (arith, v.classes, v.names)))) v.classes v.records v.kept

@@ -28,7 +28,6 @@ use Rattle.reading.specs.Laws.Numbers.{
 use Rattle.reading.specs.Input.{Below, none_left, one_more_lem}
 use Rattle.reading.specs.Laws.Line.{numbers-none, numbers-some, numbers_sound}
 use Rattle.reading.specs.declared.line.Field.{Field}
-use Rattle.reading.specs.declared.line.Field.TheVariants as Field
 use Rattle.reading.specs.Found.{Starts, starts, starts-not, Found, found, found_not, fields_in, entered, all_entered, enter, said_of, Next}
 use Rattle.reading.specs.declared.line.Fields.{Fields}
 use Rattle.printing.specs.Text.{form=, id=, name=, count=, from=, to=, record_marks}

@@ -153,6 +153,7 @@ turns {r} {q} {l} {T} {R} {T'} {R'} k f g = record { is = go; spares = k }
     go : (s : Said) → Tied r T R s → Turned s l q T' R'
     go nothing (tied_nothing h e) = f (tied_nothing h e)
     go (says n cs rs) (tied_says v) = g n cs rs v
+    go (differs k) t = elim t [ ]
 
 pub turns_first : {r q : Reading} {l T R : List ℕ} → r.lines ≡ 0 → First l r q → Turns l r T R q T R
 turns_first {r} {q} {l} {T} {R} h w = turns (w.spares T R h) (λ t. w.is T R h) (λ n cs rs v. absurd (omega (arith, v.lines)))

@@ -7,20 +7,20 @@ ghost use Rattle.reading.specs.Found.{Starts, Found, ones, fields_in, Next};
 use tree::record::WIDTH;
 
 // A number, and the place after it.
-#[derive(Drop)]
+#[derive(Clone, Copy)]
 pub enum Field {
     Value(u32, usize),
     Nothing,
 }
 
-#[derive(Drop)]
+#[derive(Clone, Copy)]
 pub enum Only {
     Value(u32),
     Nothing,
 }
 
 // What was read of a record's line: the newest number is the last, and the place is after it.
-#[derive(Drop)]
+#[derive(Clone, Copy)]
 pub struct Fields {
     pub ok: bool,
     pub at: usize,

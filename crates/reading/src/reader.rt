@@ -7,7 +7,7 @@ use tree::record::WIDTH;
 
 // What was read so far. Numbers of lines and records stop at the largest that there is. Before the first line has ended the numbers of names, classes and
 // records are free, and after a bad line all but `bad` are: they stay as they were then.
-#[derive(Drop)]
+#[derive(Clone, Copy)]
 pub struct Reading {
     // lines that have ended
     pub lines: u64,
@@ -20,7 +20,7 @@ pub struct Reading {
     pub length: usize,
 }
 
-#[derive(Drop)]
+#[derive(Clone, Copy)]
 pub enum Input {
     // the number of the first line that differs or is missing
     Bad(u64),

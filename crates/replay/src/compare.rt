@@ -7,7 +7,7 @@ use semantic::fields::{LIST_ENTRY, ROW};
 use table::wide;
 
 // Whether all was the same so far, and the place in the input.
-#[derive(Drop)]
+#[derive(Clone, Copy)]
 pub struct Same {
     pub same: bool,
     pub next: usize,

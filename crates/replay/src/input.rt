@@ -11,7 +11,7 @@ const ZERO: u8 = 48;
 const NINE: u8 = 57;
 
 // A number, whether there was one, and the place after it.
-#[derive(Drop)]
+#[derive(Clone, Copy)]
 pub struct Number {
     pub value: u32,
     pub found: bool,

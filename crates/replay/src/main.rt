@@ -4,16 +4,18 @@ mod compare;
 mod input;
 
 ghost use Rattle.std.specs.Prelude.{◌≡◌, ◌≤◌, length};
-ghost use Rattle.io.specs.Counts.{IsPrefixLen};
+ghost use Rattle.replay.specs.Counts.{IsPrefixLen};
 ghost use Rattle.replay.specs.Reads.{Reads};
 
 use compare::same_answer;
 use input::{least, next_number};
+use std::io;
+use std::io::Read;
 use table::wide;
 use tree::record::WIDTH;
 
 // How many trees there were, how many answers, and how many of those agreed.
-#[derive(Drop)]
+#[derive(Clone, Copy)]
 struct Tally {
     trees: u64,
     answers: u64,
@@ -39,16 +41,13 @@ fn tallied(t: Tally, first: bool, second: bool) -> Tally {
     }
 }
 
-fn report(part: u64, t: Tally) {
-    io::write_all(1, b"part=");
-    io::print_decimal(1, part);
-    io::write_all(1, b" trees=");
-    io::print_decimal(1, t.trees);
-    io::write_all(1, b" answers=");
-    io::print_decimal(1, t.answers);
-    io::write_all(1, b" agree=");
-    io::print_decimal(1, t.agree);
-    io::write_all(1, b"\n");
+fn report(rt: &impl Print, part: u64, t: Tally) -> io::Result<()> {
+    let Tally {
+        trees,
+        answers,
+        agree,
+    } = t;
+    println!(rt; "part={part} trees={trees} answers={answers} agree={agree}")
 }
 
 // n classes; answers the place after them.
@@ -83,7 +82,7 @@ fn read_records(records: &mut [u32], n: usize, input: &[u8], at: usize) -> usize
 }
 
 // A case, if there is one: how many classes and numbers of records it has, and the place after them.
-#[derive(Drop)]
+#[derive(Clone, Copy)]
 struct Case {
     found: bool,
     names: usize,
@@ -112,7 +111,7 @@ fn read_case(classes: &mut [u8], records: &mut [u32], input: &[u8], at: usize) -
 }
 
 // Whether both answers are the Rust's, and the place after them.
-#[derive(Drop)]
+#[derive(Clone, Copy)]
 struct Both {
     first: bool,
     second: bool,
@@ -179,35 +178,50 @@ fn replay(
     }
 }
 
-// Room for a part of the input. As with the kit's buffers, the length alone is told.
+// Room for a part of the input. The length alone is told.
 fn space() -> [u8; 1048576]
     ensures { 1048576 ≡ length result }
 {
     [0; 1048576]
 }
 
+// Reads until the buffer is full, the input ends or a read fails, and answers how many bytes it put at its start.
+fn read_full(from: &mut impl Read, buf: &mut [u8]) -> usize
+    ensures { IsPrefixLen result buf.new }
+{
+    let mut done = 0;
+    while done < buf.len() {
+        let n = from.read(&mut buf[done..]).unwrap_or(0);
+        if n == 0 {
+            break;
+        }
+        done += n;
+    }
+    done
+}
+
 // How many bytes the next part has: the number in the 8 bytes before it; 0 at the end.
-fn next_size() -> usize {
+fn next_size(from: &mut impl Read) -> usize {
     let mut line = [0u8; 8];
-    let end = io::read_full(0, &mut line);
+    let end = read_full(from, &mut line);
     let size = next_number(&line[..end], 0);
     wide(size.value)
 }
 
 // The next part; answers how many bytes there were. What does not fit is cut.
-fn read_part(input: &mut [u8]) -> usize
+fn read_part(from: &mut impl Read, input: &mut [u8]) -> usize
     ensures { IsPrefixLen result input.new }
 {
-    let size = least(next_size(), input.len());
-    io::read_full(0, &mut input[..size])
+    let size = least(next_size(from), input.len());
+    read_full(from, &mut input[..size])
 }
 
 // Answers whether there was such a part. There is room for one name and one record more than are taken: for refusal 2.
-fn replay_part(part: u64) -> bool {
+fn replay_part(rt: &impl Print, from: &mut impl Read, part: u64) -> io::Result<bool> {
     let mut input = space();
-    let end = read_part(&mut input);
+    let end = read_part(from, &mut input);
     if end == 0 {
-        return false;
+        return Ok(false);
     }
     let mut classes = [0u8; 1025];
     let mut records = [0u32; 24582];
@@ -224,16 +238,17 @@ fn replay_part(part: u64) -> bool {
         &mut work,
         &input[..end],
     );
-    report(part, t);
-    true
+    report(rt, part, t)?;
+    Ok(true)
 }
 
-fn main() {
+fn main(rt: HostRuntime) -> io::Result<()> {
     let mut part = 1;
     while part <= 64 {
-        if !replay_part(part) {
-            return;
+        if !replay_part(&rt, &mut rt.stdin(), part)? {
+            return Ok(());
         }
         part += 1;
     }
+    Ok(())
 }

@@ -10,7 +10,7 @@ use borrow.Author.Tests.{leb-true, le-leb, lt-leb, ne_eqb}
 use lib.Dec.{eqb, leb, ltb}
 use Rattle.tree.specs.Record.{Record}
 use Rattle.tree.specs.Form.{Form, form_of, names_of, others_of, children_of, id_fits, fits_as, fits, is_form, has_id_in}
-use Rattle.tree.specs.Laws.Form.{fits-known, each, is_form_lem, known_least, known_most, few_children, few_names}
+use Rattle.tree.proofs.Laws.Form.{fits-known, each, is_form_lem, known_least, known_most, few_children, few_names}
 use Rattle.scans.specs.Limits.{limits, limit_of, Between, parts_at, Fields, Within}
 use Rattle.scans.specs.Tells.{Tells}
 use Rattle.scans.specs.Sound.{Sound}

@@ -10,7 +10,7 @@ use borrow.Author.Tests.{eqb-true, not-false, ne_eqb, lt-ltb, le-ltb}
 use lib.ListN.{length, drop}
 use Rattle.tree.specs.Record.{Record, records, blank, nth}
 use Rattle.tree.specs.Form.{form_of, names_of, others_of}
-use Rattle.tree.specs.Laws.Acceptance.Walk.{notAName, placing}
+use Rattle.tree.proofs.Laws.Acceptance.Walk.{notAName, placing}
 use Rattle.scans.specs.ToCome.{to_come, below}
 use Rattle.tree.specs.Place.{Open, closed, take_one, taken, after, Placed, is_name_place, placed}
 use Rattle.tree.specs.First.{on, first}

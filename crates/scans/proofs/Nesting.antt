@@ -8,9 +8,9 @@ use borrow.Author.Tests.{lt-ltb, le-ltb}
 use lib.ListN.{length, get_or, take, drop, length-drop}
 use lib.Seq.{drop-drop}
 use Rattle.tree.specs.Record.{Record, width, records, blank}
-use Rattle.tree.specs.Laws.Record.{part-records}
+use Rattle.tree.proofs.Laws.Record.{part-records}
 use Rattle.tree.specs.Form.{children_of}
-use Rattle.tree.specs.Laws.Acceptance.Walk.{length_taken}
+use Rattle.tree.proofs.Laws.Acceptance.Walk.{length_taken}
 use Rattle.scans.specs.ToCome.{to_come}
 use Rattle.tree.specs.Place.{Open, closed, take_one, taken, after, Placed, placed}
 use Rattle.tree.specs.First.{on, first}

@@ -9,7 +9,7 @@ use lib.ListN.{length, get_or, drop, drop_of_length-le}
 use lib.Seq.{drop-cons}
 use Rattle.tree.specs.Record.{Record}
 use Rattle.tree.specs.Form.{names_of, others_of, children_of}
-use Rattle.tree.specs.Laws.Acceptance.Walk.{placing}
+use Rattle.tree.proofs.Laws.Acceptance.Walk.{placing}
 use Rattle.scans.specs.ToCome.{to_come, Live}
 use Rattle.tree.specs.Place.{Open, closed, take_one, taken, after, placed, left}
 

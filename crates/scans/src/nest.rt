@@ -10,7 +10,7 @@ use tree::record;
 
 pub const DEEPEST: usize = 64;
 
-#[derive(Drop)]
+#[derive(Clone, Copy)]
 pub enum Walk {
     // the tree has so many records
     Used(usize),

@@ -8,7 +8,7 @@ use crate::limits;
 use tree::{form, record};
 
 // The record that a check applies to first.
-#[derive(Drop)]
+#[derive(Clone, Copy)]
 pub enum Found {
     At(usize),
     Nothing,

@@ -9,10 +9,10 @@ use lib.ListN.{length, drop}
 use lib.Dec.{eqb, ltb}
 use Rattle.scope_map.specs.ScopeMap.{Live, ScopeMap, replace_in, remove_in, below_layer, pop_layer, define, remove}
 use Rattle.scope_map.specs.Rows.{values_most, row_at, link_at, live_in, written}
-use Rattle.scope_map.specs.Laws.Rows.{length_live_in, live_next, live_same, place_name, replace_live_in, remove_absent, remove_live_in}
+use Rattle.scope_map.proofs.Laws.Rows.{length_live_in, live_next, live_same, place_name, replace_live_in, remove_absent, remove_live_in}
 use Rattle.scope_map.specs.Hints.{rows_length, map_length, Roomy, Enters, Leaves, Moves}
 use Rattle.scope_map.specs.Held.{Sorted, Held, Becomes, Tells, entry_of, Gets, distance_in, distance_of, place_in, Places, with_row, DefinesAt, Starts}
-use Rattle.scope_map.specs.Laws.Held.{map_of, held_is, becomes, places}
+use Rattle.scope_map.proofs.Laws.Held.{map_of, held_is, becomes, places}
 use Rattle.scope_map.specs.declared.ScopeMap.{ScopeMap as Map}
 use Rattle.scope_map.specs.declared.Found.{Found}
 use Rattle.scope_map.specs.declared.Found.TheVariants as found

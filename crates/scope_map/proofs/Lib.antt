@@ -3,3 +3,4 @@ pub mod Write
 pub mod Index
 pub mod Sorted
 pub mod Cases
+pub mod Laws

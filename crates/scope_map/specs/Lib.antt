@@ -3,4 +3,3 @@ pub mod Map
 pub mod Rows
 pub mod Hints
 pub mod Held
-pub mod Laws

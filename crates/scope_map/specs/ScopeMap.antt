@@ -1,5 +1,5 @@
 -- `ScopeMap`: layers of names, each with a value, as the list of live names. Document 01, "Parts, leaves first", 1.
-use Rattle.std.specs.Prelude.{ℕ, zero, suc, ◌-◌, List, [], ◌∷◌, ◌++◌, Bool, true, false, cond, ◌&&◌, ◌||◌, eqb, ltb}
+use Rattle.std.specs.Prelude.{ℕ, suc, ◌-◌, List, [], ◌∷◌, ◌++◌, Bool, false, cond, ◌&&◌, ◌||◌, eqb, ltb}
 use Rattle.std.proofs.Math.Option.{Option, none, some}
 
 -- a live name: the layer it was defined in, the bottom one being 1, and its value

@@ -20,28 +20,28 @@ const HINTED: u32 = 1024;
 const VALUES: u32 = 65536;
 
 // How many layers there are, and how many rows.
-#[derive(Drop)]
+#[derive(Clone, Copy)]
 pub struct ScopeMap {
     pub depth: u32,
     pub length: usize,
 }
 
 // The newest of a name: its row, its layer and its value.
-#[derive(Drop)]
+#[derive(Clone, Copy)]
 pub enum Found {
     At { row: usize, layer: u32, value: u32 },
     Nothing,
 }
 
 // How many layers down from the newest a name lies.
-#[derive(Drop)]
+#[derive(Clone, Copy)]
 pub enum Distance {
     Layers(u32),
     Nothing,
 }
 
 // A live name.
-#[derive(Drop)]
+#[derive(Clone, Copy)]
 pub struct Row {
     pub name: u32,
     pub layer: u32,

@@ -6,76 +6,74 @@ ghost use Rattle.scope_map.specs.Held.{Held};
 ghost use Rattle.scope_map_main.specs.States.{two_layers, replaced, Holds};
 
 use scope_map::{Distance, Found, ScopeMap};
+use std::io;
 
-fn number(n: u32) {
-    io::print_decimal(1, n as u64);
+fn number(rt: &impl Print, n: u32) -> io::Result<()> {
+    print!(rt; "{n}")
 }
 
-fn show_found(f: Found) {
+fn show_found(rt: &impl Print, f: Found) -> io::Result<()> {
     match f {
         Found::At {
             row: _,
             layer,
             value,
         } => {
-            io::write_all(1, b" layer=");
-            number(layer);
-            io::write_all(1, b" value=");
-            number(value);
+            print!(rt; " layer=")?;
+            number(rt, layer)?;
+            print!(rt; " value=")?;
+            number(rt, value)
         }
-        Found::Nothing => {
-            io::write_all(1, b" layer=- value=-");
-        }
+        Found::Nothing => print!(rt; " layer=- value=-"),
     }
 }
 
-fn show_distance(d: Distance) {
-    io::write_all(1, b" down=");
+fn show_distance(rt: &impl Print, d: Distance) -> io::Result<()> {
+    print!(rt; " down=")?;
     match d {
-        Distance::Layers(n) => number(n),
-        Distance::Nothing => {
-            io::write_all(1, b"-");
-        }
+        Distance::Layers(n) => number(rt, n),
+        Distance::Nothing => print!(rt; "-"),
     }
 }
 
 // The newest layer and value of a name, and how many layers down it lies.
-fn show_name(m: ScopeMap, t: &[u32; 13312], name: u32)
+fn show_name(rt: &impl Print, m: ScopeMap, t: &[u32; 13312], name: u32) -> io::Result<()>
     requires { Roomy m.length t.now }
 {
-    show_found(m.get(t, name));
-    show_distance(m.depth_of(t, name));
+    show_found(rt, m.get(t, name))?;
+    show_distance(rt, m.depth_of(t, name))
 }
 
-fn show_row(m: ScopeMap, t: &[u32; 13312], i: usize)
+fn show_row(rt: &impl Print, m: ScopeMap, t: &[u32; 13312], i: usize) -> io::Result<()>
     requires { (i < m.length) × Roomy m.length t.now }
 {
     let row = m.row_at(t, i);
-    io::write_all(1, b" ");
-    number(row.name);
+    print!(rt; " ")?;
+    number(rt, row.name)
 }
 
 // The names of the newest layer, in the order they were defined.
-fn show_newest_layer(m: ScopeMap, t: &[u32; 13312])
+fn show_newest_layer(rt: &impl Print, m: ScopeMap, t: &[u32; 13312]) -> io::Result<()>
     requires { Roomy m.length t.now }
 {
     let mut i = m.newest_layer(t);
     let end = m.length;
     while i < end {
-        show_row(m, t, i);
+        show_row(rt, m, t, i)?;
         i += 1;
     }
+    Ok(())
 }
 
-fn show(m: ScopeMap, t: &[u32; 13312])
+fn show(rt: &impl Print, m: ScopeMap, t: &[u32; 13312]) -> io::Result<()>
     requires { Roomy m.length t.now }
 {
-    io::write_all(1, b"depth=");
-    number(m.depth());
-    show_name(m, t, 7);
-    io::write_all(1, b" newest");
-    show_newest_layer(m, t);
-    io::write_all(1, b"\n");
+    print!(rt; "depth=")?;
+    number(rt, m.depth())?;
+    show_name(rt, m, t, 7)?;
+    print!(rt; " newest")?;
+    show_newest_layer(rt, m, t)?;
+    print!(rt; "\n")
 }
 
 // The name 7 in two layers.
@@ -101,30 +99,31 @@ fn removed(m: ScopeMap, t: &mut [u32; 13312]) -> ScopeMap
     requires { Holds m t.old }
     ensures { Holds result t.new }
 {
-    let r = m.remove(t, 7);
-    show(r, t);
-    r
+    m.remove(t, 7)
 }
 
 fn popped(m: ScopeMap, t: &mut [u32; 13312]) -> ScopeMap
     requires { Holds m t.old }
     ensures { Holds result t.new }
 {
-    let r = m.pop_layer(t);
-    show(r, t);
-    r
+    m.pop_layer(t)
 }
 
 // A name leaves the newest layer alone; the bottom layer is never popped.
-fn main() {
+fn main(rt: HostRuntime) -> io::Result<()> {
     let mut t = [0u32; 13312];
     let a = two_layers(&mut t);
-    show(a, &t);
+    show(&rt, a, &t)?;
     let b = replaced(a, &mut t);
-    show(b, &t);
+    show(&rt, b, &t)?;
     let c = removed(b, &mut t);
+    show(&rt, c, &t)?;
     let d = removed(c, &mut t);
+    show(&rt, d, &t)?;
     let e = popped(d, &mut t);
+    show(&rt, e, &t)?;
     let f = popped(e, &mut t);
-    removed(f, &mut t);
+    show(&rt, f, &t)?;
+    let g = removed(f, &mut t);
+    show(&rt, g, &t)
 }

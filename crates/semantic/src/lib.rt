@@ -5,7 +5,7 @@ ghost use Rattle.semantic.specs.Information.{new, shadows, with_usage_count, ref
 
 pub const NONE: u32 = 4294967295;
 
-#[derive(Drop)]
+#[derive(Clone, Copy)]
 pub enum IdentifierStatus {
     Global,
     Local,
@@ -17,14 +17,14 @@ pub enum IdentifierStatus {
 }
 
 // A place in the script, carried and never looked at.
-#[derive(Drop)]
+#[derive(Clone, Copy)]
 pub struct Span {
     pub start: u32,
     pub end: u32,
 }
 
 // The fact of an identifier: read, set or in a name's place.
-#[derive(Drop)]
+#[derive(Clone, Copy)]
 pub struct SemanticInformation {
     pub kind: IdentifierStatus,
     pub set_bang: bool,
@@ -160,7 +160,7 @@ impl SemanticInformation {
 }
 
 // What is known of a bound name, as a captured or an argument entry keeps it.
-#[derive(Drop)]
+#[derive(Clone, Copy)]
 pub struct ScopeInfo {
     pub id: u32,
     pub captured: bool,
@@ -180,14 +180,14 @@ pub struct ScopeInfo {
 }
 
 // Some entries of a lent table, one after another.
-#[derive(Drop)]
+#[derive(Clone, Copy)]
 pub struct ListAt {
     pub first: u32,
     pub length: u32,
 }
 
 // The fact of a lambda.
-#[derive(Drop)]
+#[derive(Clone, Copy)]
 pub struct FunctionInformation {
     pub captured_vars: ListAt,
     pub arguments: ListAt,
@@ -196,7 +196,7 @@ pub struct FunctionInformation {
     pub depth: u32,
 }
 
-#[derive(Drop)]
+#[derive(Clone, Copy)]
 pub enum CallKind {
     Normal,
     TailCall,
@@ -205,7 +205,7 @@ pub enum CallKind {
 }
 
 // The fact of a call.
-#[derive(Drop)]
+#[derive(Clone, Copy)]
 pub struct CallSiteInformation {
     pub kind: CallKind,
     pub span: Span,
@@ -220,7 +220,7 @@ impl CallSiteInformation {
 }
 
 // The fact of a let: the height before it, the id of the lambda around it, and its names as they left.
-#[derive(Drop)]
+#[derive(Clone, Copy)]
 pub struct LetInformation {
     pub stack_offset: u32,
     pub function_context: u32,
@@ -240,7 +240,7 @@ impl LetInformation {
 }
 
 // What a row of the facts is.
-#[derive(Drop)]
+#[derive(Clone, Copy)]
 pub enum RowKind {
     Blank,
     Variable,
@@ -250,13 +250,13 @@ pub enum RowKind {
 }
 
 // The fact of a lambda or a let, where a row holds one.
-#[derive(Drop)]
+#[derive(Clone, Copy)]
 pub enum FoundFunction {
     Found(FunctionInformation),
     Nothing,
 }
 
-#[derive(Drop)]
+#[derive(Clone, Copy)]
 pub enum FoundLet {
     Found(LetInformation),
     Nothing,

@@ -5,8 +5,8 @@ use mathlib.Core.Path.{◌≡◌, sym, subst, ◌∙◌}
 use native.Mathlib.Omega.{arith}
 use Rattle.tree.specs.Record.{nth}
 use Rattle.tree.specs.Tree.{Tree}
-use Rattle.tree.specs.Laws.Stands.{ident_name}
-use Rattle.tree.specs.Laws.Stands.Forms.{IdentOf, ident_of_lem, const_of, form_range}
+use Rattle.tree.proofs.Laws.Stands.{ident_name}
+use Rattle.tree.proofs.Laws.Stands.Forms.{IdentOf, ident_of_lem, const_of, form_range}
 use Rattle.pass.specs.State.{State}
 use Rattle.pass.specs.Read.{read}
 use Rattle.pass.specs.Visit.{visit}

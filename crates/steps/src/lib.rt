@@ -53,7 +53,7 @@ pub fn depth(r: &[usize; REGISTERS]) -> u32
 }
 
 // What a name that entered changed.
-fn put_name(r: &mut [usize], e: EnteredName)
+pub fn put_name(r: &mut [usize], e: EnteredName)
     requires { length r.old ≡ registers_length }
     ensures { pass_in r.new ≡ with_name e (pass_in r.old) }
 {

@@ -11,4 +11,3 @@ pub mod Check
 pub mod Accepted
 pub mod Starts
 pub mod Stands
-pub mod Laws

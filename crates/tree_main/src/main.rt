@@ -5,15 +5,17 @@ mod cases;
 mod say;
 mod trees;
 
-fn main() {
-    cases::limits();
-    cases::nestings();
-    cases::rows();
-    cases::parts();
-    cases::forms_and_ids();
-    cases::names_and_counts();
-    cases::shapes();
-    cases::firsts();
-    cases::early_pairs();
-    cases::late_pairs();
+use std::io;
+
+fn main(rt: HostRuntime) -> io::Result<()> {
+    cases::limits(&rt)?;
+    cases::nestings(&rt)?;
+    cases::rows(&rt)?;
+    cases::parts(&rt)?;
+    cases::forms_and_ids(&rt)?;
+    cases::names_and_counts(&rt)?;
+    cases::shapes(&rt)?;
+    cases::firsts(&rt)?;
+    cases::early_pairs(&rt)?;
+    cases::late_pairs(&rt)
 }

@@ -1,24 +1,22 @@
 // The line of a case: what it is, in numbers with their names, and then what the checks say of it.
 use crate::build::{LENGTH, Numbers, RECORDS};
 use checks::Checked;
+use std::io;
 use table::{index, wide};
 use tree::record::WIDTH;
 
-pub fn number(name: &[u8], x: usize) {
-    io::write_all(1, name);
-    io::write_all(1, b"=");
-    io::print_decimal(1, x as u64);
-    io::write_all(1, b" ");
+pub fn number(rt: &impl Print, name: &str, x: usize) -> io::Result<()> {
+    print!(rt; "{name}={x} ")
 }
 
 // What a field of record i is set to.
-pub fn field(i: usize, field: usize, x: u32) {
-    number(b"record", i);
+pub fn field(rt: &impl Print, i: usize, field: usize, x: u32) -> io::Result<()> {
+    number(rt, "record", i)?;
     match field {
-        0 => number(b"form", wide(x)),
-        1 => number(b"id", wide(x)),
-        2 => number(b"name", wide(x)),
-        _ => number(b"count", wide(x)),
+        0 => number(rt, "form", wide(x)),
+        1 => number(rt, "id", wide(x)),
+        2 => number(rt, "name", wide(x)),
+        _ => number(rt, "count", wide(x)),
     }
 }
 
@@ -51,54 +49,49 @@ fn at(a: Checked) -> usize {
     }
 }
 
-fn refused(refusal: u64, at: usize) {
-    io::write_all(1, b"refused=");
-    io::print_decimal(1, refusal);
-    io::write_all(1, b" at=");
-    io::print_decimal(1, at as u64);
-    io::write_all(1, b"\n");
+fn refused(rt: &impl Print, refusal: u64, at: usize) -> io::Result<()> {
+    println!(rt; "refused={refusal} at={at}")
 }
 
 // So many starts are printed.
 const SHOWN: usize = 4;
 
 // Where the first trees of n records start, how many trees there are, and the record after them.
-fn starts(tops: &[u16], n: usize) {
+fn starts(rt: &impl Print, tops: &[u16], n: usize) -> io::Result<()> {
     let mut i = 0;
     while i < tops.len() {
         let at = index(tops[i]);
         if n <= at {
-            number(b"trees", i);
-            number(b"end", at);
-            return;
+            number(rt, "trees", i)?;
+            return number(rt, "end", at);
         }
         if i < SHOWN {
-            number(b"start", at);
+            number(rt, "start", at)?;
         }
         i += 1;
     }
+    Ok(())
 }
 
 // What the checks say of the first n numbers, and of the first n records.
-pub fn numbers(t: &Numbers, n: usize, names: usize) {
+pub fn numbers(rt: &impl Print, t: &Numbers, n: usize, names: usize) -> io::Result<()> {
     if LENGTH < n {
-        return;
+        return Ok(());
     }
     let all: &[u32] = t;
     let mut tops = [0u16; RECORDS + 1];
     let a = checks::check(&all[..n], names, &mut tops);
     let r = refusal(a);
     if r != 0 {
-        refused(r, at(a));
-        return;
+        return refused(rt, r, at(a));
     }
-    starts(&tops, n / WIDTH);
-    io::write_all(1, b"fit\n");
+    starts(rt, &tops, n / WIDTH)?;
+    println!(rt; "fit")
 }
 
-pub fn records(t: &Numbers, n: usize, names: usize) {
+pub fn records(rt: &impl Print, t: &Numbers, n: usize, names: usize) -> io::Result<()> {
     if RECORDS < n {
-        return;
+        return Ok(());
     }
-    numbers(t, WIDTH * n, names);
+    numbers(rt, t, WIDTH * n, names)
 }

@@ -5,10 +5,10 @@ use mathlib.Core.Path.{◌≡◌, ap, ◌∙◌}
 use native.Mathlib.Omega.{arith}
 use lib.ListN.{length, drop, length-drop}
 use Rattle.tree.specs.Record.{width, records}
-use Rattle.tree.specs.Laws.Record.{length-records}
+use Rattle.tree.proofs.Laws.Record.{length-records}
 use Rattle.tree.specs.Tree.{size, sizes}
-use Rattle.tree.specs.Laws.Tree.{size_pos}
-use Rattle.tree.specs.Laws.Stands.{tree_inside, tree_few, trees_inside, trees_few}
+use Rattle.tree.proofs.Laws.Tree.{size_pos}
+use Rattle.tree.proofs.Laws.Stands.{tree_inside, tree_few, trees_inside, trees_few}
 use Rattle.work.specs.Tied.{Raw}
 use Rattle.flags.specs.declared.Flags.{Flags as Coded}
 use Rattle.visits.specs.Contract.{Fit, Done, Row, FitRow, DoneRow}

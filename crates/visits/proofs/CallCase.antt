@@ -9,13 +9,13 @@ use lib.Dec.{eqb}
 use Rattle.tree.specs.Record.{width, records, nth}
 use Rattle.tree.specs.Tree.{Node, Tree, Trees, ident, const, if, letin, define, lambda, sequence, call, set!, begins, ands, whens, many, size, sizes}
 use Rattle.tree.specs.Core.{peel}
-use Rattle.tree.specs.Laws.Core.{by_peel}
+use Rattle.tree.proofs.Laws.Core.{by_peel}
 use Rattle.tree.specs.Stands.{Stands}
-use Rattle.tree.specs.Laws.Tree.{size_pos, many_sizes}
-use Rattle.tree.specs.Laws.Stands.{root_form, tree_inside}
-use Rattle.tree.specs.Laws.Parts.{own}
-use Rattle.tree.specs.Laws.Stands.Parts.{CallParts}
-use Rattle.tree.specs.Laws.Stands.Forms.{call_of_lem}
+use Rattle.tree.proofs.Laws.Tree.{size_pos, many_sizes}
+use Rattle.tree.proofs.Laws.Stands.{root_form, tree_inside}
+use Rattle.tree.proofs.Laws.Parts.{own}
+use Rattle.tree.proofs.Laws.Stands.Parts.{CallParts}
+use Rattle.tree.proofs.Laws.Stands.Forms.{call_of_lem}
 use Rattle.pass.specs.Visit.{argument_flags, head_flags, is_lambda_form, is_lambda, visit, visit_arguments}
 use Rattle.pass_laws.specs.Visitable.{Visitable}
 use Rattle.pass_laws.specs.Laws.Visitable.Parts.{call_arguments, call_head}

@@ -8,9 +8,9 @@ use lib.ListN.{length, drop}
 use Rattle.tree.specs.Record.{width, nth}
 use Rattle.tree.specs.Tree.{Ident, Node, Tree, define, size}
 use Rattle.tree.specs.Stands.{Stands}
-use Rattle.tree.specs.Laws.Tree.{size_pos}
-use Rattle.tree.specs.Laws.Stands.Parts.{NamedParts}
-use Rattle.tree.specs.Laws.Stands.Forms.{define_of_lem}
+use Rattle.tree.proofs.Laws.Tree.{size_pos}
+use Rattle.tree.proofs.Laws.Stands.Parts.{NamedParts}
+use Rattle.tree.proofs.Laws.Stands.Forms.{define_of_lem}
 use Rattle.pass.specs.Visit.{define_flags, is_lambda, open_define, close_define, visit}
 use Rattle.pass_laws.specs.Visitable.{Visitable}
 use Rattle.pass_laws.specs.Laws.Visitable.Parts.{define-body}

@@ -6,9 +6,9 @@ use native.Mathlib.Omega.{arith}
 use lib.ListN.{length, drop}
 use Rattle.tree.specs.Record.{width, nth}
 use Rattle.tree.specs.Tree.{Node, Tree, if, size}
-use Rattle.tree.specs.Laws.Tree.{size_pos}
-use Rattle.tree.specs.Laws.Stands.Parts.{IfParts}
-use Rattle.tree.specs.Laws.Stands.Forms.{if_of}
+use Rattle.tree.proofs.Laws.Tree.{size_pos}
+use Rattle.tree.proofs.Laws.Stands.Parts.{IfParts}
+use Rattle.tree.proofs.Laws.Stands.Forms.{if_of}
 use Rattle.pass.specs.Visit.{not_tail, same_tail, visit}
 use Rattle.pass_laws.specs.Visitable.{Visitable}
 use Rattle.pass_laws.specs.Laws.Visitable.Parts.{if_first, if_second, if_third}

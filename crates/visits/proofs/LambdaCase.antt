@@ -7,9 +7,9 @@ use native.Mathlib.Omega.{arith}
 use lib.ListN.{length, drop}
 use Rattle.tree.specs.Record.{width, nth}
 use Rattle.tree.specs.Tree.{Ident, Node, Tree, lambda, size}
-use Rattle.tree.specs.Laws.Tree.{size_pos}
-use Rattle.tree.specs.Laws.Stands.Parts.{LambdaParts}
-use Rattle.tree.specs.Laws.Stands.Forms.{lambda_of_lem}
+use Rattle.tree.proofs.Laws.Tree.{size_pos}
+use Rattle.tree.proofs.Laws.Stands.Parts.{LambdaParts}
+use Rattle.tree.proofs.Laws.Stands.Forms.{lambda_of_lem}
 use Rattle.pass.specs.Lambda.{open_lambda, close_lambda}
 use Rattle.pass.specs.Visit.{body_flags, visit}
 use Rattle.pass_laws.specs.Visitable.{Visitable}

@@ -7,7 +7,7 @@ use lib.ListN.{length}
 use Rattle.tree.specs.Record.{nth}
 use Rattle.tree.specs.Tree.{Tree, size}
 use Rattle.tree.specs.Stands.{Stands}
-use Rattle.tree.specs.Laws.Stands.Forms.{ident_of_lem, const_of, form_range}
+use Rattle.tree.proofs.Laws.Stands.Forms.{ident_of_lem, const_of, form_range}
 use Rattle.pass_laws.specs.Laws.Visitable.Leaves.{reliable}
 use Rattle.work.specs.Tied.{raw}
 use Rattle.work.specs.declared.Pass.{Pass}

@@ -7,9 +7,9 @@ use lib.ListN.{length, drop}
 use lib.Dec.{eqb}
 use Rattle.tree.specs.Record.{width, nth}
 use Rattle.tree.specs.Tree.{Ident, Node, Tree, Trees, letin, many, size, sizes}
-use Rattle.tree.specs.Laws.Tree.{size_pos}
-use Rattle.tree.specs.Laws.Stands.Parts.{LetParts}
-use Rattle.tree.specs.Laws.Stands.Forms.{let_of_lem}
+use Rattle.tree.proofs.Laws.Tree.{size_pos}
+use Rattle.tree.proofs.Laws.Stands.Parts.{LetParts}
+use Rattle.tree.proofs.Laws.Stands.Forms.{let_of_lem}
 use Rattle.semantic.specs.Information.{NONE}
 use Rattle.pass.specs.State.{State, with_context, depth}
 use Rattle.pass.specs.Lambda.{open_let, close_let}

@@ -6,12 +6,12 @@ use native.Mathlib.Omega.{arith}
 use lib.ListN.{length}
 use Rattle.tree.specs.Record.{records, nth}
 use Rattle.tree.specs.Tree.{Ident, Node, Tree, Trees, ident, const, if, letin, define, lambda, sequence, call, set!, nil, cons, begins, ands, whens, size, Num}
-use Rattle.tree.specs.Laws.Core.{Peeled, same, none, peeled, size_core}
+use Rattle.tree.proofs.Laws.Core.{Peeled, same, none, peeled, size_core}
 use Rattle.tree.specs.Define.{top_of}
-use Rattle.tree.specs.Laws.Parts.{own}
+use Rattle.tree.proofs.Laws.Parts.{own}
 use Rattle.tree.specs.Stands.{Stands}
-use Rattle.tree.specs.Laws.Stands.{root, root_form}
-use Rattle.tree.specs.Laws.Stands.Forms.{BeginOf, begin_of}
+use Rattle.tree.proofs.Laws.Stands.{root, root_form}
+use Rattle.tree.proofs.Laws.Stands.Forms.{BeginOf, begin_of}
 use Rattle.pass.specs.State.{State}
 use Rattle.pass.specs.Visit.{Flags, visit, visit_top}
 use Rattle.pass_laws.specs.Sound.{Holds}

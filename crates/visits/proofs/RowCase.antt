@@ -9,9 +9,9 @@ use lib.ListN.{length, drop}
 use lib.Dec.{eqb}
 use Rattle.tree.specs.Record.{width}
 use Rattle.tree.specs.Tree.{Tree, Trees, nil, cons, many, size, sizes}
-use Rattle.tree.specs.Laws.Tree.{size_pos}
+use Rattle.tree.proofs.Laws.Tree.{size_pos}
 use Rattle.tree.specs.Stands.{StandAll}
-use Rattle.tree.specs.Laws.Stands.{first_tree, later_trees}
+use Rattle.tree.proofs.Laws.Stands.{first_tree, later_trees}
 use Rattle.pass.specs.State.{State}
 use Rattle.pass.specs.Visit.{Flags, is_nil, pushed, child_flags, visit}
 use Rattle.pass_laws.specs.Visitable.{Visitable}

@@ -7,7 +7,7 @@ use lib.ListN.{length}
 use Rattle.tree.specs.Tree.{Trees, sizes}
 use Rattle.tree.specs.Define.{top_level}
 use Rattle.tree.specs.Accepted.{Accepted}
-use Rattle.tree.specs.Laws.Stands.{accepted_stand}
+use Rattle.tree.proofs.Laws.Stands.{accepted_stand}
 use Rattle.semantic.specs.declared.IdentifierStatus.TheVariants.{Global}
 use Rattle.pass.specs.State.{Facts, Noted}
 use Rattle.pass.specs.Visit.{enter_children}

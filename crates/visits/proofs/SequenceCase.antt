@@ -9,8 +9,8 @@ use lib.ListN.{length, drop}
 use lib.Dec.{eqb}
 use Rattle.tree.specs.Record.{width, nth}
 use Rattle.tree.specs.Tree.{Node, Tree, Trees, sequence, nil, cons, Sequence, begins, many, size, sizes}
-use Rattle.tree.specs.Laws.Stands.Parts.{BeginParts}
-use Rattle.tree.specs.Laws.Stands.Forms.{BeginOf, begin_of, and_of_lem}
+use Rattle.tree.proofs.Laws.Stands.Parts.{BeginParts}
+use Rattle.tree.proofs.Laws.Stands.Forms.{BeginOf, begin_of, and_of_lem}
 use Rattle.semantic.specs.declared.IdentifierStatus.TheVariants.{LocallyDefinedFunction}
 use Rattle.pass.specs.State.{State}
 use Rattle.pass.specs.Visit.{Flags, is_alone, in_begin, in_and, visit}

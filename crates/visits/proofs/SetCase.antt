@@ -6,13 +6,13 @@ use native.Mathlib.Omega.{arith}
 use lib.ListN.{length, drop}
 use Rattle.tree.specs.Record.{width, nth}
 use Rattle.tree.specs.Tree.{Ident, Node, Tree, ident, set!, named, flat, size, Num}
-use Rattle.tree.specs.Laws.Tree.{size_pos}
-use Rattle.tree.specs.Laws.Parts.{own}
+use Rattle.tree.proofs.Laws.Tree.{size_pos}
+use Rattle.tree.proofs.Laws.Parts.{own}
 use Rattle.tree.specs.Stands.{Stands}
-use Rattle.tree.specs.Laws.Within.{front, later}
-use Rattle.tree.specs.Laws.Stands.{root_form}
-use Rattle.tree.specs.Laws.Stands.Parts.{NamedParts}
-use Rattle.tree.specs.Laws.Stands.Forms.{set_of}
+use Rattle.tree.proofs.Laws.Within.{front, later}
+use Rattle.tree.proofs.Laws.Stands.{root_form}
+use Rattle.tree.proofs.Laws.Stands.Parts.{NamedParts}
+use Rattle.tree.proofs.Laws.Stands.Forms.{set_of}
 use Rattle.pass.specs.Read.{mutate}
 use Rattle.pass.specs.Visit.{not_tail, clear_context, visit}
 use Rattle.pass_laws.specs.Visitable.{Visitable}

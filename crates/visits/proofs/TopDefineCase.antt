@@ -6,13 +6,13 @@ use mathlib.Core.Path.{◌≡◌, refl, ap, sym, subst, ◌∙◌}
 use native.Mathlib.Omega.{arith}
 use lib.ListN.{length, drop, length-drop}
 use Rattle.tree.specs.Record.{Record, width, records, nth}
-use Rattle.tree.specs.Laws.Record.{length-records, records-drop}
+use Rattle.tree.proofs.Laws.Record.{length-records, records-drop}
 use Rattle.tree.specs.Tree.{Ident, Node, Tree, ident, const, if, letin, define, lambda, sequence, call, set!, size}
-use Rattle.tree.specs.Laws.Parts.{own}
+use Rattle.tree.proofs.Laws.Parts.{own}
 use Rattle.tree.specs.Stands.{Stands}
-use Rattle.tree.specs.Laws.Stands.{root, root_form, tree_inside, tree_few}
-use Rattle.tree.specs.Laws.Stands.Parts.{NamedParts, define_parts}
-use Rattle.tree.specs.Laws.Stands.Forms.{define_of_lem}
+use Rattle.tree.proofs.Laws.Stands.{root, root_form, tree_inside, tree_few}
+use Rattle.tree.proofs.Laws.Stands.Parts.{NamedParts, define_parts}
+use Rattle.tree.proofs.Laws.Stands.Forms.{define_of_lem}
 use Rattle.pass.specs.State.{State}
 use Rattle.pass.specs.Visit.{top_flags, is_lambda, visit, visit_top_define, visit_top}
 use Rattle.pass_laws.specs.Visitable.{Visitable}

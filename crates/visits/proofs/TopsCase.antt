@@ -5,15 +5,15 @@ use mathlib.Core.Path.{◌≡◌, refl, ap, sym, subst, ◌∙◌}
 use native.Mathlib.Omega.{arith}
 use lib.ListN.{length, drop}
 use Rattle.tree.specs.Record.{width, records, nth}
-use Rattle.tree.specs.Laws.Record.{length-records}
+use Rattle.tree.proofs.Laws.Record.{length-records}
 use Rattle.tree.specs.Tree.{Tree, Trees, nil, cons, many, flat, flats, size, sizes, Num}
-use Rattle.tree.specs.Laws.Tree.{size_pos}
+use Rattle.tree.proofs.Laws.Tree.{size_pos}
 use Rattle.tree.specs.Core.{core, cores, peel}
 use Rattle.tree.specs.Define.{◌⊕◌, top_of, top_level}
-use Rattle.tree.specs.Laws.Acceptance.{many-records}
+use Rattle.tree.proofs.Laws.Acceptance.{many-records}
 use Rattle.tree.specs.Stands.{Stands, StandAll}
-use Rattle.tree.specs.Laws.Within.{front}
-use Rattle.tree.specs.Laws.Stands.{first_tree, later_trees, accepted_stand}
+use Rattle.tree.proofs.Laws.Within.{front}
+use Rattle.tree.proofs.Laws.Stands.{first_tree, later_trees, accepted_stand}
 use Rattle.pass.specs.State.{State}
 use Rattle.pass.specs.Visit.{visit_top, visit_tops}
 use Rattle.pass_laws.specs.Visitable.{VisitableTops}
@@ -23,7 +23,7 @@ use Rattle.work.specs.Tied.{Raw, Tied}
 use Rattle.walk.specs.Contract.{SomeTree, SomeTreeOf, Reaches}
 use Rattle.visits.specs.Tops.{TopFits, VisitsTop, TopsFit, VisitsTops}
 use Rattle.visits.proofs.Views.{small, stands_at_lem, stand_all-at}
-use Rattle.tree.specs.Laws.Core.{Peeled, peeled}
+use Rattle.tree.proofs.Laws.Core.{Peeled, peeled}
 use Rattle.visits.proofs.Peeled.{begin_core, lone_core, core_num, core_size, core_visit, peel_visitable}
 
 -- none stands where others do

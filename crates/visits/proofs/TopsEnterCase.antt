@@ -6,15 +6,15 @@ use native.Mathlib.Omega.{arith}
 use lib.ListN.{length, get_or, drop}
 use Rattle.tree.specs.Record.{records, nth}
 use Rattle.tree.specs.Tree.{Tree, Trees, nil, cons, many, flat, flats, size, sizes, Nums}
-use Rattle.tree.specs.Laws.Tree.{size_pos}
+use Rattle.tree.proofs.Laws.Tree.{size_pos}
 use Rattle.tree.specs.Core.{core, peel}
-use Rattle.tree.specs.Laws.Core.{many-cores, by_peel, peeled, core_peel}
+use Rattle.tree.proofs.Laws.Core.{many-cores, by_peel, peeled, core_peel}
 use Rattle.tree.specs.Define.{top_of, top_level}
-use Rattle.tree.specs.Laws.Parts.{own}
+use Rattle.tree.proofs.Laws.Parts.{own}
 use Rattle.tree.specs.Starts.{starts, StartsWith, TellsStarts}
-use Rattle.tree.specs.Laws.Acceptance.{many-records}
+use Rattle.tree.proofs.Laws.Acceptance.{many-records}
 use Rattle.tree.specs.Stands.{Within, Stands, StandAll}
-use Rattle.tree.specs.Laws.Stands.{root_form, first_tree, later_trees, accepted_stand}
+use Rattle.tree.proofs.Laws.Stands.{root_form, first_tree, later_trees, accepted_stand}
 use Rattle.semantic.specs.declared.IdentifierStatus.TheVariants.{Global}
 use Rattle.pass.specs.State.{State}
 use Rattle.pass.specs.Visit.{enter_children}

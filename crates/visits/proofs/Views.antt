@@ -7,11 +7,11 @@ use native.Mathlib.Omega.{arith}
 use lib.ListN.{length, get_or, drop}
 use lib.Seq.{get_or-drop}
 use Rattle.tree.specs.Record.{Record, width, records, blank, nth}
-use Rattle.tree.specs.Laws.Record.{records-drop}
+use Rattle.tree.proofs.Laws.Record.{records-drop}
 use Rattle.tree.specs.Tree.{Ident, Node, Tree, Trees}
-use Rattle.tree.specs.Laws.Within.{drop-records}
+use Rattle.tree.proofs.Laws.Within.{drop-records}
 use Rattle.tree.specs.Stands.{Stands, StandAll}
-use Rattle.scope_map.specs.Laws.Map.{map-length}
+use Rattle.scope_map.proofs.Laws.Map.{map-length}
 use Rattle.semantic.specs.Rows.{Blank}
 use Rattle.semantic.specs.Kinds.{function_in, let_in}
 use Rattle.semantic.specs.declared.FunctionInformation.{FunctionInformation}

@@ -9,11 +9,11 @@ use lib.ListN.{length, drop}
 use lib.Dec.{eqb}
 use Rattle.tree.specs.Record.{width, nth}
 use Rattle.tree.specs.Tree.{Node, Tree, Trees, sequence, nil, cons, whens, many, size, sizes}
-use Rattle.tree.specs.Laws.Tree.{size_pos, many_sizes}
+use Rattle.tree.proofs.Laws.Tree.{size_pos, many_sizes}
 use Rattle.tree.specs.Core.{cores}
 use Rattle.tree.specs.Stands.{StandAll}
-use Rattle.tree.specs.Laws.Stands.{first_tree, later_trees}
-use Rattle.tree.specs.Laws.Stands.Forms.{when_of, unless_of}
+use Rattle.tree.proofs.Laws.Stands.{first_tree, later_trees}
+use Rattle.tree.proofs.Laws.Stands.Forms.{when_of, unless_of}
 use Rattle.semantic.specs.declared.IdentifierStatus.TheVariants.{LocallyDefinedFunction}
 use Rattle.pass.specs.Visit.{not_tail, in_begin, enter_children, visit}
 use Rattle.pass_laws.specs.Visitable.{Visitable}

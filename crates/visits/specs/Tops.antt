@@ -21,7 +21,7 @@ use Rattle.walk.specs.Contract.{body_of}
 use Rattle.walk.specs.declared.body.Body.{Body}
 use Rattle.names.specs.Contract.{NamesRoom}
 use Rattle.registers.specs.Registers.{pass_in}
-use Rattle.visits.specs.Lent.{Slice, Loan, Lent, Kept}
+use Rattle.visits.specs.Lent.{Slice, MutSlice, Loan, Lent, Kept}
 
 -- Names enter
 
@@ -97,21 +97,21 @@ pub record VisitsTops (classes rs : List ℕ) (z z' : Raw) : Type 0 where
 
 -- The same of what is lent
 
-abbrev pub MayEnterTop : (classes rs : Slice) → ℕ → (r facts work : Slice) → Type 0
+abbrev pub MayEnterTop : (classes rs : Slice) → ℕ → (r facts work : MutSlice) → Type 0
 MayEnterTop cs rs at r f w = TopEnters (length cs.now) rs.now at (pass_in r.now) f.now w.now
 
-abbrev pub HasEnteredTop : (classes rs : Loan Slice) → ℕ → (r facts work : Loan Slice) → Type 0
+abbrev pub HasEnteredTop : (classes rs : Loan Slice) → ℕ → (r facts work : Loan MutSlice) → Type 0
 HasEnteredTop cs rs at r f w =
     EntersTop cs.entry.now rs.entry.now at (pass_in r.entry.now) f.entry.now w.entry.now (pass_in r.exit.now) f.exit.now w.exit.now
 
-abbrev pub MayEnterTops : (tops classes rs r facts work : Slice) → Type 0
+abbrev pub MayEnterTops : (tops classes rs : Slice) (r facts work : MutSlice) → Type 0
 MayEnterTops tops cs rs r f w = TellsStarts (length cs.now) rs.now tops.now × TopsEnter cs.now rs.now (pass_in r.now) f.now w.now
 
-abbrev pub HasEnteredTops : (classes rs r facts work : Loan Slice) → Type 0
+abbrev pub HasEnteredTops : (classes rs : Loan Slice) (r facts work : Loan MutSlice) → Type 0
 HasEnteredTops cs rs r f w =
     EntersTops cs.entry.now rs.entry.now (pass_in r.entry.now) f.entry.now w.entry.now (pass_in r.exit.now) f.exit.now w.exit.now
 
-abbrev pub HasBegunTop : (rs : Loan Slice) → ℕ → Body → (r facts work : Loan Slice) → Type 0
+abbrev pub HasBegunTop : (rs : Loan Slice) → ℕ → Body → (r facts work : Loan MutSlice) → Type 0
 HasBegunTop rs at b r f w =
     BeforeTop rs.entry.now at b (pass_in r.entry.now) f.entry.now w.entry.now (pass_in r.exit.now) f.exit.now w.exit.now
 

@@ -25,7 +25,7 @@ use walk::uses::Names;
 use work::narrow;
 
 // A lambda's visit is handed a copy of the reference to the part (docs/SPEED.md, 49).
-#[cycle(visit_and_visit_begin_visit_children_visit_when_visit_visit_arguments_visit_body_visit_define_visit_if_visit_lambda_function_visit_let_visit_list_visit_part_visit_set)]
+#[cycle(visits)]
 pub fn visit(
     classes: &&[u8],
     all: &&[u32],
@@ -66,7 +66,7 @@ pub fn visit(
 
 // A part of an expression. Many parts are identifiers and constants: they need no call of `visit` (docs/SPEED.md, 44), and flags are stored for that
 // call alone, as it is handed a copy (46), also of the reference to the part (49).
-#[cycle(visit_and_visit_begin_visit_children_visit_when_visit_visit_arguments_visit_body_visit_define_visit_if_visit_lambda_function_visit_let_visit_list_visit_part_visit_set)]
+#[cycle(visits)]
 pub fn visit_part(
     classes: &&[u8],
     all: &&[u32],
@@ -93,7 +93,7 @@ pub fn visit_part(
     visit(classes, all, p, at, g, r, facts, captured, arguments, work)
 }
 
-#[cycle(visit_and_visit_begin_visit_children_visit_when_visit_visit_arguments_visit_body_visit_define_visit_if_visit_lambda_function_visit_let_visit_list_visit_part_visit_set)]
+#[cycle(visits)]
 fn visit_if(
     classes: &&[u8],
     all: &&[u32],
@@ -126,7 +126,7 @@ fn visit_if(
 }
 
 // k arguments or initial expressions: each pushes a value.
-#[cycle(visit_and_visit_begin_visit_children_visit_when_visit_visit_arguments_visit_body_visit_define_visit_if_visit_lambda_function_visit_let_visit_list_visit_part_visit_set)]
+#[cycle(visits)]
 fn visit_arguments(
     classes: &&[u8],
     all: &&[u32],
@@ -156,7 +156,7 @@ fn visit_arguments(
     used
 }
 
-#[cycle(visit_and_visit_begin_visit_children_visit_when_visit_visit_arguments_visit_body_visit_define_visit_if_visit_lambda_function_visit_let_visit_list_visit_part_visit_set)]
+#[cycle(visits)]
 fn visit_let(
     classes: &&[u8],
     all: &&[u32],
@@ -211,7 +211,7 @@ fn visit_let(
     i + b
 }
 
-#[cycle(visit_and_visit_begin_visit_children_visit_when_visit_visit_arguments_visit_body_visit_define_visit_if_visit_lambda_function_visit_let_visit_list_visit_part_visit_set)]
+#[cycle(visits)]
 fn visit_define(
     classes: &&[u8],
     all: &&[u32],
@@ -240,7 +240,7 @@ fn visit_define(
 
 // The body of a lambda or of a define: it is often a lambda, and then needs no call of `visit`. `visit_lambda_function` calls itself through this one:
 // so the compiler keeps the arrays of a lambda's end out of the frames of the visits (docs/SPEED.md, 44).
-#[cycle(visit_and_visit_begin_visit_children_visit_when_visit_visit_arguments_visit_body_visit_define_visit_if_visit_lambda_function_visit_let_visit_list_visit_part_visit_set)]
+#[cycle(visits)]
 pub fn visit_body(
     classes: &&[u8],
     all: &&[u32],
@@ -262,7 +262,7 @@ pub fn visit_body(
     visit_part(classes, all, rs, at, f, r, facts, captured, arguments, work)
 }
 
-#[cycle(visit_and_visit_begin_visit_children_visit_when_visit_visit_arguments_visit_body_visit_define_visit_if_visit_lambda_function_visit_let_visit_list_visit_part_visit_set)]
+#[cycle(visits)]
 fn visit_lambda_function(
     classes: &&[u8],
     all: &&[u32],
@@ -296,7 +296,7 @@ fn visit_lambda_function(
     1 + count + o
 }
 
-#[cycle(visit_and_visit_begin_visit_children_visit_when_visit_visit_arguments_visit_body_visit_define_visit_if_visit_lambda_function_visit_let_visit_list_visit_part_visit_set)]
+#[cycle(visits)]
 fn visit_list(
     classes: &&[u8],
     all: &&[u32],
@@ -338,7 +338,7 @@ fn visit_list(
     1 + head + a
 }
 
-#[cycle(visit_and_visit_begin_visit_children_visit_when_visit_visit_arguments_visit_body_visit_define_visit_if_visit_lambda_function_visit_let_visit_list_visit_part_visit_set)]
+#[cycle(visits)]
 fn visit_set(
     classes: &&[u8],
     all: &&[u32],

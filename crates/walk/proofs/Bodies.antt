@@ -8,13 +8,13 @@ use lib.ListN.{length, get_or}
 use Rattle.tree.specs.Record.{Record, nth}
 use Rattle.tree.specs.Tree.{Tree, Trees, ident, const, if, letin, define, lambda, sequence, call, set!, nil, cons, many, size}
 use Rattle.tree.specs.Core.{core, peel}
-use Rattle.tree.specs.Laws.Core.{by_peel}
-use Rattle.tree.specs.Laws.Parts.{own}
+use Rattle.tree.proofs.Laws.Core.{by_peel}
+use Rattle.tree.proofs.Laws.Parts.{own}
 use Rattle.tree.specs.Stands.{Stands, StandAll}
-use Rattle.tree.specs.Laws.Stands.{root_form, ident_name, first_tree}
-use Rattle.tree.specs.Laws.Stands.Forms.{ident_of_lem, CallOf, call_of_lem, lambda_of_lem}
+use Rattle.tree.proofs.Laws.Stands.{root_form, ident_name, first_tree}
+use Rattle.tree.proofs.Laws.Stands.Forms.{ident_of_lem, CallOf, call_of_lem, lambda_of_lem}
 use Rattle.semantic.specs.Information.{NONE}
-use Rattle.pass.specs.Read.{is_class, is_ident_of, first_is_ident_of, is_builtin, alias}
+use Rattle.pass.specs.Read.{is_class, is_ident_of, first_is_ident_of, is_builtin}
 use Rattle.walk.specs.Contract.{SomeTree, SomeTreeOf, Reaches, TellsIdent, TellsBuiltin, body_form, TellsForm, TellsBody}
 use Rattle.walk.specs.declared.body.Body.{Body}
 

@@ -10,7 +10,7 @@ use lib.Dec.{eqb}
 use Rattle.tree.specs.Record.{Record, nth}
 use Rattle.tree.specs.Tree.{Ident, named}
 use Rattle.tree.specs.Check.{member}
-use Rattle.tree.specs.Laws.Stands.{names-inside}
+use Rattle.tree.proofs.Laws.Stands.{names-inside}
 use Rattle.pass.specs.Lambda.{name_in}
 use Rattle.walk.specs.Contract.{SomeNames, HoldsName}
 use Rattle.walk.specs.declared.uses.Names.{Names}

@@ -4,16 +4,16 @@ use mathlib.Core.List.{List}
 use mathlib.Core.Bool.{Bool, true, false, ◌&&◌, and-eq-true_iff, true≢false}
 use mathlib.Core.Path.{◌≡◌, refl, ap, sym, subst, ◌∙◌}
 use native.Mathlib.Omega.{arith}
-use borrow.Author.Tests.{eqb-true, eq-eqb}
+use borrow.Author.Tests.{eqb-true}
 use lib.Dec.{eqb}
 use lib.ListN.{length}
 use Rattle.tree.specs.Record.{Record, records, nth}
 use Rattle.tree.specs.Tree.{Tree, Trees, ident, const, if, letin, define, lambda, sequence, call, set!, nil, cons, begins, ands, whens, many, size}
 use Rattle.tree.specs.Core.{peel}
-use Rattle.tree.specs.Laws.Parts.{own}
+use Rattle.tree.proofs.Laws.Parts.{own}
 use Rattle.tree.specs.Stands.{Stands, StandAll}
-use Rattle.tree.specs.Laws.Stands.{root, first_tree}
-use Rattle.tree.specs.Laws.Stands.Forms.{and_of_lem}
+use Rattle.tree.proofs.Laws.Stands.{root, first_tree}
+use Rattle.tree.proofs.Laws.Stands.Forms.{and_of_lem}
 use Rattle.walk.specs.Contract.{SomeTree, Reaches}
 
 abbrev pub is_and_of_one : Record → Bool

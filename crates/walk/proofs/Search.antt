@@ -6,7 +6,7 @@ use mathlib.Core.Path.{◌≡◌, refl, ap, ap₂, sym, ◌∙◌}
 use native.Mathlib.Omega.{arith}
 use lib.ListN.{length}
 use Rattle.tree.specs.Record.{Record, records, nth}
-use Rattle.tree.specs.Laws.Stands.{tree_inside}
+use Rattle.tree.proofs.Laws.Stands.{tree_inside}
 use Rattle.walk.specs.Contract.{SomeBody}
 use Rattle.walk.proofs.Slice.{slice, slice-next}
 

@@ -8,9 +8,9 @@ use lib.ListN.{length, take, drop}
 use lib.Seq.{drop-cons, take_at}
 use Rattle.tree.specs.Record.{Record, records, blank, nth}
 use Rattle.tree.specs.Tree.{Tree, flat, size}
-use Rattle.tree.specs.Laws.Tree.{length_flat}
+use Rattle.tree.proofs.Laws.Tree.{length_flat}
 use Rattle.tree.specs.Stands.{Within, Stands}
-use Rattle.tree.specs.Laws.Within.{records-at}
+use Rattle.tree.proofs.Laws.Within.{records-at}
 
 abbrev pub slice : List ℕ → ℕ → ℕ → List Record
 slice rs p n = take n (drop p (records rs))

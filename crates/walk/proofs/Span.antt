@@ -11,13 +11,13 @@ use lib.ListN.{length, drop, drop_of_length-le}
 use lib.Seq.{drop-cons}
 use Rattle.tree.specs.Record.{Record, records, blank, nth}
 use Rattle.tree.specs.Form.{form_of, names_of, others_of, children_of, is_form}
-use Rattle.tree.specs.Laws.Form.{fits-known}
+use Rattle.tree.proofs.Laws.Form.{fits-known}
 use Rattle.tree.specs.Tree.{Ident, Tree, Trees, nil, cons, many, named, flat, flats, size, sizes, Num, Nums}
-use Rattle.tree.specs.Laws.Tree.{length_flat}
-use Rattle.tree.specs.Laws.Parts.{own, names, others, flat_with, size-own, num_own, Each, induct}
+use Rattle.tree.proofs.Laws.Tree.{length_flat}
+use Rattle.tree.proofs.Laws.Parts.{own, names, others, flat_with, size-own, num_own, Each, induct}
 use Rattle.tree.specs.Stands.{Stands}
-use Rattle.tree.specs.Laws.Stands.{tree_inside, tree_few}
-use Rattle.tree.specs.Laws.Within.{records-at, fit_at}
+use Rattle.tree.proofs.Laws.Stands.{tree_inside, tree_few}
+use Rattle.tree.proofs.Laws.Within.{records-at, fit_at}
 use Rattle.walk.specs.Contract.{SomeTree, Extends}
 
 -- how many records are passed, k children being to come; a child that does not come counts as one

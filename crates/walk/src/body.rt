@@ -8,7 +8,7 @@ use semantic::NONE;
 use table::wide;
 use tree::form::{AND, CALL, IDENTIFIER, LAMBDA};
 
-#[derive(Drop)]
+#[derive(Clone, Copy)]
 pub struct Body {
     pub builtin: bool,
     pub required: bool,

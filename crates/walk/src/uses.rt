@@ -9,7 +9,7 @@ use table::wide;
 use tree::form::{IDENTIFIER, LAMBDA, SET};
 
 // Names of a lambda or a let: the record of the first, and how many.
-#[derive(Drop)]
+#[derive(Clone, Copy)]
 pub struct Names {
     pub first: usize,
     pub count: usize,

@@ -10,7 +10,7 @@ use Rattle.table.specs.Laws.Region.{set-region, set_elsewhere, elsewhere_same, e
 use Rattle.tree.specs.Tree.{bit}
 use Rattle.scope_map.specs.ScopeMap.{Live, push_layer, pop_layer, get_in}
 use Rattle.scope_map.specs.Map.{map_values}
-use Rattle.scope_map.specs.Laws.Map.{map-pop_layer}
+use Rattle.scope_map.proofs.Laws.Map.{map-pop_layer}
 use Rattle.scope_map.specs.Held.{Gets}
 use Rattle.scope_map.specs.Held as map
 use Rattle.scope_map.specs.declared.ScopeMap.{ScopeMap as Map}

@@ -10,7 +10,7 @@ use Rattle.table.specs.Region.{region, replaced}
 use Rattle.table.specs.Laws.Region.{Elsewhere, replaced-region, replaced_elsewhere, sets_replaced, elsewhere_then, elsewhere_wider}
 use Rattle.scope_map.specs.ScopeMap.{ScopeMap, define}
 use Rattle.scope_map.specs.Map.{map_live, map_values}
-use Rattle.scope_map.specs.Laws.Map.{map-length, map-has_at_top, map-define}
+use Rattle.scope_map.proofs.Laws.Map.{map-length, map-has_at_top, map-define}
 use Rattle.scope_map.specs.Hints.{rows_length}
 use Rattle.scope_map.specs.Held.{Held, place_in, Places}
 use Rattle.scope_map.specs.Held as map

@@ -11,10 +11,10 @@ use lib.Dec.{eqb, ltb}
 use Rattle.table.specs.Region.{region}
 use Rattle.table.specs.Laws.Region.{Elsewhere}
 use Rattle.scope_map.specs.ScopeMap.{ScopeMap, Live, is_at, replace_in, below_layer, get_in, pop_layer, has_at_top, define}
-use Rattle.scope_map.specs.Laws.Size.{replace_size}
+use Rattle.scope_map.proofs.Laws.Size.{replace_size}
 use Rattle.scope_map.specs.Map.{map_value, map_live}
-use Rattle.scope_map.specs.Laws.Map.{map-length}
-use Rattle.scope_map.specs.Laws.Rows.{place_below}
+use Rattle.scope_map.proofs.Laws.Map.{map-length}
+use Rattle.scope_map.proofs.Laws.Rows.{place_below}
 use Rattle.scope_map.specs.Held.{found_in, place_in}
 use Rattle.scope_map.specs.declared.Found.TheVariants.{At}
 use Rattle.pass.specs.State.{Capture}

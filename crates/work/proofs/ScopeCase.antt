@@ -1,5 +1,5 @@
 -- The live names, against the map of the code.
-use Prim.Native.Nat.{ℕ, suc, ◌+◌, ◌-◌, ◌*◌, ◌≤◌, ◌<◌}
+use Prim.Native.Nat.{ℕ, suc, ◌+◌, ◌-◌, ◌≤◌, ◌<◌}
 use mathlib.Core.List.{List, [], ◌∷◌, ◌++◌, reverse, reverse-cons, reverse-append}
 use mathlib.Core.Bool.{Bool, true, false, cond, ◌&&◌}
 use mathlib.Core.Option
@@ -14,11 +14,11 @@ use Rattle.table.specs.Laws.Region.{Elsewhere, replaced-region, replaced_elsewhe
 use Rattle.tree.specs.Record.{Record, records, nth}
 use Rattle.tree.specs.Tree.{Ident}
 use Rattle.scope_map.specs.ScopeMap.{ScopeMap, Live, layer_in, below_layer, get, has_at_top, define}
-use Rattle.scope_map.specs.Laws.Size.{below-size}
+use Rattle.scope_map.proofs.Laws.Size.{below-size}
 use Rattle.scope_map.specs.Map.{map_value, map_values}
-use Rattle.scope_map.specs.Laws.Map.{map-length, map_get_d, map_get, map-has_at_top, map-define, map-below_layer}
+use Rattle.scope_map.proofs.Laws.Map.{map-length, map_get_d, map_get, map-has_at_top, map-define, map-below_layer}
 use Rattle.scope_map.specs.Rows.{row_at, live_of}
-use Rattle.scope_map.specs.Laws.Rows.{length_live_in, live_row}
+use Rattle.scope_map.proofs.Laws.Rows.{length_live_in, live_row}
 use Rattle.scope_map.specs.Hints.{Roomy}
 use Rattle.scope_map.specs.Held.{entry_of, Gets, Places, DefinesAt, Starts}
 use Rattle.scope_map.specs.Held as map

@@ -22,7 +22,7 @@ const TAKEN_ROW: usize = 2;
 
 // What is known of a capture beside the row that it stands for: the record and the id of its binder, its uses, and whether the lambda
 // around takes the name too.
-#[derive(Drop)]
+#[derive(Clone, Copy)]
 pub struct Capture {
     pub binder: u32,
     pub id: u32,

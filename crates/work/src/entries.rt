@@ -10,7 +10,7 @@ ghost use Rattle.work.specs.Leaves.{LoadsEntry, StoresEntry};
 use crate::{ENTRIES, ENTRY, narrow};
 use semantic::NONE;
 
-#[derive(Drop)]
+#[derive(Clone, Copy)]
 pub struct Entry {
     pub captured: bool,
     pub mutated: bool,

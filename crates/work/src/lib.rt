@@ -33,20 +33,20 @@ pub const BINDERS: usize = 55296;
 pub const WORK: usize = 59392;
 
 // The record of a refusal's first place, counted from 1; 0 where nothing is noted. No enum, here and in the next (docs/SPEED.md, 24).
-#[derive(Drop)]
+#[derive(Clone, Copy)]
 pub struct Noted {
     pub code: usize,
 }
 
 // The first refusal of a second run: its number and record. The number is 0 where nothing is noted.
-#[derive(Drop)]
+#[derive(Clone, Copy)]
 pub struct Second {
     pub number: u32,
     pub at: usize,
 }
 
 // What a visit threads beside the tables.
-#[derive(Drop)]
+#[derive(Clone, Copy)]
 pub struct Pass {
     // `defining_context`: the id of the define that the walk is in, or NONE
     pub context: u32,

@@ -15,7 +15,7 @@ use semantic::NONE;
 use table::wide;
 
 // The binder's record of a name's newest entry.
-#[derive(Drop)]
+#[derive(Clone, Copy)]
 pub enum Binder {
     At(usize),
     Nothing,

@@ -10,7 +10,7 @@ use Rattle.tree.specs.Record.{records}
 use Rattle.tree.specs.Tree.{Trees}
 use Rattle.tree.specs.Check.{Refusal}
 use Rattle.tree.specs.Accepted.{Accepted}
-use Rattle.tree.specs.Laws.Acceptance.{many-records}
+use Rattle.tree.proofs.Laws.Acceptance.{many-records}
 use Rattle.pass.specs.State.{Entry, Facts, State, no_entry, entry_at}
 use Rattle.pass.specs.Run.{rows_most, work_length, Tables, run, tables_of, refused_first, nine_or, ten_at, outcome}
 use Rattle.pass_laws.specs.Laws.Sound.Lists.{same_each}

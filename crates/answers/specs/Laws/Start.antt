@@ -7,10 +7,10 @@ use Rattle.table.specs.Laws.Layout.{zeros-layout}
 use Rattle.table.specs.Region.{region}
 use Rattle.scope_map.specs.ScopeMap.{new}
 use Rattle.scope_map.specs.Map.{map_values}
-use Rattle.scope_map.specs.Laws.Map.{map-new}
+use Rattle.scope_map.proofs.Laws.Map.{map-new}
 use Rattle.scope_map.specs.Hints.{rows_length, hints_length, map_length}
 use Rattle.scope_map.specs.Held.{Held}
-use Rattle.scope_map.specs.Laws.Held.{held_new}
+use Rattle.scope_map.proofs.Laws.Held.{held_new}
 use Rattle.semantic.specs.Rows as rows
 use Rattle.semantic.specs.Rows.{row_width, put_row, no_list_entry, list_entry_width, put_info, put_list_entry}
 use Rattle.semantic.specs.Laws.Rows.{row_long, list-entry_long}

@@ -4,7 +4,7 @@ use Rattle.std.proofs.Common.{⊎_elim, sym, ◌∙◌}
 use Rattle.std.proofs.Math.Option.{Option, none, some}
 use Rattle.tree.specs.Record.{Record, numbers}
 use Rattle.tree.specs.Check.{Refusal, refusal}
-use Rattle.tree.specs.Laws.Acceptance.{accepted as acceptance}
+use Rattle.tree.proofs.Laws.Acceptance.{accepted as acceptance}
 use Rattle.pass.specs.Run.{Tables}
 use Rattle.printing.specs.Laws.Below.{below_or}
 use Rattle.reading.specs.Reading.{Answer, bad, good, read}

@@ -4,7 +4,7 @@ use Rattle.std.proofs.Common.{true≢false, ⊎_elim, ap, sym, ◌∙◌, arith}
 use Rattle.std.proofs.Math.Option.{Option, none, some, some-ne-none}
 use Rattle.tree.specs.Record.{Record, numbers}
 use Rattle.tree.specs.Check.{Refusal, refusal}
-use Rattle.tree.specs.Laws.Acceptance.{accepted as acceptance, only, unique}
+use Rattle.tree.proofs.Laws.Acceptance.{accepted as acceptance, only, unique}
 use Rattle.printing.specs.Laws.Below.{below_or}
 use Rattle.printing.specs.Text.{bad_text}
 use Rattle.reading.specs.Reading.{Answer, bad, good, read}

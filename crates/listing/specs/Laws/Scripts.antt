@@ -5,7 +5,7 @@ use Prim.Native.String.{String, [] as empty, ◌∷◌ as ◌then◌}
 use Rattle.std.proofs.Common.{subst}
 use Rattle.std.proofs.Math.Bridge.{le_by_compare, IsLe}
 use Rattle.tree.specs.Tree.{flat, flats}
-use Rattle.pass.specs.Laws.Scripts.{Script, classes, fresh_run, AsSaid, sample, no_records, all_as_said}
+use Rattle.pass.proofs.Laws.Scripts.{Script, classes, fresh_run, AsSaid, sample, no_records, all_as_said}
 use Rattle.printing.specs.Numeral.{numeral, numeral_in}
 use Rattle.printing.specs.Text.{LF, or_none, row_text, count, percent, summary_text, rows_text, facts_text}
 use Rattle.reading.specs.Reading.{after, digits, fit, number_at, field_at, numbers_of, next, first, class, entry, with_line, with_byte, with_bytes, ending, answer, good, read}

@@ -13,7 +13,7 @@ use Rattle.scope_map.specs.ScopeMap as map
 use Rattle.semantic.specs.declared.IdentifierStatus.TheVariants.{Local, LetVar}
 use Rattle.semantic.specs.declared.FunctionInformation.{FunctionInformation}
 use Rattle.r7rs.specs.Binding.{Binder, Place, Use, lambda_body, let_body, parameters, let_names}
-use Rattle.pass.specs.State.{Entry, Capture, Scope, State, with_names, row_at, entry_at, depth}
+use Rattle.pass.specs.State.{Entry, Capture, Scope, State, with_names, row_at, entry_at}
 use Rattle.pass.specs.Lambda.{function_in, open_captures, open_scope, enter_parameters, open_lambda, close_scope, close_captures, close_lambda, let_arguments, heaps_around, open_layer, close_layer, at_bottom, open_let, leave_names, entered, close_let}
 use Rattle.pass_laws.specs.Laws.Changes.{Steps, captures, quiet}
 use Rattle.pass_laws.specs.Laws.Moves.{by, opens, ◌⨟◌, out_of_let, out_of_lambda}

@@ -12,9 +12,9 @@ use Rattle.tree.specs.Accepted.{All}
 use Rattle.semantic.specs.Information.{NONE}
 use Rattle.semantic.specs.Rows.{Row, Blank, CallSite}
 use Rattle.semantic.specs.declared.CallSiteInformation.{CallSiteInformation}
-use Rattle.r7rs.specs.Tail.{Call, calls, calls_in, calls_last_lem, calls_tested}
+use Rattle.r7rs.specs.Tail.{Call, calls, calls_in, calls_last, calls_tested}
 use Rattle.tree.specs.Core.{core, cores, is_constant, is_constant_form}
-use Rattle.tree.specs.Laws.Site.{let_le}
+use Rattle.tree.proofs.Laws.Site.{let_le}
 use Rattle.semantic.specs.declared.IdentifierStatus.TheVariants.{LocallyDefinedFunction, Global}
 use Rattle.pass.specs.State.{Facts, State, with_context, insert, row_at, depth}
 use Rattle.semantic.specs.Kinds.{is_tail}
@@ -219,14 +219,14 @@ module _ (classes : List ℕ) (N : ℕ) (T : List Row) where
         (marks_in (i + size t) ts n.1 (pushed f) s₁ e r₁ (omega arith) (narrow ag (omega arith) (omega arith)))
 
     marks-last : (i : ℕ) (ts : Trees) → Nums i ts → (f : Flags) (s : State) → Ready N f.tail s → i + sizes ts ≤ N
-        → Agree i (i + sizes ts) T (visit_children classes ts f s) → All (Marked T) (calls_last_lem ts f.tail)
+        → Agree i (i + sizes ts) T (visit_children classes ts f s) → All (Marked T) (calls_last ts f.tail)
     marks-last i nil n f s r h ag = tt
     marks-last i (cons t nil) n f s r h ag =
         marks i t n.0 (child_flags true f) s r (omega arith) (narrow ag (omega arith) (omega arith))
     marks-last i (cons t (cons u us)) n f s r h ag =
         let s₁ = visit classes t (child_flags false f) s in
         let r₁ = still r (visited classes t (child_flags false f) s r.bottom) in
-        all-++ (Marked T) (calls t false) (calls_last_lem (cons u us) f.tail)
+        all-++ (Marked T) (calls t false) (calls_last (cons u us) f.tail)
         (marks i t n.0 (child_flags false f) s (untailed r) (omega arith)
         (earlier ag (omega arith) (omega arith)
         (by (children_visited classes (cons u us) f s₁ (trees_writes _ (i + size t) (cons u us) n.1 (λ x l u y z. omega arith)) r₁.bottom))))
@@ -241,7 +241,7 @@ module _ (classes : List ℕ) (N : ℕ) (T : List Row) where
         let s₂ = enter_children classes LocallyDefinedFunction (cores ts) s₁ in
         let r₂ = still r₁ (children_changes classes LocallyDefinedFunction (cores ts) s₁ (trees_any (cores ts))) in
         let writes = trees_writes (Off i (i + size t)) (i + size t) ts n.1 (λ x l u y z. omega arith) in
-        all-++ (Marked T) (calls t false) (calls_last_lem ts f.tail)
+        all-++ (Marked T) (calls t false) (calls_last ts f.tail)
         (marks i t n.0 (not_tail f) s (untailed r) (omega arith)
         (earlier ag (omega arith) (omega arith)
         (by (children_changes classes _ (cores ts) s₁ (writes_cores _ _ ts writes) ⨾ children_visited classes ts (in_begin f) s₂ writes r₂.bottom))))

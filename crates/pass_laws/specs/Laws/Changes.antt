@@ -24,7 +24,7 @@ pub record Later (m n : Noted) : Type 0 where
   pub second : n.second ≡ none → m.second ≡ none
   pub first_nine : (i : ℕ) → m.nine ≡ some i → n.nine ≡ some i
   pub first_ten : (i : ℕ) → m.ten ≡ some i → n.ten ≡ some i
-  pub first_second_lem : (r : Refusal) → m.second ≡ some r → n.second ≡ some r
+  pub first_second : (r : Refusal) → m.second ≡ some r → n.second ≡ some r
   pub numbers : Second m.second → Second n.second
 
 -- and no 9 is noted anew unless names change
@@ -191,7 +191,7 @@ keeps_depth c h = same_depth c h
 
 -- Refusals: one that was noted stays
 pub no_later : {n : Noted} → Later n n
-no_later = record { nine = λ e. e; ten = λ e. e; second = λ e. e; first_nine = λ i e. e; first_ten = λ i e. e; first_second_lem = λ r e. e; numbers = λ h. h }
+no_later = record { nine = λ e. e; ten = λ e. e; second = λ e. e; first_nine = λ i e. e; first_ten = λ i e. e; first_second = λ r e. e; numbers = λ h. h }
 
 pub later_trans : {l m n : Noted} → Later l m → Later m n → Later l n
 later_trans p q =
@@ -201,7 +201,7 @@ later_trans p q =
       second = λ e. p.second (q.second e);
       first_nine = λ i e. q.first_nine i (p.first_nine i e);
       first_ten = λ i e. q.first_ten i (p.first_ten i e);
-      first_second_lem = λ r e. q.first_second_lem r (p.first_second_lem r e);
+      first_second = λ r e. q.first_second r (p.first_second r e);
       numbers = λ h. q.numbers (p.numbers h);
     }
 

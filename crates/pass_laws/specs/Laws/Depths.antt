@@ -10,7 +10,7 @@ use Rattle.tree.specs.Core.{cores}
 use Rattle.tree.specs.Define.{top_level}
 use Rattle.tree.specs.Site.{lambdas, lambdas_in, let_layer}
 use Rattle.tree.specs.Accepted.{All}
-use Rattle.tree.specs.Laws.Site.{let_le}
+use Rattle.tree.proofs.Laws.Site.{let_le}
 use Rattle.scope_map.specs.ScopeMap.{ScopeMap}
 use Rattle.semantic.specs.Information.{NONE}
 use Rattle.semantic.specs.Rows.{Row, Blank, Variable, Function, CallSite, Let, ListEntry}

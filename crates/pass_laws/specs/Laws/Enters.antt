@@ -134,7 +134,7 @@ module _ (kind : IdentifierStatus) (base : ℕ) (heaps : Option ℕ) (is_let : B
       let next : ℕ → Type 0 = λ y. own y × ¬ (y ≡ x.at) in
       let parts : Parts own (Only x.at) next = record { written = λ y q. subst own (sym q) here; kept = λ y z. z.0; apart = λ y z q. z.1 q } in
       let one = name_finds x j h parts here f ((keeps_noted later).nine n) in
-      let rest = enter-all {left = left} classes (k + 1) xs (suc j) h m.1 (λ y u v. (o y (omega arith) (omega arith), λ q. omega arith))
+      let rest = enter-all {own = next} {left = left} classes (k + 1) xs (suc j) h m.1 (λ y u v. (o y (omega arith) (omega arith), λ q. omega arith))
       (λ y z. (l y z, λ q. a y z (omega arith) (omega arith))) (λ y z u v. a y z (omega arith) (omega arith)) e one n in
       record {
         finds = rest.finds;

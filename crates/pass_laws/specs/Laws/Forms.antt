@@ -11,7 +11,7 @@ use Rattle.tree.specs.Site.{let_layer}
 use Rattle.scope_map.specs.ScopeMap.{Live}
 use Rattle.semantic.specs.Rows.{Row, Blank}
 use Rattle.r7rs.specs.Binding.{Binder, Place, Use, Event, binders, let_body, let_names, within, mentions, ends, entering, walk, walk_arguments}
-use Rattle.pass.specs.State.{State, row_at, depth}
+use Rattle.pass.specs.State.{State, row_at}
 use Rattle.pass.specs.Read.{read, mutate}
 use Rattle.pass.specs.Lambda.{close_lambda, at_bottom, open_let, close_let}
 use Rattle.pass_laws.specs.Static.{Presumption, Ctx, lookup, Noted, Ref, Aim, Rec, r_ident, r_let, Args}

@@ -1,7 +1,6 @@
 -- A fresh visit of a tree with no define in it: its rows say what R7RS has of each name, and have the static meaning.
 use Rattle.std.specs.Prelude.{ℕ, suc, ◌+◌, ◌≤◌, Bool, true, false, ◌≡◌, refl, length, get_or, eqb}
 use mathlib.Core.List.{List, [], ◌++◌, append-nil, cons-ne-nil}
-use Rattle.std.proofs.Math.Bool.{and-true, and-false}
 use Rattle.std.proofs.Math.Option.{none}
 use Rattle.std.proofs.Common.{ap, sym, subst, ◌∙◌, add-one, arith}
 use Rattle.tree.specs.Tree.{Ident, Tree, Trees, ident, const, if, letin, define, lambda, sequence, call, set!, nil, cons, many, size, sizes, Num, Nums, Node, begins, ands, whens}

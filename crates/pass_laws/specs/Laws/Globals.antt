@@ -4,7 +4,7 @@ use mathlib.Core.List.{List, [], ◌∷◌}
 use Rattle.std.proofs.Math.Path.{refl, ap}
 use Rattle.std.proofs.Common.{sym, subst, ◌∙◌, arith, get_or-set_same}
 use Rattle.tree.specs.Tree.{Ident, Tree, Trees, ident, const, if, letin, define, lambda, sequence, call, set!, nil, cons, size, Num}
-use Rattle.tree.specs.Laws.Tree.{size_pos}
+use Rattle.tree.proofs.Laws.Tree.{size_pos}
 use Rattle.tree.specs.Accepted.{All}
 use Rattle.scope_map.specs.ScopeMap.{ScopeMap, Live, is_at, has_in, replace_in}
 use Rattle.scope_map.specs.ScopeMap as map
@@ -12,7 +12,7 @@ use Rattle.semantic.specs.declared.IdentifierStatus.{IdentifierStatus}
 use Rattle.r7rs.specs.Binding.{Use, top}
 use Rattle.r7rs.specs.Bottom.{Define, define_of}
 use Rattle.semantic.specs.Information.{NONE}
-use Rattle.pass.specs.State.{Entry, Capture, State, no_entry, insert, put_entry, top_level_entry, newest, depth}
+use Rattle.pass.specs.State.{Entry, Capture, State, no_entry, insert, put_entry, top_level_entry, newest}
 use Rattle.pass.specs.Read.{enter, enter_define, enter_top_level_value}
 use Rattle.pass.specs.Visit.{is_lambda, enter_if_lambda, enter_child, enter_children}
 use Rattle.pass_laws.specs.Laws.Moves.{by}
@@ -156,7 +156,7 @@ module _ (classes : List ℕ) (kind : IdentifierStatus) (I : (ℕ → Type 0) �
       let k = p.0 + size t in
       let le = p.1 in
       let end = spread_end k j ts p.3 in
-      enter-all k j ts p.3 (λ y u v. (o y (omega arith) v, spared_past p.0 t p.2 y (λ c d. omega arith))) (λ y z. (l y z, (a y z).0)) (λ y z. (a y z).1)
+      enter-all {own = λ y. own y × SparedBy t y} k j ts p.3 (λ y u v. (o y (omega arith) v, spared_past p.0 t p.2 y (λ c d. omega arith))) (λ y z. (l y z, (a y z).0)) (λ y z. (a y z).1)
       (enter_one {left = λ y. own y × SparedBy t y} p.0 t p.2 (λ y u v. o y (omega arith) (omega arith)) (λ y z. z.0) (λ y z. z.1) f)
 
 pub enter_tops : (classes : List ℕ) (kind : IdentifierStatus) {own left : ℕ → Type 0} {bottom : List (Live Ident)} {before : List Use} {s : State} (i j : ℕ) (ts : Trees)

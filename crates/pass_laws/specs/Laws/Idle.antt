@@ -1,11 +1,9 @@
 -- The steps that leave the captured and argument lists alone.
 use Rattle.std.specs.Prelude.{ℕ, [], ◌≡◌, refl}
 use Rattle.std.proofs.Common.{◌∙◌}
-use Rattle.scope_map.specs.ScopeMap as map
 use Rattle.semantic.specs.Rows.{Row}
 use Rattle.pass.specs.State.{Facts, State, insert, amend, put_entry}
 use Rattle.pass.specs.Lambda.{close_scope, close_captures}
-use Rattle.pass_laws.specs.Laws.Leaves.{names}
 use Rattle.pass_laws.specs.Laws.Preserved.{Preserves}
 
 -- the lists of a state, with their tables

@@ -3,7 +3,7 @@ use Rattle.std.specs.Prelude.{ℕ, suc, ◌+◌, ◌≤◌, ◌<◌, List, ◌++
 use Rattle.std.proofs.Common.{append_assoc, append-nil, ap, ap₂, sym, ◌∙◌, arith}
 use Rattle.tree.specs.Tree.{Tree, Trees, ident, const, if, letin, define, lambda, sequence, call, set!, nil, cons, size, sizes, Num, Nums, begins, ands, whens}
 use Rattle.tree.specs.Core.{core, cores}
-use Rattle.tree.specs.Laws.Core.{to_core}
+use Rattle.tree.proofs.Laws.Core.{to_core}
 use Rattle.tree.specs.Define.{◌⊕◌, top_of, top_level}
 use Rattle.tree.specs.Site.{lambdas, lambdas_in, let_layer}
 use Rattle.tree.specs.Accepted.{All}

@@ -7,14 +7,14 @@ use Rattle.std.proofs.Common.{ap, sym, subst, ◌∙◌, arith}
 use Rattle.tree.specs.Tree.{Ident, Node, Tree, Trees, ident, const, if, letin, define, lambda, sequence, call, set!, nil, cons, many, begins, ands, whens}
 use Rattle.tree.specs.Define.{defines, defines_in}
 use Rattle.tree.specs.Core.{cores}
-use Rattle.tree.specs.Laws.Core.{defines_cores}
+use Rattle.tree.proofs.Laws.Core.{defines_cores}
 use Rattle.scope_map.specs.ScopeMap.{ScopeMap}
 use Rattle.semantic.specs.Information.{NONE}
 use Rattle.semantic.specs.declared.IdentifierStatus.TheVariants.{LocallyDefinedFunction}
 use Rattle.pass.specs.State.{info_at, Noted, State, insert, amend, row_at, put_entry, newest, depth}
 use Rattle.pass.specs.Lambda.{open_lambda, close_scope, close_lambda, close_layer, at_bottom, open_let, leave_names, entered, close_let}
 use Rattle.pass.specs.Visit.{Flags, not_tail, same_tail, pushed, let_body_flags, body_flags, argument_flags, head_flags, is_nil, child_flags, enter_child, enter_children, visit, visit_arguments, visit_children, in_begin, in_and, is_alone, visit_tested}
-use Rattle.pass.specs.Read.{has_number, Rule, no_entry, depth_one, current_layer_lem, taken_capture, home_slot_lem, read_by, read, rule_of, mutate_at, mutate}
+use Rattle.pass.specs.Read.{has_number, Rule, no_entry, depth_one, current_layer, taken_capture, home_slot, read_by, read, rule_of, mutate_at, mutate}
 use Rattle.pass_laws.specs.Laws.Changes.{Steps, Changes, keeps_depth, keeps_noted, same, ◌⨾◌, context}
 use Rattle.pass_laws.specs.Laws.Scopes.{Any, names-any, make_changes, leave_changes, leaving_changes, lambda_changes, lambda_depth, let_changes, let_stays}
 use Rattle.pass_laws.specs.Laws.Names.{read_changes, mutate_changes}
@@ -87,9 +87,9 @@ pub by_names : (classes : List ℕ) (r : Rule) (x : Ident) (s : State) → names
 unfolding insert amend put_entry
 by_names classes no_entry x s = refl
 by_names classes (depth_one b) x s = refl
-by_names classes (current_layer_lem b) x s = refl
+by_names classes (current_layer b) x s = refl
 by_names classes (taken_capture b c) x s = either_names (has_number (info_at s c.row).read_capture_offset && eqb (info_at s c.row).capture_offset NONE) _ _ refl
-by_names classes (home_slot_lem b) x s = refl
+by_names classes (home_slot b) x s = refl
 
 pub read_restores : (classes : List ℕ) (x : Ident) (s : State) → Restores s (read classes x s)
 unfolding read

@@ -13,7 +13,7 @@ use Rattle.semantic.specs.declared.IdentifierStatus.{IdentifierStatus}
 use Rattle.semantic.specs.declared.ScopeInfo.{ScopeInfo}
 use Rattle.semantic.specs.declared.SemanticInformation.{SemanticInformation}
 use Rattle.pass.specs.State.{info_at, row_at, Entry, Noted, State, with_names, depth, newest, or_kept, note_nine, note_ten, note_second, put_entry}
-use Rattle.pass.specs.Read.{note_live, enter, enter_define, mark_if, shadow_if_builtin, shadow, enter_top_level_value, Rule, no_entry, depth_one, current_layer_lem, taken_capture, home_slot_lem, rule_of, has_number, note_taken, one_use_more, read_by, read, mutate_at, mutate}
+use Rattle.pass.specs.Read.{note_live, enter, enter_define, mark_if, shadow_if_builtin, shadow, enter_top_level_value, Rule, no_entry, depth_one, current_layer, taken_capture, home_slot, rule_of, has_number, note_taken, one_use_more, read_by, read, mutate_at, mutate}
 use Rattle.semantic.specs.Kinds.{is_call_site}
 use Rattle.pass_laws.specs.Laws.Rows.{lasting}
 use Rattle.pass_laws.specs.Laws.Changes.{lasting_entry, Used, Second, Later, CallSteps, CallChanges, same, ◌⨾◌, either, row, mark, entry, used, names, captures, note}
@@ -40,17 +40,17 @@ kept_first none a b e = absurd (none-ne-some b e)
 kept_first (some c) a b e = e
 
 nine_later : (i : ℕ) (n : Noted) → Later n (record { nine = or_kept n.nine i; ten = n.ten; second = n.second })
-nine_later i n = record { nine = kept_none n.nine i; ten = λ e. e; second = λ e. e; first_nine = kept_first n.nine i; first_ten = λ j e. e; first_second_lem = λ r e. e; numbers = λ h. h }
+nine_later i n = record { nine = kept_none n.nine i; ten = λ e. e; second = λ e. e; first_nine = kept_first n.nine i; first_ten = λ j e. e; first_second = λ r e. e; numbers = λ h. h }
 
 ten_later : (i : ℕ) (n : Noted) → Later n (record { nine = n.nine; ten = or_kept n.ten i; second = n.second })
-ten_later i n = record { nine = λ e. e; ten = kept_none n.ten i; second = λ e. e; first_nine = λ j e. e; first_ten = kept_first n.ten i; first_second_lem = λ r e. e; numbers = λ h. h }
+ten_later i n = record { nine = λ e. e; ten = kept_none n.ten i; second = λ e. e; first_nine = λ j e. e; first_ten = kept_first n.ten i; first_second = λ r e. e; numbers = λ h. h }
 
 kept_second : (o : Option Refusal) (k i : ℕ) → (11 ≤ k) × (k ≤ 12) → Second o → Second (or_kept o (record { number = k; at = i }))
 kept_second none k i b h r e = let q : k ≡ r.number = ap (λ (p : Refusal). p.number) (some-injective _ _ e) in (omega (arith, q, b.0), omega (arith, q, b.1))
 kept_second (some a) k i b h r e = h r e
 
 second_later : (k i : ℕ) (n : Noted) → (11 ≤ k) × (k ≤ 12) → Later n (record { nine = n.nine; ten = n.ten; second = or_kept n.second (record { number = k; at = i }) })
-second_later k i n b = record { nine = λ e. e; ten = λ e. e; second = kept_none n.second _; first_nine = λ j e. e; first_ten = λ j e. e; first_second_lem = kept_first n.second _; numbers = kept_second n.second k i b }
+second_later k i n b = record { nine = λ e. e; ten = λ e. e; second = kept_none n.second _; first_nine = λ j e. e; first_ten = λ j e. e; first_second = kept_first n.second _; numbers = kept_second n.second k i b }
 
 marked_if : (b : Bool) (v : SemanticInformation) → lasting (mark_if b mark_shadowed v) ≡ lasting v
 marked_if true v = refl
@@ -91,10 +91,10 @@ module _ {own sites : ℕ → Type 0} where
     pub by_changes : (r : Rule) (x : Ident) (s : State) → own x.at → CallChanges own sites s (read_by classes r x s)
     by_changes no_entry x s o = unfound_changes classes x s o
     by_changes (depth_one b) x s o = used tt b.at _ (read-used refl refl refl) ⨾ mark one_use_more b.at (λ v. refl) ⨾ row x.at _ o (λ e. refl)
-    by_changes (current_layer_lem b) x s o = used tt b.at _ (read-used refl refl refl) ⨾ mark (with_usage_count _) b.at (λ v. refl) ⨾ row x.at _ o (λ e. refl)
+    by_changes (current_layer b) x s o = used tt b.at _ (read-used refl refl refl) ⨾ mark (with_usage_count _) b.at (λ v. refl) ⨾ row x.at _ o (λ e. refl)
     by_changes (taken_capture b c) x s o =
         captures tt _ ⨾ used tt b.at _ (captured_used refl refl refl) ⨾ mark (with_usage_count _) c.binder.at (λ v. refl) ⨾ row x.at _ o (λ e. refl) ⨾ taken_changes (info_at s c.row) x _
-    by_changes (home_slot_lem b) x s o = used tt b.at _ (captured_used refl refl refl) ⨾ mark (with_usage_count _) b.at (λ v. refl) ⨾ row x.at _ o (λ e. refl)
+    by_changes (home_slot b) x s o = used tt b.at _ (captured_used refl refl refl) ⨾ mark (with_usage_count _) b.at (λ v. refl) ⨾ row x.at _ o (λ e. refl)
 
     pub read_changes : (x : Ident) (s : State) → own x.at → CallChanges own sites s (read classes x s)
     unfolding read

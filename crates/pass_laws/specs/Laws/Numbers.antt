@@ -6,7 +6,7 @@ use Rattle.std.proofs.Math.Decide.{ℕ_discrete}
 use Rattle.tree.specs.Tree.{Trees}
 use Rattle.tree.specs.Define.{top_level}
 use Rattle.tree.specs.Check.{Refusal, refusal, or_else, member, check1, check2, check3, check4, check5, check6, check7, check16, check8}
-use Rattle.tree.specs.Laws.Acceptance.{accepted}
+use Rattle.tree.proofs.Laws.Acceptance.{accepted}
 use Rattle.semantic.specs.declared.IdentifierStatus.TheVariants.{Global}
 use Rattle.pass.specs.State.{Facts, Noted, depth}
 use Rattle.pass.specs.Run.{start, run, fresh, settled, refused_first, nine_or, ten_at, or_second, Tables, Outcome, outcome, fresh_outcome, settled_outcome, fitting, Answers, Fresh, Settled}

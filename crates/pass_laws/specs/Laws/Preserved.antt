@@ -4,7 +4,7 @@ use mathlib.Core.List.{List, [], ◌∷◌}
 use Rattle.std.proofs.Math.Bool.{true, false}
 use Rattle.std.proofs.Math.Option.{Option, none, some}
 use Rattle.std.proofs.Math.Dec.{ltb}
-use Rattle.tree.specs.Tree.{Ident, Node, Tree, Trees, lambda, nil, cons}
+use Rattle.tree.specs.Tree.{Ident, Node, Tree, Trees, nil, cons}
 use Rattle.tree.specs.Core.{core, cores}
 use Rattle.scope_map.specs.ScopeMap.{ScopeMap, Live, has_at_top}
 use Rattle.semantic.specs.Amend.{used_or}
@@ -17,7 +17,7 @@ use Rattle.semantic.specs.declared.IdentifierStatus.TheVariants.{Local}
 use Rattle.semantic.specs.declared.LetInformation.{LetInformation}
 use Rattle.semantic.specs.declared.SemanticInformation.{SemanticInformation}
 use Rattle.pass.specs.State.{Entry, State, with_names, with_context, info_at, row_at, insert, amend, entry_at, put_entry, newest, depth, note_nine, note_second}
-use Rattle.pass.specs.Read.{note_live, enter, enter_define, shadow, enter_top_level_value, Rule, no_entry, depth_one, current_layer_lem, taken_capture, home_slot_lem, rule_of, use_capture, has_number, read_by, read, mutate_at, mutate}
+use Rattle.pass.specs.Read.{note_live, enter, enter_define, shadow, enter_top_level_value, Rule, no_entry, depth_one, current_layer, taken_capture, home_slot, rule_of, use_capture, has_number, read_by, read, mutate_at, mutate}
 use Rattle.pass.specs.Lists.{store_arguments}
 use Rattle.pass.specs.Lambda.{is_heap, note_heap, enter_name, enter_names, mark_last, open_scope, enter_parameters, mark_lasts, close_scope, end_parameters, open_layer, close_layer, at_bottom, open_let, leave_names, entered, close_let}
 use Rattle.pass.specs.Visit.{Flags, mark_arguments, is_self, mark_if_tail, close_call, clear_context, open_define, close_define, enter_child, enter_children}
@@ -102,12 +102,12 @@ module _ {enters : Type 0} {R : State → State → Type 0} (K : Preserves (Unit
   pub by_preserves : (classes : List ℕ) (r : Rule) (x : Ident) (s : State) → R s (read_by classes r x s)
   by_preserves classes no_entry x s = K.used tt x.at _ s
   by_preserves classes (depth_one b) x s = found b.at _ b.at _ x _ s
-  by_preserves classes (current_layer_lem b) x s = found b.at _ b.at _ x _ s
+  by_preserves classes (current_layer b) x s = found b.at _ b.at _ x _ s
   by_preserves classes (taken_capture b c) x s =
       let v = info_at s c.row in
       K.join (K.join (K.capture tt x.name s) (found b.at _ c.binder.at _ x _ _))
       (either K (has_number v.read_capture_offset && eqb v.capture_offset NONE) (K.second tt 12 x.at _) (K.same _))
-  by_preserves classes (home_slot_lem b) x s = found b.at _ b.at _ x _ s
+  by_preserves classes (home_slot b) x s = found b.at _ b.at _ x _ s
 
   pub read_preserves : (classes : List ℕ) (x : Ident) (s : State) → R s (read classes x s)
   unfolding read

@@ -7,7 +7,7 @@ use mathlib.Core.List.{Memᴰ as Member}
 use Rattle.std.proofs.Common.{true≢false, ap, sym, ◌∙◌, eqb-true, eq-eqb}
 use Rattle.std.proofs.Math.Bool.{or-true}
 use Rattle.std.proofs.Math.Option.{Option, none, some}
-use Rattle.r7rs.specs.Binding.{Binder, Mention, Event, enters, mentions, ends, meant, is_inner, Use, use_of}
+use Rattle.r7rs.specs.Binding.{Binder, Mention, Event, enters, mentions, ends, meant, Use, use_of}
 use Rattle.pass_laws.specs.Static.{Presumption}
 use Rattle.pass_laws.specs.Laws.Says.{uses_in, is_set_use, any_use, is_set_in, Presumed, Presumes}
 

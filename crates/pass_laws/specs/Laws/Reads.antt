@@ -16,9 +16,9 @@ use Rattle.semantic.specs.declared.IdentifierStatus.{IdentifierStatus}
 use Rattle.semantic.specs.declared.IdentifierStatus.TheVariants.{Global as GlobalKind, Local, Free, HeapAllocated}
 use Rattle.semantic.specs.declared.Span.{Span}
 use Rattle.semantic.specs.declared.SemanticInformation.{SemanticInformation}
-use Rattle.r7rs.specs.Binding.{Binder, Place, Mention, Use, find, meant, use_of}
+use Rattle.r7rs.specs.Binding.{Binder, Place, Mention, Use, find, use_of}
 use Rattle.pass.specs.State.{Entry, Capture, State, insert, amend, row_at, put_entry, entry_at, depth, binder_in, used_entry, last_entry, captured_entry}
-use Rattle.pass.specs.Read.{is_prelude, span, mark_if, free_row, Rule, no_entry, depth_one, current_layer_lem, home_slot_lem, capture_rule, entry_rule, rule_of, global_fact, heap_fact, home_fact, read_by, read}
+use Rattle.pass.specs.Read.{is_prelude, span, mark_if, free_row, Rule, no_entry, depth_one, current_layer, home_slot, capture_rule, entry_rule, rule_of, global_fact, heap_fact, home_fact, read_by, read}
 use Rattle.pass_laws.specs.Laws.Rows.{key, key_variable, row_same}
 use Rattle.pass_laws.specs.Laws.Changes.{Changes, keeps_lengths}
 use Rattle.pass_laws.specs.Laws.Moves.{by}
@@ -33,15 +33,15 @@ use Rattle.pass_laws.specs.Laws.Onward.{Parts, onward, calmly, UsedAt, one_use, 
 pub data Reads (own : ℕ → Type 0) (E : List Entry) (before : List Use) (p : Place) (bottom : List (Live Ident)) (x : ℕ) : Option Binder → Rule → Type 0 where
   reads_none : binder_in (get_in bottom x) ≡ none → Reads own E before p bottom x none no_entry
   reads_global : {d : Ident} → binder_in (get_in bottom x) ≡ some d → (own d.at → ⊥) → Reads own E before p bottom x none (depth_one d)
-  reads-own : {b : Binder} → Stands own E before b → ltb (length b.around) (length p.around) ≡ false → Reads own E before p bottom x (some b) (current_layer_lem b.ident)
-  reads_outer : {b : Binder} → Stands own E before b → ltb (length b.around) (length p.around) ≡ true → Reads own E before p bottom x (some b) (home_slot_lem b.ident)
+  reads-own : {b : Binder} → Stands own E before b → ltb (length b.around) (length p.around) ≡ false → Reads own E before p bottom x (some b) (current_layer b.ident)
+  reads_outer : {b : Binder} → Stands own E before b → ltb (length b.around) (length p.around) ≡ true → Reads own E before p bottom x (some b) (home_slot b.ident)
 
 module _ {own : ℕ → Type 0} {bottom : List (Live Ident)} {before : List Use} {p : Place} {s : State} (f : Finds own bottom before p s) where
   -- the rule for an entry, which is that of a name in scope
   rule_bound : (x : ℕ) (b : Binder) (d : ℕ) (i : Bool) → Around p.site.layer p.around b → Stands own s.scope.entries before b → d ≡ b.home.layer
       → ltb (length b.around) (length p.around) ≡ i
       → Reads own s.scope.entries before p bottom x (some b)
-      (cond (eqb d 1) (depth_one b.ident) (cond (eqb d (depth s)) (current_layer_lem b.ident) (capture_rule b.ident (get s.captures x))))
+      (cond (eqb d 1) (depth_one b.ident) (cond (eqb d (depth s)) (current_layer b.ident) (capture_rule b.ident (get s.captures x))))
   unfolding get_in
   rule_bound x b d true a k h i =
       rw (ne_eqb d 1 (λ z. omega (arith, a.above)), ne_eqb d (depth s) (λ z. omega (arith, deep f, a.outer i)), f.captures) (reads_outer k i)
@@ -98,10 +98,10 @@ module _ (classes : List ℕ) {own left : ℕ → Type 0} {bottom : List (Live I
       (by_changes classes (depth_one d) x s refl) refl refl refl)
   by_finds (reads-own {b} k i) =
       used_finds b.ident.at _ parts f k.apart (one_use before _) (record { captured = kept_flag i; mutated = kept_flag refl; kept = refl })
-      (by_changes classes (current_layer_lem b.ident) x s refl) refl refl refl
+      (by_changes classes (current_layer b.ident) x s refl) refl refl refl
   by_finds (reads_outer {b} k i) =
       used_finds b.ident.at _ parts f k.apart (one_use before _) (record { captured = raised_flag (entry_at s b.ident.at).captured i; mutated = kept_flag refl; kept = refl })
-      (by_changes classes (home_slot_lem b.ident) x s refl) refl refl refl
+      (by_changes classes (home_slot b.ident) x s refl) refl refl refl
 
   pub read_finds : Finds left bottom (before ++ use_of (read_at x p) (find p.scope x.name)) p (read classes x s)
   unfolding read
@@ -165,11 +165,11 @@ module _ (classes : List ℕ) {T : List Row} {own : ℕ → Type 0} {bottom : Li
   by_says (reads_global {d} n v) e = rw n (global_tells (is_prelude classes x.name) d x (put-row _ (by_changes classes (depth_one d) x s refl) e))
   by_says (reads-own {b} k i) e =
       let d = entry_at s b.ident.at in
-      local_tells (d.captured && d.mutated) (span x) b.ident (last_entry x (used_entry d)) (put-row _ (by_changes classes (current_layer_lem b.ident) x s refl) e)
+      local_tells (d.captured && d.mutated) (span x) b.ident (last_entry x (used_entry d)) (put-row _ (by_changes classes (current_layer b.ident) x s refl) e)
       (rw (k.held.captured, k.held.mutated, i)) (deep f) k.held.slot
   by_says (reads_outer {b} k i) e =
       let d = captured_entry (last_entry x (used_entry (entry_at s b.ident.at))) in
-      tells {v = home_fact (depth s) b.ident d x} (put-row _ (by_changes classes (home_slot_lem b.ident) x s refl) e) (rw i) refl (deep f) k.held.slot
+      tells {v = home_fact (depth s) b.ident d x} (put-row _ (by_changes classes (home_slot b.ident) x s refl) e) (rw i) refl (deep f) k.held.slot
 
   pub read_says : KeyIn T x.at (read classes x s) → SaysOf classes T (cell_of bottom) before (read_at x p) (find p.scope x.name)
   unfolding read

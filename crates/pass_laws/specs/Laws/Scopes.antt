@@ -13,7 +13,7 @@ use Rattle.std.proofs.Math.Dec.{ltb}
 use Rattle.tree.specs.Tree.{Ident, Node, Tree}
 use Rattle.tree.specs.Accepted.{All}
 use Rattle.tree.specs.Site.{let_layer}
-use Rattle.tree.specs.Laws.Site.{let_le}
+use Rattle.tree.proofs.Laws.Site.{let_le}
 use Rattle.scope_map.specs.ScopeMap.{ScopeMap, Live, newest_layer}
 use Rattle.semantic.specs.Information.{mark_last_usage}
 use Rattle.semantic.specs.Rows.{Row, Blank, Variable, Function, CallSite, Let, ListEntry, no_list_entry}

@@ -16,7 +16,7 @@ use Rattle.semantic.specs.declared.IdentifierStatus.TheVariants.{Global}
 use Rattle.r7rs.specs.Binding.{Place, Event, Use, top, walk, walk_all}
 use Rattle.r7rs.specs.Bottom.{define_of}
 use Rattle.tree.specs.Core.{core, cores}
-use Rattle.tree.specs.Laws.Core.{to_core, from_core}
+use Rattle.tree.proofs.Laws.Core.{to_core, from_core}
 use Rattle.pass.specs.State.{State, no_entry}
 use Rattle.pass_laws.specs.Static.{Presumption, Rec, r_define, r_begin, Seq, s_nil, s_one, s_more, Top, top-nil, top-cons, r_and}
 use Rattle.pass.specs.Visit.{top_flags, is_lambda, visit, visit_top_define, visit_top, visit_tops}

@@ -6,7 +6,7 @@ use Rattle.std.proofs.Math.Decide.{ℕ_discrete, dec_lt}
 use Rattle.tree.specs.Tree.{Tree, Trees, ident, const, if, letin, define, lambda, sequence, call, set!, nil, cons, begins, ands, whens}
 use Rattle.tree.specs.Accepted.{All}
 use Rattle.semantic.specs.Rows.{Row, Blank, Variable, Function, CallSite, Let}
-use Rattle.r7rs.specs.Tail.{Call, calls, calls_in, calls_last_lem, calls_tested, has_fact}
+use Rattle.r7rs.specs.Tail.{Call, calls, calls_in, calls_last, calls_tested, has_fact}
 use Rattle.pass.specs.State.{State, insert, amend, put_entry, row_at}
 use Rattle.pass.specs.Lambda.{open_scope, close_scope}
 use Rattle.semantic.specs.Kinds.{is_call_site}
@@ -88,16 +88,16 @@ module _ (sites : ℕ → Type 0) where
     trees_sites (cons t ts) a =
         (tree_sites t false (all_left Sited (calls t false) (calls_in ts) a), trees_sites ts (all_right Sited (calls t false) (calls_in ts) a))
 
-    last_sites : (ts : Trees) (b : Bool) → All Sited (calls_last_lem ts b) → WritesAll Any sites ts
+    last_sites : (ts : Trees) (b : Bool) → All Sited (calls_last ts b) → WritesAll Any sites ts
     last_sites nil b a = tt
     last_sites (cons t nil) b a = (tree_sites t b a, tt)
     last_sites (cons t (cons u us)) b a =
-        (tree_sites t false (all_left Sited (calls t false) (calls_last_lem (cons u us) b) a), last_sites (cons u us) b (all_right Sited (calls t false) (calls_last_lem (cons u us) b) a))
+        (tree_sites t false (all_left Sited (calls t false) (calls_last (cons u us) b) a), last_sites (cons u us) b (all_right Sited (calls t false) (calls_last (cons u us) b) a))
 
     tested_sites : (ts : Trees) (b : Bool) → All Sited (calls_tested ts b) → WritesAll Any sites ts
     tested_sites nil b a = tt
     tested_sites (cons t ts) b a =
-        (tree_sites t false (all_left Sited (calls t false) (calls_last_lem ts b) a), last_sites ts b (all_right Sited (calls t false) (calls_last_lem ts b) a))
+        (tree_sites t false (all_left Sited (calls t false) (calls_last ts b) a), last_sites ts b (all_right Sited (calls t false) (calls_last ts b) a))
 
 -- and each of those is the record of one
 

@@ -3,9 +3,9 @@ use Rattle.std.specs.Prelude.{ℕ, ◌+◌, ◌≤◌, List, ◌++◌, Bool, fal
 use Rattle.std.proofs.Common.{append_assoc, append-nil, ap, ap₂, sym, ◌∙◌, arith}
 use Rattle.tree.specs.Tree.{Tree, Trees, ident, const, if, letin, define, lambda, sequence, call, set!, nil, cons, size, sizes, Num, Nums, begins, ands, whens}
 use Rattle.tree.specs.Define.{◌⊕◌, top_of, top_level}
-use Rattle.r7rs.specs.Tail.{Call, calls, calls_in, calls_last_lem}
+use Rattle.r7rs.specs.Tail.{Call, calls, calls_in, calls_last}
 use Rattle.tree.specs.Core.{core, cores}
-use Rattle.tree.specs.Laws.Core.{to_core, num_core}
+use Rattle.tree.proofs.Laws.Core.{to_core, num_core}
 use Rattle.pass_laws.specs.Spread.{Spread}
 use Rattle.pass_laws.specs.Laws.Visits.{Writes, WritesAll}
 use Rattle.pass_laws.specs.Laws.Ranges.{Covers, tree_writes}
@@ -74,11 +74,11 @@ unfolding ◌⊕◌ calls
 calls_⊕ nil us = refl
 calls_⊕ (cons t ts) us = ap (λ (l : List Call). calls t false ++ l) (calls_⊕ ts us) ∙ sym (append_assoc (calls t false) (calls_in ts) (calls_in us))
 
-calls_last : (ts : Trees) → calls_in ts ≡ calls_last_lem ts false
+calls_last_lem : (ts : Trees) → calls_in ts ≡ calls_last ts false
 unfolding calls
-calls_last nil = refl
-calls_last (cons t nil) = append-nil (calls t false)
-calls_last (cons t (cons u us)) = ap (λ (l : List Call). calls t false ++ l) (calls_last (cons u us))
+calls_last_lem nil = refl
+calls_last_lem (cons t nil) = append-nil (calls t false)
+calls_last_lem (cons t (cons u us)) = ap (λ (l : List Call). calls t false ++ l) (calls_last_lem (cons u us))
 
 pub calls_core : (t : Tree) (b : Bool) → calls (core t) b ≡ calls t b
 unfolding calls
@@ -97,7 +97,7 @@ calls_of (if n a b c) = append-nil (calls (if n a b c) false)
 calls_of (letin n xs es b) = append-nil (calls (letin n xs es b) false)
 calls_of (define n x b) = append-nil (calls (define n x b) false)
 calls_of (lambda n xs b) = append-nil (calls (lambda n xs b) false)
-calls_of (sequence (begins n) es) = calls_cores es ∙ calls_last es
+calls_of (sequence (begins n) es) = calls_cores es ∙ calls_last_lem es
 calls_of (sequence (ands n) es) = append-nil (calls (sequence (ands n) es) false)
 calls_of (sequence (whens b n) es) = append-nil (calls (sequence (whens b n) es) false)
 calls_of (call n h es) = append-nil (calls (call n h es) false)

@@ -7,7 +7,7 @@ use Rattle.tree.specs.Tree.{Ident, Node, Tree, Trees, ident, const, if, letin, d
 use Rattle.tree.specs.Define.{top_level}
 use Rattle.tree.specs.Accepted.{All}
 use Rattle.tree.specs.Core.{core, cores, is_constant}
-use Rattle.tree.specs.Laws.Core.{to_core}
+use Rattle.tree.proofs.Laws.Core.{to_core}
 use Rattle.semantic.specs.Information.{NONE}
 use Rattle.semantic.specs.declared.IdentifierStatus.TheVariants.{Local}
 use Rattle.semantic.specs.declared.IdentifierStatus.{IdentifierStatus}

@@ -92,6 +92,8 @@ stops_body (m ∷ ms) (n ∷ ns) (parted s p) = s (numeral n ++ body ms ns)
 pub numbers_complete : (ms : List (List ℕ)) (ns : List ℕ) → Parted ms → Below ms ns → numbers_of ms (body ms ns) ≡ some ns
 unfolding numbers_of body
 numbers_complete [] [] p none_left = refl
+numbers_complete [] (n ∷ ns) p b = elim b [ ]
+numbers_complete (m ∷ ms) [] p b = elim b [ ]
 numbers_complete (m ∷ ms) (n ∷ ns) (parted s p) (one_more_lem h b) =
     numbers-some m ms (m ++ (numeral n ++ body ms ns)) (numbered n (body ms ns)) (field_complete m n (body ms ns) h (stops_body ms ns p))
     ∙ ap (onto n) (numbers_complete ms ns p b)
@@ -104,6 +106,8 @@ longest (m ∷ ms) = length m + 10 + longest ms
 pub body-length : (ms : List (List ℕ)) (ns : List ℕ) → Below ms ns → length (body ms ns) ≤ longest ms
 unfolding body longest
 body-length [] [] none_left = omega arith
+body-length [] (n ∷ ns) b = elim b [ ]
+body-length (m ∷ ms) [] b = elim b [ ]
 body-length (m ∷ ms) (n ∷ ns) (one_more_lem h b) =
     omega (arith, length-append m (numeral n ++ body ms ns), length-append (numeral n) (body ms ns), numeral-length 9 n (omega arith), body-length ms ns b)
 

@@ -182,6 +182,7 @@ module _ (n : ℕ) (cs : List ℕ) (rs : List Record) (b : List ℕ) (small : n 
 means_line : (s : Said) (b l : List ℕ) → Means s b → Means (with_line s l) (b ++ (l ++ (LF ∷ [])))
 unfolding with_line
 means_line nothing [] l m_nothing = means_first l (numbers_of names_marks l) refl
+means_line nothing (x ∷ b) l m = elim m [ ]
 means_line (says n cs rs) b l (m_says small most full bytes narrow is) =
     ⊎_elim
     (λ h. rw (line-class n cs rs l h) (means_class n cs rs b small bytes narrow is l h (full h) (numbers_of class_marks l) refl))

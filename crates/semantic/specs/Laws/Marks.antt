@@ -1,5 +1,5 @@
 -- The yes-or-no fields of an entry are one number, and each comes back from it.
-use Rattle.std.specs.Prelude.{ℕ, ◌+◌, ◌*◌, ◌/◌, ◌%◌, ◌≤◌, Bool, true, false, ◌≡◌, eqb}
+use Rattle.std.specs.Prelude.{ℕ, ◌/◌, ◌%◌, ◌≤◌, Bool, true, false, ◌≡◌, eqb}
 use Rattle.std.proofs.Common.{arith}
 use Rattle.tree.specs.Tree.{bit}
 use Rattle.semantic.specs.Rows.{marks}

@@ -13,7 +13,7 @@ use table::wide;
 use tree::record::part_at;
 
 // k children in a row: the last stands in tail position where the whole does.
-#[cycle(visit_and_visit_begin_visit_children_visit_when_visit_visit_arguments_visit_body_visit_define_visit_if_visit_lambda_function_visit_let_visit_list_visit_part_visit_set)]
+#[cycle(visits)]
 fn visit_children(
     classes: &&[u8],
     all: &&[u32],
@@ -43,7 +43,7 @@ fn visit_children(
     used
 }
 
-#[cycle(visit_and_visit_begin_visit_children_visit_when_visit_visit_arguments_visit_body_visit_define_visit_if_visit_lambda_function_visit_let_visit_list_visit_part_visit_set)]
+#[cycle(visits)]
 pub fn visit_begin(
     classes: &&[u8],
     all: &&[u32],
@@ -87,7 +87,7 @@ pub fn visit_begin(
 }
 
 // None of its names enters first: more than one child are the parts of an if.
-#[cycle(visit_and_visit_begin_visit_children_visit_when_visit_visit_arguments_visit_body_visit_define_visit_if_visit_lambda_function_visit_let_visit_list_visit_part_visit_set)]
+#[cycle(visits)]
 pub fn visit_and(
     classes: &&[u8],
     all: &&[u32],
@@ -121,7 +121,7 @@ pub fn visit_and(
 }
 
 // A when or an unless: the test, then what follows as an inner begin.
-#[cycle(visit_and_visit_begin_visit_children_visit_when_visit_visit_arguments_visit_body_visit_define_visit_if_visit_lambda_function_visit_let_visit_list_visit_part_visit_set)]
+#[cycle(visits)]
 pub fn visit_when(
     classes: &&[u8],
     all: &&[u32],

@@ -3,8 +3,8 @@ use Rattle.std.specs.Prelude.{ℕ, ◌<◌, List}
 use Rattle.tree.specs.Tree.{Ident, Tree, Trees, ident, const, if, letin, define, lambda, sequence, call, set!, nil, cons, flat, Num}
 use Rattle.tree.specs.Accepted.{All}
 use Rattle.tree.specs.Stands.{Stands, StandAll, NamesStand}
-use Rattle.tree.specs.Laws.Stands.{IdentAt, ident_name, name_at, names_at, first_tree, later_trees}
-use Rattle.tree.specs.Laws.Stands.Parts.{if_parts, let_parts, define_parts, set_parts, lambda_parts, begin_parts, call_parts}
+use Rattle.tree.proofs.Laws.Stands.{IdentAt, ident_name, name_at, names_at, first_tree, later_trees}
+use Rattle.tree.proofs.Laws.Stands.Parts.{if_parts, let_parts, define_parts, set_parts, lambda_parts, begin_parts, call_parts}
 use Rattle.pass_laws.specs.Sound.{Holds, HoldsAll}
 use Rattle.pass_laws.specs.Laws.All.{all_map}
 

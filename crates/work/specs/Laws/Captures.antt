@@ -10,7 +10,7 @@ use Rattle.table.specs.Region.{region}
 use Rattle.tree.specs.Tree.{bit}
 use Rattle.scope_map.specs.ScopeMap.{Live, get, get_in}
 use Rattle.scope_map.specs.Map.{map_live}
-use Rattle.scope_map.specs.Laws.Map.{map-length}
+use Rattle.scope_map.proofs.Laws.Map.{map-length}
 use Rattle.scope_map.specs.Hints.{rows_length}
 use Rattle.scope_map.specs.Held.{found_in}
 use Rattle.scope_map.specs.declared.Found.TheVariants.{At, Nothing}

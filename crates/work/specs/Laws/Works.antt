@@ -4,7 +4,7 @@ use Rattle.std.proofs.Common.{ap, ◌∙◌, arith}
 use Rattle.table.specs.Laws.Layout.{length-layout}
 use Rattle.table.specs.Region.{region}
 use Rattle.table.specs.Laws.Region.{region-length}
-use Rattle.scope_map.specs.Laws.Map.{map-length}
+use Rattle.scope_map.proofs.Laws.Map.{map-length}
 use Rattle.pass.specs.State.{State}
 use Rattle.pass.specs.Run.{rows_most, list_entries_most}
 use Rattle.work.specs.Coded.{noted_of, second_of, entry_width, put_entry_row, put_binder}

@@ -11,7 +11,7 @@ use Rattle.std.proofs.Math.ListN.{get_or-map}
 use Rattle.tree.specs.Tree.{Ident, Node, Tree}
 use Rattle.scope_map.specs.ScopeMap.{ScopeMap, Live, layer_in, newest_layer}
 use Rattle.scope_map.specs.Map.{map_values, map_live}
-use Rattle.scope_map.specs.Laws.Map.{map-pop_layer, map-newest_layer}
+use Rattle.scope_map.proofs.Laws.Map.{map-pop_layer, map-newest_layer}
 use Rattle.semantic.specs.Rows.{Row, Blank, Variable, Function, CallSite, Let, ListEntry, no_list_entry}
 use Rattle.semantic.specs.declared.IdentifierStatus.{IdentifierStatus}
 use Rattle.semantic.specs.declared.FunctionInformation.{FunctionInformation}

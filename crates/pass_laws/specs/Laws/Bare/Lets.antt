@@ -6,7 +6,7 @@ use Rattle.std.proofs.Common.{ap, ◌∙◌}
 use Rattle.std.proofs.lemmas.List.{length-map}
 use Rattle.tree.specs.Tree.{Ident, Node}
 use Rattle.scope_map.specs.ScopeMap.{ScopeMap}
-use Rattle.scope_map.specs.Laws.Map.{map-remove}
+use Rattle.scope_map.proofs.Laws.Map.{map-remove}
 use Rattle.scope_map.specs.ScopeMap as scopeMap
 use Rattle.semantic.specs.Rows.{Row, Blank, Variable, Function, CallSite, Let, ListEntry}
 use Rattle.semantic.specs.declared.FunctionInformation.{FunctionInformation}

@@ -11,7 +11,7 @@ use Rattle.tree.specs.Tree.{Ident}
 use Rattle.tree.specs.Check.{member}
 use Rattle.scope_map.specs.ScopeMap.{ScopeMap, Live, get}
 use Rattle.scope_map.specs.Map.{map_value, map_values, map_live}
-use Rattle.scope_map.specs.Laws.Map.{map_get, map-define}
+use Rattle.scope_map.proofs.Laws.Map.{map_get, map-define}
 use Rattle.semantic.specs.Rows.{ListEntry}
 use Rattle.semantic.specs.declared.ListAt.{ListAt}
 use Rattle.semantic.specs.declared.ScopeInfo.{ScopeInfo}

@@ -7,7 +7,7 @@ use Rattle.tree.specs.Define.{◌⊕◌, top_of, top_level}
 use Rattle.pass.specs.Read.{is_ident_of, first_is_ident_of, is_builtin, is_required, alias}
 use Rattle.pass.specs.Lambda.{names_used, names_used_in, holds_lambda, holds_lambda_in}
 use Rattle.tree.specs.Core.{core, and_of, cores}
-use Rattle.pass.specs.Visit.{is_lambda, is_nil, is_lambda_form}
+use Rattle.pass.specs.Visit.{is_nil, is_lambda_form}
 use Rattle.pass.specs.Bare.{bare, bares, bare_node}
 
 pub bare-many : (ts : Trees) → many (bares ts) ≡ many ts

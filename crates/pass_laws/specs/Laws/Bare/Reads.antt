@@ -9,7 +9,7 @@ use Rattle.tree.specs.Core.{core}
 use Rattle.scope_map.specs.ScopeMap.{ScopeMap, Live, has_at_top}
 use Rattle.scope_map.specs.ScopeMap as scopeMap
 use Rattle.scope_map.specs.Map.{map_value, map_values, map_live}
-use Rattle.scope_map.specs.Laws.Map.{map-define, map-has_at_top}
+use Rattle.scope_map.proofs.Laws.Map.{map-define, map-has_at_top}
 use Rattle.semantic.specs.Information.{NONE, new, shadows, with_heap_offset, with_read_heap_offset, with_usage_count, refers_to, with_offset, aliases_to, mark_builtin, mark_required, mark_shadowed}
 use Rattle.semantic.specs.Rows.{Row, Blank, Variable, Function, CallSite, Let}
 use Rattle.semantic.specs.declared.IdentifierStatus.{IdentifierStatus}
@@ -18,7 +18,7 @@ use Rattle.semantic.specs.declared.Span.{Span}
 use Rattle.semantic.specs.declared.SemanticInformation.{SemanticInformation}
 use Rattle.semantic.specs.declared.ScopeInfo.{ScopeInfo}
 use Rattle.pass.specs.State.{Entry, Capture, State, with_names, insert, captured_entry, last_entry, info_at, note_second, put_entry, entry_at, newest, depth, id_of}
-use Rattle.pass.specs.Read.{span, status_at, is_builtin, is_required, note_live, enter, mark_if, define_fact, enter_define, shadow_if_builtin, shadow, alias, enter_top_level_value, Rule, no_entry, depth_one, current_layer_lem, taken_capture, home_slot_lem, capture_rule, entry_rule, rule_of, free_row, local_fact, heap_fact, global_fact, taken_fact, has_number, capture_offsets, is_prelude, count_uses, note_taken, use_in, use_capture, read_by, read, mutate_at, mutate}
+use Rattle.pass.specs.Read.{span, status_at, is_builtin, is_required, note_live, enter, mark_if, define_fact, enter_define, shadow_if_builtin, shadow, enter_top_level_value, Rule, no_entry, depth_one, current_layer, taken_capture, home_slot, capture_rule, entry_rule, rule_of, free_row, local_fact, heap_fact, global_fact, taken_fact, has_number, capture_offsets, is_prelude, count_uses, note_taken, use_in, use_capture, read_by, read, mutate_at, mutate}
 use Rattle.pass.specs.Bare.{bare_ident, bare_fact, bare_row, bare_entry, bare_capture, bare_state, bare, nowhere, ◌↝◌}
 use Rattle.pass_laws.specs.Laws.Bare.Maps.{map_cond}
 use Rattle.pass_laws.specs.Laws.Bare.Steps.{bare-put, bare-depth, bare-newest, bare_id, bare-amend, bare-capture, bare_info, bare-entry, steps}
@@ -95,9 +95,9 @@ module _ (classes : List ℕ) where
 abbrev bare_rule : Rule → Rule
 bare_rule no_entry = no_entry
 bare_rule (depth_one b) = depth_one (bare_ident b)
-bare_rule (current_layer_lem b) = current_layer_lem (bare_ident b)
+bare_rule (current_layer b) = current_layer (bare_ident b)
 bare_rule (taken_capture b c) = taken_capture (bare_ident b) (bare_capture c)
-bare_rule (home_slot_lem b) = home_slot_lem (bare_ident b)
+bare_rule (home_slot b) = home_slot (bare_ident b)
 
 capture_rule_lem : (b : Ident) (o : Option (Live Capture)) → capture_rule (bare_ident b) (map (map_value bare_capture) o) ≡ bare_rule (capture_rule b o)
 capture_rule_lem b none = refl
@@ -177,9 +177,9 @@ module _ (classes : List ℕ) where
   unfolding takes
   read_by_lem no_entry x s = simp (steps, free_row_lem)
   read_by_lem (depth_one b) x s = simp steps (insert_fact x.at _ (global_fact_lem (is_prelude classes x.name) b x))
-  read_by_lem (current_layer_lem b) x s = simp steps (insert_fact x.at _ (local_fact_lem (depth s) b (entry_at s b.at) x))
+  read_by_lem (current_layer b) x s = simp steps (insert_fact x.at _ (local_fact_lem (depth s) b (entry_at s b.at) x))
   read_by_lem (taken_capture b c) x s = taken-read b c x s
-  read_by_lem (home_slot_lem b) x s = simp steps
+  read_by_lem (home_slot b) x s = simp steps
 
   pub bare-read : (x : Ident) → read classes x ↝ read classes (bare_ident x)
   unfolding read

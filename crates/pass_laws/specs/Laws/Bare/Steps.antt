@@ -7,7 +7,7 @@ use Rattle.std.proofs.Math.ListN.{get_or-map}
 use Rattle.tree.specs.Tree.{Ident}
 use Rattle.scope_map.specs.ScopeMap.{Live, get}
 use Rattle.scope_map.specs.Map.{map_value}
-use Rattle.scope_map.specs.Laws.Map.{map_get}
+use Rattle.scope_map.proofs.Laws.Map.{map_get}
 use Rattle.semantic.specs.Rows.{Row, Blank, Variable, Function, CallSite, Let, ListEntry, no_list_entry}
 use Rattle.semantic.specs.declared.SemanticInformation.{SemanticInformation}
 use Rattle.pass.specs.State.{Entry, State, with_context, with_rows, with_entries, row_at, insert, amended, amend, no_entry, entry_at, put_entry, list_entry_at, info_at, binder_in, newest, depth, id_of}

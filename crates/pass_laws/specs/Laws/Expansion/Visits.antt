@@ -10,7 +10,7 @@ use Rattle.semantic.specs.declared.IdentifierStatus.TheVariants.{LocallyDefinedF
 use Rattle.pass.specs.State.{State, with_context}
 use Rattle.pass.specs.Lambda.{close_lambda}
 use Rattle.pass.specs.Visit.{Flags, not_tail, same_tail, pushed, in_begin, is_alone, in_and, let_body_flags, body_flags, argument_flags, is_lambda, head_flags, is_nil, child_flags, define_flags, clear_context, enter_children, visit, visit_arguments, visit_children, visit_tested}
-use Rattle.r7rs.specs.Laws.Expansion.{many_expands}
+use Rattle.r7rs.proofs.Laws.Expansion.{many_expands}
 use Rattle.pass_laws.specs.Laws.Expansion.Holds.{used, holding, ends}
 use Rattle.pass_laws.specs.Laws.Expansion.Looks.{looks, same_lambda, same_children, same_call, same_before, same_after}
 

@@ -2,7 +2,7 @@
 use Rattle.std.specs.Prelude.{ℕ, List, Bool, true, false, ◌&&◌}
 use Rattle.std.proofs.Math.Option.{some}
 use Rattle.std.proofs.Math.Dec.{ltb}
-use Rattle.tree.specs.Tree.{Ident, Node, Tree, Trees, ident, lambda, nil, cons}
+use Rattle.tree.specs.Tree.{Ident, Node, Tree, Trees, nil, cons}
 use Rattle.semantic.specs.Information.{NONE}
 use Rattle.tree.specs.Core.{core, cores}
 use Rattle.semantic.specs.declared.IdentifierStatus.TheVariants.{Local}

@@ -3,9 +3,9 @@ use Rattle.std.specs.Prelude.{ℕ, suc, ◌+◌, ◌≤◌, List, Bool, true, fa
 use Rattle.std.proofs.Common.{ap, sym, arith}
 use Rattle.tree.specs.Tree.{Ident, Tree, Trees, ident, const, if, letin, define, lambda, sequence, call, set!, nil, cons, many, size, sizes, begins, ands, whens}
 use Rattle.tree.specs.Define.{top_of, top_level}
-use Rattle.tree.specs.Laws.Tree.{sizes_⊕}
+use Rattle.tree.proofs.Laws.Tree.{sizes_⊕}
 use Rattle.tree.specs.Core.{core, cores}
-use Rattle.tree.specs.Laws.Core.{many-cores, size_core, sizes_cores}
+use Rattle.tree.proofs.Laws.Core.{many-cores, size_core, sizes_cores}
 use Rattle.semantic.specs.Information.{NONE}
 use Rattle.semantic.specs.declared.IdentifierStatus.TheVariants.{Local}
 use Rattle.semantic.specs.declared.IdentifierStatus.{IdentifierStatus}

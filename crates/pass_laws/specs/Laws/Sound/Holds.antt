@@ -7,11 +7,11 @@ use Rattle.std.proofs.lemmas.List.{length-map}
 use Rattle.std.proofs.Math.Seq.{drop-append_seam}
 use Rattle.tree.specs.Record.{Record, blank}
 use Rattle.tree.specs.Tree.{Ident, Tree, Trees, ident, const, if, letin, define, lambda, sequence, call, set!, nil, cons, named, flat, flats, size, sizes, NumNames, Num, Nums, begins, ands, whens}
-use Rattle.tree.specs.Laws.Tree.{length_flat, length_flats}
+use Rattle.tree.proofs.Laws.Tree.{length_flat, length_flats}
 use Rattle.tree.specs.Define.{◌⊕◌, top_of, top_level}
 use Rattle.tree.specs.Accepted.{All, Accepted}
 use Rattle.tree.specs.Core.{core, cores}
-use Rattle.tree.specs.Laws.Core.{to_core}
+use Rattle.tree.proofs.Laws.Core.{to_core}
 use Rattle.pass.specs.Run.{rows_most}
 use Rattle.pass_laws.specs.Sound.{Holds, HoldsAll}
 use Rattle.pass_laws.specs.Laws.All.{all_of, all_map}

@@ -8,14 +8,13 @@ use Rattle.std.proofs.Math.Dec.{eqb}
 use Rattle.tree.specs.Tree.{Ident, Tree}
 use Rattle.tree.specs.Core.{core}
 use Rattle.scope_map.specs.ScopeMap.{Live, get, has_at_top}
-use Rattle.scope_map.specs.ScopeMap as map
 use Rattle.semantic.specs.Information.{NONE, with_usage_count, mark_set, mark_builtin, mark_required, mark_shadowed}
 use Rattle.semantic.specs.Amend.{used_or}
 use Rattle.semantic.specs.Rows.{Row, Blank, Variable, Function, CallSite, Let}
 use Rattle.semantic.specs.declared.IdentifierStatus.{IdentifierStatus}
 use Rattle.semantic.specs.declared.SemanticInformation.{SemanticInformation}
 use Rattle.pass.specs.State.{Entry, Capture, State, info_at, depth, newest, top_level_entry, used_entry, last_entry, entry_at, row_at, put_entry}
-use Rattle.pass.specs.Read.{is_builtin, is_required, is_prelude, mark_if, note_live, enter, define_fact, enter_define, shadow_if_builtin, shadow, enter_top_level_value, Rule, no_entry, depth_one, current_layer_lem, taken_capture, home_slot_lem, capture_rule, entry_rule, rule_of, free_fact, heap_fact, has_number, capture_offsets, use_in, use_capture, count_uses, one_use_more, read_by, read, mutate_at, mutate}
+use Rattle.pass.specs.Read.{is_builtin, is_required, is_prelude, mark_if, note_live, enter, define_fact, enter_define, shadow_if_builtin, shadow, enter_top_level_value, Rule, no_entry, depth_one, current_layer, taken_capture, home_slot, capture_rule, entry_rule, rule_of, free_fact, heap_fact, has_number, capture_offsets, use_in, use_capture, count_uses, one_use_more, read_by, read, mutate_at, mutate}
 use Rattle.pass_laws.specs.Sound.{Property, Counting, uses_in, Each, IsNamed}
 use Rattle.pass_laws.specs.Laws.All.{all_map}
 use Rattle.pass_laws.specs.Laws.Sound.Lists.{all_either, Maybe, Values, get_value, defined_values, defined_live}
@@ -107,9 +106,9 @@ taken_values P x (e ∷ l) p = all_either _ (eqb e.name x) _ _ p (p.0, taken_val
 abbrev pub Found : (Ident → Type 0) → (Capture → Type 0) → Rule → Type 0
 Found R P no_entry = Unit {0}
 Found R P (depth_one b) = R b
-Found R P (current_layer_lem b) = R b
+Found R P (current_layer b) = R b
 Found R P (taken_capture b c) = R b × P c
-Found R P (home_slot_lem b) = R b
+Found R P (home_slot b) = R b
 
 module _ (R : Ident → Type 0) (P : Capture → Type 0) where
   found_either : (b : Bool) (q r : Rule) → Found R P q → Found R P r → Found R P (cond b q r)
@@ -150,7 +149,7 @@ module _ {Q : Property} {F : ℕ → ℕ → Type 0} (counting : Counting F) (k 
         each_insert x.at _ (once counting k (marked_uses (is_prelude classes x.name) mark_builtin _ refl))
         (each_amend (F k) one_use_more b.at (counting.none (suc k)) (λ v q. counting.more k _ q) (h.row_uses b.at)
         (each_put b _ f (h.lasts b.at) (counting.more k _ (h.entry_uses b.at)) (up counting k h)))
-    each_by (current_layer_lem b) x s p f h =
+    each_by (current_layer b) x s p f h =
         let e = last_entry x (used_entry (entry_at s b.at)) in
         let u = counting.more k _ (h.entry_uses b.at) in
         each_insert x.at _ (once counting k (marked_uses (e.captured && e.mutated) (heap_fact e) _ refl))
@@ -161,7 +160,7 @@ module _ {Q : Property} {F : ℕ → ℕ → Type 0} (counting : Counting F) (k 
         (each_count _ c.binder (counting.more k _ f.1)
         (each_put b _ f.0 (last_some Q.ident x p) (counting.keep k (suc k) _ (omega arith) (h.entry_uses b.at)) (each_used x.name h))) in
         each_either (has_number v.read_capture_offset && eqb v.capture_offset NONE) (each_noted _ read) read
-    each_by (home_slot_lem b) x s p f h =
+    each_by (home_slot b) x s p f h =
         let u = counting.more k _ (h.entry_uses b.at) in
         each_insert x.at _ (once counting k refl) (each_count _ b u (each_put b _ f (last_some Q.ident x p) u (up counting k h)))
 

@@ -9,7 +9,7 @@ use Rattle.std.proofs.Common.{ap, ◌∙◌, arith, lt-ltb}
 use Rattle.tree.specs.Tree.{Ident, Node, Tree}
 use Rattle.scope_map.specs.ScopeMap.{ScopeMap, has_at_top, push_layer, pop_layer}
 use Rattle.scope_map.specs.ScopeMap as map
-use Rattle.scope_map.specs.Laws.Size.{define-size, remove-size, pop_size}
+use Rattle.scope_map.proofs.Laws.Size.{define-size, remove-size, pop_size}
 use Rattle.semantic.specs.Information.{NONE}
 use Rattle.semantic.specs.Rows.{Row, ListEntry}
 use Rattle.semantic.specs.declared.ListAt.{ListAt}
@@ -17,7 +17,7 @@ use Rattle.semantic.specs.declared.FunctionInformation.{FunctionInformation}
 use Rattle.semantic.specs.declared.IdentifierStatus.{IdentifierStatus}
 use Rattle.semantic.specs.declared.ScopeInfo.{ScopeInfo}
 use Rattle.pass.specs.State.{Entry, Capture, Scope, State, info_at, list_entry_at, with_names, with_captures, insert, amend, row_at, put_entry, entry_at, newest, depth}
-use Rattle.pass.specs.Read.{note_live, enter, enter_define, enter_top_level_value, Rule, no_entry, depth_one, current_layer_lem, taken_capture, home_slot_lem, rule_of, has_number, read_by, read, mutate_at, mutate}
+use Rattle.pass.specs.Read.{note_live, enter, enter_define, enter_top_level_value, Rule, no_entry, depth_one, current_layer, taken_capture, home_slot, rule_of, has_number, read_by, read, mutate_at, mutate}
 use Rattle.pass.specs.Lists.{is_of, numbered_heap, numbered_capture, number_row, number_rows, number_list}
 use Rattle.pass.specs.Lambda.{is_heap, note_heap, enter_name, enter_names, function_in, open_captures, open_scope, enter_parameters, open_lambda, close_scope, close_captures, close_lambda, open_layer, close_layer, at_bottom, open_let, leave_names, entered, close_let}
 use Rattle.pass_laws.specs.Sound.{Grows}
@@ -66,11 +66,11 @@ by_grows : (classes : List ℕ) (r : Rule) (x : Ident) (s : State) → Grows 0 0
 unfolding insert amend put_entry
 by_grows classes no_entry x s = grows_by (omega arith) refl refl
 by_grows classes (depth_one b) x s = grows_by (omega arith) refl refl
-by_grows classes (current_layer_lem b) x s = grows_by (omega arith) refl refl
+by_grows classes (current_layer b) x s = grows_by (omega arith) refl refl
 by_grows classes (taken_capture b c) x s =
     let v = info_at s c.row in
     grows_either (has_number v.read_capture_offset && eqb v.capture_offset NONE) (grows_by (omega arith) refl refl) (grows_by (omega arith) refl refl)
-by_grows classes (home_slot_lem b) x s = grows_by (omega arith) refl refl
+by_grows classes (home_slot b) x s = grows_by (omega arith) refl refl
 
 pub grows_read : (classes : List ℕ) (x : Ident) (s : State) → Grows 0 0 s (read classes x s)
 unfolding read

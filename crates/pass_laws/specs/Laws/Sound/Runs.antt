@@ -1,10 +1,10 @@
 -- `Sound` and `Counted` from the start of a run to its end, and which entries a run makes.
 use Rattle.std.specs.Prelude.{ℕ, ◌+◌, ◌≤◌, ◌<◌, List, Bool, true, false, ◌≡◌, get_or}
-use Rattle.std.proofs.Math.Option.{Option, none, some}
+use Rattle.std.proofs.Math.Option.{Option, some}
 use Rattle.std.proofs.Math.Path.{refl}
 use Rattle.std.proofs.Common.{arith}
 use Rattle.tree.specs.Tree.{Ident, Tree, Trees, ident, const, if, letin, define, lambda, sequence, call, set!, nil, cons, flats, size, sizes, begins, ands, whens}
-use Rattle.tree.specs.Laws.Tree.{length_flats}
+use Rattle.tree.proofs.Laws.Tree.{length_flats}
 use Rattle.tree.specs.Accepted.{Accepted}
 use Rattle.tree.specs.Define.{top_level}
 use Rattle.semantic.specs.Rows.{Row, Blank, no_list_entry}

@@ -5,10 +5,10 @@ use Rattle.std.proofs.Math.Bool.{true, false}
 use Rattle.std.proofs.Math.Option.{Option, none, some}
 use Rattle.std.proofs.Common.{ap, arith, lt-ltb, length-append}
 use Rattle.tree.specs.Tree.{Ident, Node, Tree, Trees, ident, const, if, letin, define, lambda, sequence, call, set!, nil, cons, many, bit, size, sizes, Num, Nums, begins, ands, whens}
-use Rattle.tree.specs.Laws.Tree.{size_pos}
+use Rattle.tree.proofs.Laws.Tree.{size_pos}
 use Rattle.tree.specs.Core.{core, and_of, cores}
 use Rattle.scope_map.specs.ScopeMap.{ScopeMap, Live, layer_in, below_layer, pop_layer, newest_layer, remove}
-use Rattle.scope_map.specs.Laws.Size.{define-size, remove-size, pop_size}
+use Rattle.scope_map.proofs.Laws.Size.{define-size, remove-size, pop_size}
 use Rattle.semantic.specs.Information.{NONE}
 use Rattle.semantic.specs.Rows.{Row, ListEntry}
 use Rattle.semantic.specs.declared.FunctionInformation.{FunctionInformation}

@@ -5,7 +5,7 @@ use Rattle.tree.specs.Tree.{Tree, Trees, ident, const, if, letin, define, lambda
 use Rattle.semantic.specs.Information.{NONE}
 use Rattle.semantic.specs.Rows.{Row}
 use Rattle.tree.specs.Core.{core, cores}
-use Rattle.tree.specs.Laws.Core.{to_core, from_core, num_core}
+use Rattle.tree.proofs.Laws.Core.{to_core, from_core, num_core}
 use Rattle.semantic.specs.declared.IdentifierStatus.TheVariants.{LocallyDefinedFunction}
 use Rattle.semantic.specs.declared.IdentifierStatus.{IdentifierStatus}
 use Rattle.pass.specs.State.{State}

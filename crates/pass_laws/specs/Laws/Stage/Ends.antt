@@ -5,7 +5,7 @@ use Rattle.std.proofs.Math.Option.{Option, none, some, none-ne-some}
 use Rattle.std.proofs.Math.Path.{ap}
 use Rattle.std.proofs.Common.{sym, subst, ◌∙◌, arith}
 use Rattle.std.proofs.Math.ListN.{length}
-use Rattle.tree.specs.Tree.{Ident, Node, Tree, letin, lambda}
+use Rattle.tree.specs.Tree.{Ident, Node, Tree}
 use Rattle.scope_map.specs.ScopeMap.{ScopeMap, newest_layer}
 use Rattle.semantic.specs.Information.{NONE}
 use Rattle.semantic.specs.Kinds.{let_in}

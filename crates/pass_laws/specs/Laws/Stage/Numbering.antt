@@ -1,5 +1,5 @@
 -- A lambda's list becomes captures: as many more as it has entries, all in the newest layer.
-use Prim.Native.Nat.{ℕ, zero, suc, ◌+◌, ◌-◌, ◌≤◌, ◌<◌}
+use Prim.Native.Nat.{ℕ, zero, suc, ◌+◌, ◌≤◌, ◌<◌}
 use Rattle.std.specs.Prelude.{List, [], ◌∷◌, ◌++◌, Bool, not, ◌&&◌, ◌≡◌, length, get_or, set, replicate, eqb}
 use Rattle.std.proofs.Common.{append_assoc, ap, sym, ◌∙◌, eqb-true, get_or-set_same, get_or-set_other}
 use Rattle.std.proofs.Math.Bool.{true, false, cond}
@@ -12,7 +12,7 @@ use Rattle.std.proofs.Math.Seq.{set_out}
 use Rattle.tree.specs.Tree.{bit}
 use Rattle.scope_map.specs.ScopeMap.{ScopeMap, Live, is_at, replace_in, has_at_top, push_layer}
 use Rattle.scope_map.specs.ScopeMap as map
-use Rattle.scope_map.specs.Laws.Size.{define-size}
+use Rattle.scope_map.proofs.Laws.Size.{define-size}
 use Rattle.semantic.specs.Rows.{ListEntry, no_list_entry}
 use Rattle.semantic.specs.declared.ListAt.{ListAt}
 use Rattle.semantic.specs.declared.FunctionInformation.{FunctionInformation}

@@ -4,12 +4,12 @@ use Rattle.std.proofs.Math.Path.{refl}
 use Rattle.std.proofs.Common.{arith}
 use Rattle.std.proofs.Math.ListN.{length}
 use Rattle.tree.specs.Tree.{Ident, Node, Tree, Trees, if, letin, define, sequence, call, set!, cons, many, size, sizes, Num, Nums, begins, ands, whens}
-use Rattle.tree.specs.Laws.Tree.{size_pos}
+use Rattle.tree.proofs.Laws.Tree.{size_pos}
 use Rattle.tree.specs.Core.{cores}
 use Rattle.semantic.specs.Information.{NONE}
 use Rattle.semantic.specs.Rows.{Row}
 use Rattle.semantic.specs.declared.IdentifierStatus.TheVariants.{LocallyDefinedFunction}
-use Rattle.pass.specs.State.{State, with_context, depth}
+use Rattle.pass.specs.State.{State, with_context}
 use Rattle.pass.specs.Lambda.{open_let}
 use Rattle.pass.specs.Visit.{Flags, not_tail, same_tail, pushed, let_body_flags, argument_flags, is_lambda, head_flags, is_nil, child_flags, define_flags, open_define, enter_children, clear_context, visit, visit_arguments, in_begin, in_and, is_alone}
 use Rattle.pass_laws.specs.Stage.{Blocks, BlocksIn, enterings, Layered, Unmade, UnmadeAll, Made, MadeAll, Staged, Stage, StageArguments, StageChildren}

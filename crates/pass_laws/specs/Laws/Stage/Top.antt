@@ -6,7 +6,7 @@ use Rattle.std.proofs.Common.{arith}
 use Rattle.tree.specs.Tree.{Ident, Node, Tree, define, size, Num}
 use Rattle.semantic.specs.Information.{NONE}
 use Rattle.semantic.specs.Rows.{Row}
-use Rattle.pass.specs.State.{State, with_context, depth}
+use Rattle.pass.specs.State.{State, with_context}
 use Rattle.pass.specs.Read.{enter_top_level_value}
 use Rattle.pass.specs.Visit.{top_flags, is_lambda, visit, visit_top_define, visit_top}
 use Rattle.pass.specs.Run.{list_entries_most}

@@ -3,7 +3,7 @@ use Rattle.std.specs.Prelude.{ℕ, ◌+◌, ◌≤◌, List, length}
 use Rattle.std.proofs.Math.Path.{refl}
 use Rattle.std.proofs.Common.{arith}
 use Rattle.tree.specs.Tree.{Tree, Trees, nil, cons, size, sizes, Num}
-use Rattle.tree.specs.Laws.Tree.{size_pos}
+use Rattle.tree.proofs.Laws.Tree.{size_pos}
 use Rattle.semantic.specs.Information.{NONE}
 use Rattle.semantic.specs.Rows.{Row}
 use Rattle.semantic.specs.declared.IdentifierStatus.TheVariants.{Global}

@@ -3,7 +3,7 @@ use Rattle.std.specs.Prelude.{ℕ, ◌+◌, ◌≤◌, List, Bool, refl}
 use Rattle.std.proofs.Math.Option.{Option}
 use Rattle.std.proofs.Common.{arith}
 use Rattle.tree.specs.Tree.{Ident, Node, Tree, Trees, size, sizes}
-use Rattle.tree.specs.Laws.Site.{let_next}
+use Rattle.tree.proofs.Laws.Site.{let_next}
 use Rattle.semantic.specs.declared.IdentifierStatus.{IdentifierStatus}
 use Rattle.pass.specs.State.{State, with_context, depth}
 use Rattle.pass.specs.Read.{enter_top_level_value, mutate}

@@ -4,7 +4,7 @@ use Rattle.std.proofs.Math.Option.{Option, none, some}
 use Rattle.std.proofs.Common.{◌∙◌, subst}
 use native.Mathlib.Omega.{arith}
 use Rattle.tree.specs.Tree.{Ident, Node, Tree, Trees, letin, define, lambda, sequence, call, set!, many, size, Num, Sequence}
-use Rattle.tree.specs.Laws.Tree.{size_pos, many_sizes}
+use Rattle.tree.proofs.Laws.Tree.{size_pos, many_sizes}
 use Rattle.semantic.specs.Kinds.{function_in, let_in}
 use Rattle.semantic.specs.declared.FunctionInformation.{FunctionInformation}
 use Rattle.semantic.specs.declared.LetInformation.{LetInformation}

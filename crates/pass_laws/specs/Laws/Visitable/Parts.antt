@@ -4,7 +4,7 @@ use Rattle.std.proofs.Math.Path.{ap}
 use Rattle.std.proofs.Common.{arith}
 use Rattle.std.proofs.Math.ListN.{length}
 use Rattle.tree.specs.Tree.{Ident, Node, Tree, Trees, if, letin, define, lambda, sequence, call, set!, cons, many, size, sizes, Num, begins, ands, whens}
-use Rattle.tree.specs.Laws.Tree.{size_pos, many_sizes}
+use Rattle.tree.proofs.Laws.Tree.{size_pos, many_sizes}
 use Rattle.tree.specs.Core.{cores}
 use Rattle.semantic.specs.declared.IdentifierStatus.TheVariants.{LocallyDefinedFunction}
 use Rattle.pass_laws.specs.Laws.Sound.Holds.{holds-cores}

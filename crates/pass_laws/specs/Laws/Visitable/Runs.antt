@@ -6,7 +6,7 @@ use native.Mathlib.Omega.{arith}
 use Rattle.std.proofs.Math.ListN.{length-replicate}
 use Rattle.tree.specs.Tree.{Ident, Trees, nil, cons, many, sizes, flats, Nums}
 use Rattle.tree.specs.Define.{◌⊕◌, top_level}
-use Rattle.tree.specs.Laws.Tree.{many-⊕, many_sizes}
+use Rattle.tree.proofs.Laws.Tree.{many-⊕, many_sizes}
 use Rattle.tree.specs.Accepted.{Accepted}
 use Rattle.semantic.specs.Rows.{Blank, no_list_entry}
 use Rattle.semantic.specs.declared.IdentifierStatus.TheVariants.{Global}

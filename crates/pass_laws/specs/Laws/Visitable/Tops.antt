@@ -2,7 +2,7 @@
 use Rattle.std.specs.Prelude.{ℕ, ◌+◌, ◌<◌, List, ◌≡◌}
 use Rattle.std.proofs.Common.{sym, ◌∙◌, arith}
 use Rattle.tree.specs.Tree.{Ident, Node, Tree, Trees, ident, const, if, letin, define, lambda, sequence, call, set!, cons, size, Num}
-use Rattle.tree.specs.Laws.Tree.{size_pos}
+use Rattle.tree.proofs.Laws.Tree.{size_pos}
 use Rattle.pass.specs.State.{State, with_context}
 use Rattle.pass.specs.Read.{enter_top_level_value}
 use Rattle.pass.specs.Visit.{top_flags, visit_top}

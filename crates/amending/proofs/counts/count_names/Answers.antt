@@ -1,0 +1,14 @@
+-- `count_names`.
+use Rattle.lists.specs.Index.{names_most}
+use Rattle.amending.proofs.TallyCase.{unmarked, tallied}
+use Rattle.amending.proofs.counts.count_names.Goals as goal
+
+pub mark_body-requires : goal.mark_body-requires
+mark_body-requires c =
+    let start = c in
+    (start.requires.0, unmarked names_most)
+
+pub returns : goal.returns
+returns c =
+    let at-mark-body = c in
+    tallied c.count_rows.ensures at-mark-body.mark_body.ensures

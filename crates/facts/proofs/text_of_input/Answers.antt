@@ -1,0 +1,6 @@
+-- `text_of_input`: the text of the bytes that were read.
+use Rattle.facts.specs.Laws.Input.{printed_of}
+use Rattle.facts.proofs.text_of_input.Goals as goal
+
+pub returns : goal.returns
+returns g c = printed_of c.read_all-r.ensures c.text.ensures

@@ -1,0 +1,9 @@
+-- `mark_set`: one number of the row changes.
+use mathlib.Core.Path.{refl}
+use Rattle.semantic.specs.Rows.{put_row}
+use Rattle.semantic.specs.Information.{mark_set}
+use Rattle.semantic.proofs.amend.mark_set.Goals as goal
+
+pub returns : goal.returns
+unfolding put_row
+returns c = c.set_number.ensures.is mark_set (λ l e h v q. refl)
