@@ -6,8 +6,8 @@
  * every input the answer and every number of every table are those of a definition, nothing else is written, and the call
  * returns.
  *
- * LINK    cc -I bindings/c device.c target/staticlib/libscheme_analysis.a
- *         `rt staticlib scheme_analysis` proves the library and writes the archive, for x86-64 and the System V calling
+ * LINK    cc -I bindings/c device.c crates/scheme_analysis/out/libscheme_analysis.a
+ *         `rt lib` in crates/scheme_analysis proves the library and writes the archive, for x86-64 and the System V calling
  *         convention. It asks for one symbol from outside, memset. `bindings/run install PREFIX` installs header, archive and
  *         a file for pkg-config.
  * MEMORY  No heap, and no variables of its own: calls on different tables may run at once. The tables are lent by the caller;

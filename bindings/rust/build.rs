@@ -1,4 +1,4 @@
-//! Says where the static library is: in the folder SCHEME_ANALYSIS_LIB, or where `rt staticlib` writes it in this repository.
+//! Says where the static library is: in the folder SCHEME_ANALYSIS_LIB, or where `rt lib` writes it in this repository.
 //! Only linking needs it, so where it is missing this warns and does not fail: `cargo check`, `clippy` and `doc` go through.
 
 use std::env;
@@ -7,7 +7,7 @@ use std::path::{Path, PathBuf};
 fn folder() -> PathBuf {
     match env::var_os("SCHEME_ANALYSIS_LIB") {
         Some(folder) => PathBuf::from(folder),
-        None => Path::new(&env::var_os("CARGO_MANIFEST_DIR").expect("cargo sets it")).join("../../target/staticlib"),
+        None => Path::new(&env::var_os("CARGO_MANIFEST_DIR").expect("cargo sets it")).join("../../crates/scheme_analysis/out"),
     }
 }
 
@@ -21,7 +21,7 @@ fn main() {
     if !archive.is_file() {
         println!("cargo:warning=nothing can be linked yet: there is no {}", archive.display());
         println!(
-            "cargo:warning=make it by `rt staticlib scheme_analysis`, or set SCHEME_ANALYSIS_LIB to the folder that has it"
+            "cargo:warning=make it by `rt lib` in crates/scheme_analysis, or set SCHEME_ANALYSIS_LIB to the folder that has it"
         );
     }
     println!("cargo:rustc-link-search=native={}", folder.display());

@@ -23,13 +23,10 @@ ROOT = os.path.dirname(os.path.dirname(HERE))
 CRATES = ["table", "tree", "semantic", "scope_map", "pass", "pass_laws", "r7rs", "lockstep", "execution"]
 BATCH = 60
 
-HEADER = """use Prim.Native.Nat.{ℕ}
-use mathlib.Core.List.{List, [], _∷_}
-use mathlib.Core.Bool.{Bool, true, false}
-use mathlib.Core.Path.{_≡_, refl}
-use Rattle·tree.specs.Tree.{Ident, Node, Tree, Trees, ident, const, if, letin, define, lambda, sequence, begins, ands, whens, call, set!, nil, cons}
-use Rattle·trial·specs.specs.InStep.{demand3, failsOutside}
-use Rattle·trial·specs.specs.Claimed.{claims, claimsAnyhow}
+HEADER = """use Rattle.std.specs.Prelude.{ℕ, List, [], ◌∷◌, Bool, true, false, ◌≡◌, refl}
+use Rattle.tree.specs.Tree.{Ident, Node, Tree, Trees, ident, const, if, letin, define, lambda, sequence, begins, ands, whens, call, set!, nil, cons}
+use Rattle.trial.specs.InStep.{demand3, fails_outside}
+use Rattle.trial.specs.Claimed.{claims, claims_anyhow}
 
 abbrev x : ℕ → ℕ → ℕ → Ident
 x at id name = record { at = at; id = id; name = name; from = at; to = id }
@@ -57,23 +54,22 @@ def unfolding(place):
     words = []
     for crate in CRATES + ["trial"]:
         for path in sorted(glob.glob(f"{place}/crates/{crate}/specs/*.antt")):
-            where = f"Rattle·{crate}.specs" if crate != "trial" else "Rattle·trial·specs.specs"
-            words += [f"{where}.{os.path.basename(path)[:-5]}.{n}" for n in unfoldables(path)]
+            words += [f"Rattle.{crate}.specs.{os.path.basename(path)[:-5]}.{n}" for n in unfoldables(path)]
     return "unfolding " + " ".join(words)
 
 
 def make_place(place):
     for crate in CRATES:
-        shutil.copytree(f"{ROOT}/crates/{crate}", f"{place}/crates/{crate}")
-    if os.path.isdir(f"{ROOT}/target"):
-        shutil.copytree(f"{ROOT}/target", f"{place}/target")
+        for part in ("src", "specs", "proofs"):
+            if os.path.isdir(f"{ROOT}/crates/{crate}/{part}"):
+                shutil.copytree(f"{ROOT}/crates/{crate}/{part}", f"{place}/crates/{crate}/{part}")
     lines = [l for l in open(f"{ROOT}/crates.txt") if l.split(":")[0] in CRATES]
     with open(f"{place}/crates.txt", "w") as out:
         out.write("".join(lines) + "trial: " + " ".join(CRATES) + "\n")
     os.makedirs(f"{place}/crates/trial/src")
     os.makedirs(f"{place}/crates/trial/specs")
     with open(f"{place}/crates/trial/src/lib.rt", "w") as out:
-        out.write("// Trials.\n")
+        out.write("#![tactic(auto)]\n// Trials.\n")
     shutil.copy(f"{HERE}/in_step.template", f"{place}/crates/trial/specs/InStep.antt")
     shutil.copy(f"{HERE}/claims.template", f"{place}/crates/trial/specs/Claimed.antt")
     return unfolding(place)
@@ -100,11 +96,11 @@ def check(place, cases, opened):
             out.write(HEADER + "".join(equation(n, c, opened) for n, c in part.items()))
         with open(f"{place}/crates/trial/specs/Lib.antt", "w") as out:
             out.write("pub mod InStep\npub mod Claimed\npub mod Cases\n")
-        done = subprocess.run(["rt", "dev", "trial"], cwd=place, capture_output=True, text=True)
+        done = subprocess.run(["rt", "check"], cwd=f"{place}/crates/trial", capture_output=True, text=True)
         said = done.stdout + done.stderr
         wrong = {n for n in re.findall(r"`(t\d+)`", said) if n in part}
         if not wrong and done.returncode != 0:
-            lost = re.search(r"rt: (\w+) NOT PROVED", said)
+            lost = re.search(r"rt: the library (\w+) did not build", said)
             raise NotProved(lost.group(1)) if lost else SystemExit(said[-3000:])
         failed += [part[n] for n in sorted(wrong)]
         print(f"  {start + len(part)} of {len(cases)}, {len(failed)} failed", flush=True)
@@ -178,7 +174,7 @@ def runs(args):
         cases.append({"text": show(top), "goal": f"demand3 {classes_of(names)} {tree.antt_list(top)} {args.moments} ≡ {numbers(outcome)}"})
     for text in scripts.OUTSIDE:
         top, names = made(text)
-        cases.append({"text": text, "goal": f"failsOutside {classes_of(names)} {tree.antt_list(top)} {args.moments} ≡ true"})
+        cases.append({"text": text, "goal": f"fails_outside {classes_of(names)} {tree.antt_list(top)} {args.moments} ≡ true"})
     return [t for t, _ in tops], cases, ended
 
 
@@ -207,7 +203,7 @@ def claim_cases(args):
             continue
         kinds["inner define" if refused is None else f"refusal {refused[0]}" if refused[0] else "accepted"] += 1
         words = f"{classes_of(names, 'a')} {tree.antt_list(top)}"
-        goal = f"claimsAnyhow {words} ≡ 0" if refused is None else f"claims {words} ≡ 0 ∷ {numbers(refused)}"
+        goal = f"claims_anyhow {words} ≡ 0" if refused is None else f"claims {words} ≡ 0 ∷ {numbers(refused)}"
         cases.append({"text": show(top), "goal": goal})
     return cases, kinds
 

@@ -30,25 +30,21 @@ class Prover:
         self.folder, self.rt = folder, rt
         crates = crates_of_pass(repository)
         for crate in crates:
-            shutil.copytree(os.path.join(repository, "crates", crate), os.path.join(folder, "crates", crate))
+            for part in "src", "specs", "proofs":
+                if os.path.isdir(os.path.join(repository, "crates", crate, part)):
+                    shutil.copytree(os.path.join(repository, "crates", crate, part), os.path.join(folder, "crates", crate, part))
         with open(os.path.join(repository, "crates.txt")) as lines:
             kept = [line for line in lines if line.split(":")[0] in crates]
         with open(os.path.join(folder, "crates.txt"), "w") as lines:
             lines.write("".join(kept) + "trial: %s\n" % " ".join(crates))
         self.leave_out_scripts()
-        self.put("src", "lib.rt", "// Lemmas about cases.\n")
+        self.put("src", "lib.rt", "#![tactic(auto)]\n// Lemmas about cases.\n")
         with open(os.path.join(os.path.dirname(__file__), "seen.txt")) as source:
             self.seen = source.read().replace("UNFOLDABLE", " ".join(terms.unfoldable(os.path.join(folder, "crates"), crates)))
 
     def leave_out_scripts(self):
         """A definition that fails the lemmas about scripts is tried all the same."""
-        specs = os.path.join(self.folder, "crates", "pass", "specs")
-        shutil.rmtree(os.path.join(specs, "Laws"))
-        os.remove(os.path.join(specs, "Laws.antt"))
-        with open(os.path.join(specs, "Lib.antt")) as lines:
-            kept = [line for line in lines if line.split() != ["pub", "mod", "Laws"]]
-        with open(os.path.join(specs, "Lib.antt"), "w") as lines:
-            lines.write("".join(kept))
+        shutil.rmtree(os.path.join(self.folder, "crates", "pass", "proofs"))
 
     def put(self, part, name, text):
         folder = os.path.join(self.folder, "crates", "trial", part)
@@ -63,7 +59,7 @@ class Prover:
         self.put("specs", "Lib.antt", "".join("pub mod %s\n" % m for m in ["Seen", *modules]))
         for name, text in modules.items():
             self.put("specs", name + ".antt", terms.HEAD + text)
-        run = subprocess.run([self.rt, "dev", "trial"], cwd=self.folder, env=dict(os.environ, RT_CUT="0", RT_JOBS="1"),
+        run = subprocess.run([self.rt, "check", "--jobs", "1"], cwd=os.path.join(self.folder, "crates", "trial"),
                              stdout=subprocess.PIPE, stderr=subprocess.STDOUT, text=True)
         found = re.findall(r"specs/(\w+)\.antt:\d+:\d+: error: `([\w']+)`: (.*?)(?=^\S)", run.stdout + "\n.", re.M | re.S)
         proved = run.returncode == 0 and "logic=proved" in run.stdout

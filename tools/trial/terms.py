@@ -9,11 +9,9 @@ from trees import AND, BEGIN, CALL, CONST, DEFINE, IDENT, IF, LAMBDA, LET, UNLES
 # Of cases with more records only the fresh run is tried, for its refusal and how many entries its lists have.
 LARGE = 60
 
-HEAD = """use mathlib.Core.List.{List, [], _∷_, _++_}
-use mathlib.Core.Bool.{true, false}
-use mathlib.Core.Path.{_≡_, refl}
-use Rattle·tree.specs.Tree.{Trees, ident, const, if, letin, define, lambda, sequence, begins, ands, whens, call, set!, nil, cons}
-use Rattle·trial·specs.specs.Seen.{x, n, copies, cell, seenFresh, seenSettled, countsFresh, recordsOf, checked, restFresh, restSettled}
+HEAD = """use Rattle.std.specs.Prelude.{List, [], ◌∷◌, ◌++◌, true, false, ◌≡◌, refl}
+use Rattle.tree.specs.Tree.{Trees, ident, const, if, letin, define, lambda, sequence, begins, ands, whens, call, set!, nil, cons}
+use Rattle.trial.specs.Seen.{x, n, copies, cell, seen_fresh, seen_settled, counts_fresh, records_of, checked, rest_fresh, rest_settled}
 
 """
 
@@ -30,7 +28,7 @@ def unfoldable(folder, crates):
         for file in sorted(f for f in os.listdir(specs) if f.endswith(".antt")):
             with open(os.path.join(specs, file)) as source:
                 names = names_in(source.read().splitlines())
-            out += ["Rattle·%s.specs.%s.%s" % (crate, file[:-len(".antt")], name) for name in names]
+            out += ["Rattle.%s.specs.%s.%s" % (crate, file[:-len(".antt")], name) for name in names]
     return out
 
 
@@ -117,7 +115,7 @@ def refusal(refused):
 def seen(facts):
     """The record `Seen`."""
     tops = [] if facts.refused else sizes(facts)[1:]
-    return "record { refused = %s; rows = %s; captured = %s; arguments = %s; tops = %s; restIsZero = true }" % (
+    return "record { refused = %s; rows = %s; captured = %s; arguments = %s; tops = %s; rest_is_zero = true }" % (
         refusal(facts.refused), rows(facts.rows), rows(facts.captured), rows(facts.arguments), number_list(tops))
 
 
@@ -134,14 +132,14 @@ def case_lemmas(number, case, fresh, settled, whole):
     name = "t%d" % number
     out = tree_of(name, case)
     if len(case.records) > LARGE:
-        left = "countsFresh %s %s" % (number_list(case.classes), name)
-        return out + lemma("fresh%d" % number, left, rows([fresh.refused or sizes(fresh)[1:]]), "countsFresh")
-    for run, facts in ("Fresh", fresh), ("Settled", settled):
-        out += lemma(run.lower() + str(number), computed("seen" + run, case, name, facts), seen(facts), "seen" + run)
+        left = "counts_fresh %s %s" % (number_list(case.classes), name)
+        return out + lemma("fresh%d" % number, left, rows([fresh.refused or sizes(fresh)[1:]]), "counts_fresh")
+    for run, facts in ("fresh", fresh), ("settled", settled):
+        out += lemma(run + str(number), computed("seen_" + run, case, name, facts), seen(facts), "seen_" + run)
         if whole and not facts.refused:
-            out += lemma("rest%s%d" % (run, number), computed("rest" + run, case, name, facts), "true", "rest" + run)
+            out += lemma("rest_%s%d" % (run, number), computed("rest_" + run, case, name, facts), "true", "rest_" + run)
     numbers = number_list(flat(case.records))
-    out += lemma("records%d" % number, "recordsOf " + name, numbers, "recordsOf")
+    out += lemma("records%d" % number, "records_of " + name, numbers, "records_of")
     return out + lemma("checked%d" % number, "checked %d %s" % (len(case.classes), numbers), "[]", "checked")
 
 
@@ -155,11 +153,11 @@ def check_lemma(number, names, numbers, refused):
 
 def cell_lemmas(case, run, facts):
     """A lemma for the refusal and for each number of the tables: `refused'0'1`, `rows'3'7`, `captured'0'2`, `arguments'1'0`."""
-    left = computed("seen" + run, case, "t0", facts)
+    left = computed("seen_" + run, case, "t0", facts)
     tables = {"refused": [facts.refused or (0, 0)], "rows": facts.rows, "captured": facts.captured, "arguments": facts.arguments}
     out = tree_of("t0", case)
     for table, lines in tables.items():
         for i, line in enumerate(lines):
             for j, value in enumerate(line):
-                out += lemma("%s'%d'%d" % (table, i, j), "cell (%s .%s) %d %d" % (left, table, i, j), value, "seen" + run)
+                out += lemma("%s'%d'%d" % (table, i, j), "cell (%s).%s %d %d" % (left, table, i, j), value, "seen_" + run)
     return out

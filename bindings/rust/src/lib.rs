@@ -154,8 +154,8 @@
 //! # Linking
 //!
 //! The crate links `libscheme_analysis.a` from the folder that the variable `SCHEME_ANALYSIS_LIB` names, or from where
-//! `rt staticlib scheme_analysis` writes it. Without the library everything but linking works, and cargo warns. A library of
-//! another [`VERSION`] does not link: its symbols have other names.
+//! `rt lib` in `crates/scheme_analysis` writes it. Without the library everything but linking works, and cargo warns. A
+//! library of another [`VERSION`] does not link: its symbols have other names.
 //!
 //! # Features
 //!
