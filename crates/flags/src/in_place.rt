@@ -1,4 +1,4 @@
-// The flags change in place, in a struct that is lent by `&mut`. Such functions are proved by hand, so they are few and thin.
+// The flags change in place, in a struct that is lent by `&mut`, and are put back.
 ghost use Rattle.std.specs.Prelude.{◌≡◌};
 ghost use Rattle.flags.specs.Part.{Room, at_part};
 

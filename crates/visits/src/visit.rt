@@ -3,7 +3,7 @@
 // copy them (docs/SPEED.md, 42). The other tables are lent by a reference to their reference, one word that a visit hands on as it is; one that is only
 // read is first lent to a local (docs/SPEED.md, 45). A child that is visited next has the number n, and p is the part that starts at it.
 
-// A short name: the prover keeps what it checked of the cycle in files named after all of its functions, and a name has 255 bytes at most.
+// The forms that hold expressions in a row.
 mod seq;
 
 ghost use Rattle.std.specs.Prelude.{◌≡◌};
