@@ -1,8 +1,8 @@
 -- The list that a second run keeps, one entry after another.
+use Rattle.std.specs.Prelude.{Option, None, Some}
 use Prim.Native.Nat.{ℕ, suc, ◌≤◌}
 use mathlib.Core.List.{List, [], ◌∷◌, ◌++◌}
 use mathlib.Core.Bool.{Bool, true, false, cond, not, ◌||◌}
-use mathlib.Core.Option.{Option, none, some}
 use mathlib.Core.Path.{◌≡◌, refl, ap, sym, ◌∙◌}
 use native.Mathlib.Omega.{arith}
 use borrow.Author.Tests.{eqb-true, eqb-false, eq-eqb, ne_eqb}
@@ -76,8 +76,8 @@ module _ (now : List ListEntry) (m : ScopeMap Capture) where
   kept_name false i = go (first_of (name_of i) now)
     where
       go : (o : Option ListEntry) → name_of (kept_list_entry now m o i) ≡ name_of i
-      go none = refl
-      go (some v) = refl
+      go None = refl
+      go (Some v) = refl
 
   amended-names : (seen : List ℕ) (l : List ListEntry) → names_of (amend_list now m seen l) ≡ names_of l
   unfolding amend_list

@@ -1,8 +1,8 @@
 -- An entry as a second run keeps it. No place of the code stands here.
+use Rattle.std.specs.Prelude.{Option, None, Some}
 use Prim.Native.Nat.{ℕ, ◌+◌, ◌≤◌, ◌<◌}
 use mathlib.Core.List.{List, [], map}
 use mathlib.Core.Bool.{Bool, true, false, cond, ◌&&◌, ◌||◌}
-use mathlib.Core.Option.{Option, none, some}
 use mathlib.Core.Path.{◌≡◌, refl, ap, sym, subst, ◌∙◌}
 use native.Mathlib.Omega.{arith}
 use borrow.Author.Tests.{eq-eqb, ne_eqb}
@@ -119,9 +119,9 @@ module _ {p : Pass} {w : List ℕ} (x n : ℕ) (v : ScopeInfo) {found : Binder} 
   pub amended-none : found ≡ binder.Nothing → AmendsInfo found p w x n v v
   amended-none e = record { is = λ s o k q. go s.scope o (eqb n 1 && enclosing_of (get s.captures x)) (ap record_of (sym e) ∙ q) }
     where
-      go : (c : Scope) (o : Option Ident) (q : Bool) → none ≡ record_in o → v ≡ amended_info (list_entry_in c o) q v
-      go c none q e = refl
-      go c (some b) q e = absurd (let z : ◌≡◌ {A = ℕ} 0 1 = cc in omega arith)
+      go : (c : Scope) (o : Option Ident) (q : Bool) → None ≡ record_in o → v ≡ amended_info (list_entry_in c o) q v
+      go c None q e = refl
+      go c (Some b) q e = absurd (let z : ◌≡◌ {A = ℕ} 0 1 = cc in omega arith)
 
   pub amended-some : {b : ℕ} → found ≡ binder.At b → {d : Coded} → LoadsEntry w b d
       → {q : Bool} → Tells p w (λ s. eqb n 1 && enclosing_of (get s.captures x)) q → AmendsInfo found p w x n v (with_heap d.heap (with_enclosing q v))
@@ -130,10 +130,10 @@ module _ {p : Pass} {w : List ℕ} (x n : ℕ) (v : ScopeInfo) {found : Binder} 
         go s.scope o (eqb n 1 && enclosing_of (get s.captures x)) (u.is s k) (ap record_of (sym e) ∙ c) (ap (λ (y : Coded). y.heap) (l.is p s k));
   }
     where
-      go : (c : Scope) (o : Option Ident) (r : Bool) → q ≡ r → some b ≡ record_in o → d.heap ≡ (entry_in c b).heap_offset
+      go : (c : Scope) (o : Option Ident) (r : Bool) → q ≡ r → Some b ≡ record_in o → d.heap ≡ (entry_in c b).heap_offset
           → with_heap d.heap (with_enclosing q v) ≡ amended_info (list_entry_in c o) r v
-      go c none r e f h = absurd (let z : ◌≡◌ {A = ℕ} 0 1 = cc in omega arith)
-      go c (some y) r e f h =
+      go c None r e f h = absurd (let z : ◌≡◌ {A = ℕ} 0 1 = cc in omega arith)
+      go c (Some y) r e f h =
           let at : b ≡ y.at = cc in
           let heap : d.heap ≡ (entry_in c y.at).heap_offset = h ∙ ap (λ (j : ℕ). (entry_in c j).heap_offset) at in
           rw (e, heap)
@@ -141,9 +141,9 @@ module _ {p : Pass} {w : List ℕ} (x n : ℕ) (v : ScopeInfo) {found : Binder} 
 pub amended-inside : {found : Binder} {b : ℕ} → found ≡ binder.At b → SomeBinder found → b < rows_most
 amended-inside {b = b} e h = go h.o refl (ap record_of (sym e) ∙ h.code)
   where
-    go : (o : Option Ident) → h.o ≡ o → some b ≡ record_in o → b < rows_most
-    go none k q = absurd (let z : ◌≡◌ {A = ℕ} 0 1 = cc in omega arith)
-    go (some y) k q = let z : b ≡ y.at = cc in omega (arith, h.few y k)
+    go : (o : Option Ident) → h.o ≡ o → Some b ≡ record_in o → b < rows_most
+    go None k q = absurd (let z : ◌≡◌ {A = ℕ} 0 1 = cc in omega arith)
+    go (Some y) k q = let z : b ≡ y.at = cc in omega (arith, h.few y k)
 
 -- The entry that is kept
 
@@ -168,7 +168,7 @@ module _ {rs : List ℕ} {names : Names} {p : Pass} {w index : List ℕ} {n : �
   kept_absent h = record {
     is = λ xs b s y told m works idx c e.
         let now = now_of xs b s in
-        let none_of : first_of (name_of y) now ≡ none = find_none (name_of y) now (ap (λ (z : ℕ). count_of z now) (sym e.name) ∙ sym c ∙ h) in
+        let none_of : first_of (name_of y) now ≡ None = find_none (name_of y) now (ap (λ (z : ℕ). count_of z now) (sym e.name) ∙ sym c ∙ h) in
         let same : y ≡ cond seen y (kept_list_entry now s.captures (first_of (name_of y) now) y) =
         sym (ap (λ (o : Option ListEntry). cond seen y (kept_list_entry now s.captures o y)) none_of ∙ same_list-entry seen y) in
         subst (ListEntryIs x) same e;
@@ -192,13 +192,13 @@ module _ {rs : List ℕ} {names : Names} {p : Pass} {w index : List ℕ} {n : �
         let count : count_of z now ≡ n = ap (λ (i : ℕ). count_of i now) (sym e.name) ∙ sym c in
         let k = find-some (Offered ps s.scope) z now (used-offered xs b s m) (λ q. g (sym count ∙ q)) in
         let o = offered ps s.scope x.name in
-        let list_entry : list_entry_in s.scope o ≡ some k.v =
+        let list_entry : list_entry_in s.scope o ≡ Some k.v =
         ap (λ (j : ℕ). list_entry_in s.scope (offered ps s.scope j)) (e.name ∙ sym k.named) ∙ k.holds in
-        let kept : cond seen y (kept_list_entry now s.captures (first_of z now) y) ≡ kept_list_entry now s.captures (some k.v) y =
+        let kept : cond seen y (kept_list_entry now s.captures (first_of z now) y) ≡ kept_list_entry now s.captures (Some k.v) y =
         ap (λ (q : Bool). cond q y (kept_list_entry now s.captures (first_of z now) y)) h
         ∙ ap (λ (u : Option ListEntry). kept_list_entry now s.captures u y) k.is in
         let heap = k.v.info.heap_offset in
-        let info : v ≡ (kept_list_entry now s.captures (some k.v) y).info =
+        let info : v ≡ (kept_list_entry now s.captures (Some k.v) y).info =
         a.is s o works (t.is xs s told works idx)
         ∙ ap (λ (u : Option ListEntry). amended_info u (eqb n 1 && enclosing_of (get s.captures x.name)) x.info) list_entry
         ∙ ap (λ (j : ℕ). with_heap heap (with_enclosing (eqb j 1 && enclosing_of (get s.captures x.name)) x.info)) (sym count)

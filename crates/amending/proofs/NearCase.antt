@@ -1,8 +1,8 @@
 -- The newest capture of a name, and the offsets that an entry takes from it. No place of the code stands here.
+use Rattle.std.specs.Prelude.{Option, None, Some}
 use Prim.Native.Nat.{ℕ, ◌-◌, ◌<◌}
 use mathlib.Core.List.{List}
 use mathlib.Core.Bool.{Bool, true, false, cond, not}
-use mathlib.Core.Option.{Option, none, some}
 use mathlib.Core.Path.{◌≡◌, refl, ap, sym, subst, ◌∙◌}
 use native.Mathlib.Omega.{arith}
 use borrow.Author.Tests.{leb-true, leb-false, lt-ltb, le-ltb}
@@ -34,14 +34,14 @@ use Rattle.amending.specs.Numbered.{TellsNear, offsets_from, PutsOffsets}
 
 pub record CaptureAt (o : Option (Live Capture)) (d v : ℕ) : Type 0 where
   pub capture : Live Capture
-  pub is : o ≡ some capture
+  pub is : o ≡ Some capture
   pub layer : capture.layer ≡ d
   pub row : capture.value.row ≡ v
 
-pub no_capture-at : (s : State) (x : ℕ) → capture_found s x ≡ found.Nothing → get s.captures x ≡ none
+pub no_capture-at : (s : State) (x : ℕ) → capture_found s x ≡ found.Nothing → get s.captures x ≡ None
 no_capture-at s x e = pick (found_capture s.captures.live x)
   where
-    pick : Looked s.captures.live x → get s.captures x ≡ none
+    pick : Looked s.captures.live x → get s.captures x ≡ None
     pick (no_capture g f) = g
     pick (the_capture c j g f h) = absurd (let z : ◌≡◌ {A = ℕ} 0 1 = cc in omega arith)
 
@@ -74,16 +74,16 @@ module _ {p : Pass} {w : List ℕ} {x : ℕ} {o : Found} (g : GetsCapture p w x 
     near-inside h = inside h.held.s h.held.good h.held.tied
 
     told : {C F A : List ℕ} (s : State) → Tied (raw p F C A w) s → (b : Bool) → b ≡ not (leb (p.captures.depth - d) 1)
-        → near s x ≡ cond b none (some (info_at s v))
+        → near s x ≡ cond b None (Some (info_at s v))
     told s t b q =
         let c = taken s t in
         let z : depth_of s.captures c.capture ≡ p.captures.depth - d = omega (arith, captures_depth t.works, c.layer) in
         ap (near_in s) c.is
-        ∙ ap (λ (n : ℕ). cond (leb n 1) (some (info_at s c.capture.value.row)) none) z
-        ∙ ap (λ (n : ℕ). cond (leb (p.captures.depth - d) 1) (some (info_at s n)) none) c.row
+        ∙ ap (λ (n : ℕ). cond (leb n 1) (Some (info_at s c.capture.value.row)) None) z
+        ∙ ap (λ (n : ℕ). cond (leb (p.captures.depth - d) 1) (Some (info_at s n)) None) c.row
         ∙ turned (leb (p.captures.depth - d) 1) b (info_at s v) q
       where
-        turned : (a b : Bool) (y : ScopeInfo) → b ≡ not a → cond a (some y) none ≡ cond b none (some y)
+        turned : (a b : Bool) (y : ScopeInfo) → b ≡ not a → cond a (Some y) None ≡ cond b None (Some y)
         turned true b y q = rw q
         turned false b y q = rw q
 
@@ -95,7 +95,7 @@ module _ {p : Pass} {w : List ℕ} {x : ℕ} {o : Found} (g : GetsCapture p w x 
       near_info k {n = n} {y} z u = record {
         is = λ rs F A s h t.
             let got : y ≡ info_at s v = u.is s.facts.captured t.captured (omega (arith, inside s h t, captured_many t.works)) ∙ ap (info_at s) z in
-            ap {B = Option ScopeInfo} some got ∙ sym (told s t false (sym k ∙ q));
+            ap {B = Option ScopeInfo} Some got ∙ sym (told s t false (sym k ∙ q));
       }
 
 -- Offsets

@@ -1,8 +1,8 @@
 -- How often a name stands in the list made anew, and the entry that it has there. No place of the code stands here.
+use Rattle.std.specs.Prelude.{Option, None, Some}
 use Prim.Native.Nat.{ℕ, suc, ◌+◌, ◌-◌, ◌≤◌, ◌<◌}
 use mathlib.Core.List.{List, [], ◌∷◌, map}
 use mathlib.Core.Bool.{Bool, true, false, cond, ◌&&◌, ◌||◌}
-use mathlib.Core.Option.{Option, none, some}
 use mathlib.Core.Path.{◌≡◌, refl, ap, sym, subst, ◌∙◌}
 use native.Mathlib.Omega.{arith}
 use borrow.Author.Tests.{eqb-true, eq-eqb, ne_eqb}
@@ -40,16 +40,16 @@ use Rattle.lists.specs.Laws.Bottom.{none_before}
 
 -- In a good state live names are their binders', so the newest binder of a name has the name
 
-named_in : (l : List (Live Ident)) → All IsNamed l → (x : ℕ) (b : Ident) → binder_in (get_in l x) ≡ some b → b.name ≡ x
+named_in : (l : List (Live Ident)) → All IsNamed l → (x : ℕ) (b : Ident) → binder_in (get_in l x) ≡ Some b → b.name ≡ x
 unfolding get_in
 named_in [] a x b q = absurd (let z : ◌≡◌ {A = ℕ} 0 1 = cc in omega arith)
 named_in (e ∷ l) a x b q = pick (eqb e.name x) refl q (named_in l a.1 x b)
   where
-    pick : (t : Bool) → eqb e.name x ≡ t → binder_in (cond t (some e) (get_in l x)) ≡ some b → (binder_in (get_in l x) ≡ some b → b.name ≡ x) → b.name ≡ x
+    pick : (t : Bool) → eqb e.name x ≡ t → binder_in (cond t (Some e) (get_in l x)) ≡ Some b → (binder_in (get_in l x) ≡ Some b → b.name ≡ x) → b.name ≡ x
     pick true k q r = let same : e.value ≡ b = cc in ap (λ (y : Ident). y.name) (sym same) ∙ a.0 ∙ eqb-true e.name x k
     pick false k q r = r q
 
-pub given-named : {rs : List ℕ} (ps : List ℕ) (s : State) → Good rs s → (e : Live Ident) (b : Ident) → given ps s.scope e ≡ some b → b.name ≡ e.name
+pub given-named : {rs : List ℕ} (ps : List ℕ) (s : State) → Good rs s → (e : Live Ident) (b : Ident) → given ps s.scope e ≡ Some b → b.name ≡ e.name
 given-named ps s g e b q = named_in s.scope.names.live g.sound.named e.name b (given-newest ps s.scope e b q)
 
 -- A name more
@@ -58,11 +58,11 @@ pub neither : (q : Bool) → ◌≡◌ {A = ℕ} (cond (q && false) 1 0) 0
 neither true = refl
 neither false = refl
 
-pub count_with : (c : Scope) (o : Option Ident) (l : List ListEntry) (x y : ℕ) → ((b : Ident) → o ≡ some b → b.name ≡ y)
+pub count_with : (c : Scope) (o : Option Ident) (l : List ListEntry) (x y : ℕ) → ((b : Ident) → o ≡ Some b → b.name ≡ y)
     → count_of x (with_given c o l) ≡ count_of x l + cond (eqb y x && is_some (record_in o)) 1 0
 unfolding count_of
-count_with c none l x y h = omega (arith, neither (eqb y x))
-count_with c (some b) l x y h =
+count_with c None l x y h = omega (arith, neither (eqb y x))
+count_with c (Some b) l x y h =
     ap (λ (n : ℕ). cond (eqb n x) (suc (count_of x l)) (count_of x l)) (h b refl) ∙ go (eqb y x)
   where
     go : (q : Bool) → cond q (suc (count_of x l)) (count_of x l) ≡ count_of x l + cond (q && true) 1 0
@@ -113,8 +113,8 @@ module _ {rs : List ℕ} {names : Names} {p : Pass} {w : List ℕ} {name : ℕ} 
     now_last a e = record {
       is = λ xs s k y works.
           let ps = map name_in xs in
-          let none = ap (λ (j : ℕ). count_of name (captured_in ps s (before j s.scope.names.live))) e ∙ ap (count_of name) (none_before a s ps works) in
-          omega (arith, (u.is s works).is xs k y, none);
+          let None = ap (λ (j : ℕ). count_of name (captured_in ps s (before j s.scope.names.live))) e ∙ ap (count_of name) (none_before a s ps works) in
+          omega (arith, (u.is s works).is xs k y, None);
     }
 
 -- Those that the body uses
@@ -196,7 +196,7 @@ module _ {rs : List ℕ} {d : Ending} {p : Pass} {w : List ℕ} {name : ℕ} whe
 -- Every entry is the one that its name gives
 
 abbrev pub Offered : List ℕ → Scope → ListEntry → Type 0
-Offered ps c v = list_entry_in c (offered ps c (name_of v)) ≡ some v
+Offered ps c v = list_entry_in c (offered ps c (name_of v)) ≡ Some v
 
 now_offered : {rs : List ℕ} (ps : List ℕ) (s : State) → Good rs s → (l : List (Live Ident)) → All (Offered ps s.scope) (captured_in ps s l)
 unfolding captured_in
@@ -205,8 +205,8 @@ now_offered ps s n (e ∷ l) = subst (All (Offered ps s.scope)) (sym (captured_s
   where
     go : (o : Option Ident) → given ps s.scope e ≡ o → All (Offered ps s.scope) (captured_in ps s l)
         → All (Offered ps s.scope) (with_given s.scope o (captured_in ps s l))
-    go none q r = r
-    go (some b) q r =
+    go None q r = r
+    go (Some b) q r =
         let same = ap (λ (x : ℕ). list_entry_in s.scope (offered ps s.scope x)) (given-named ps s n e b q) in
         (same ∙ ap (list_entry_in s.scope) (given-offered ps s.scope e b q), r)
 
@@ -223,7 +223,7 @@ used-offered xs b s n =
 
 pub record FoundListEntry (P : ListEntry → Type 0) (x : ℕ) (l : List ListEntry) : Type 0 where
   pub v : ListEntry
-  pub is : first_of x l ≡ some v
+  pub is : first_of x l ≡ Some v
   pub named : name_of v ≡ x
   pub holds : P v
 
@@ -237,11 +237,11 @@ find-some P x (i ∷ l) a h = go (eqb (name_of i) x) refl h (find-some P x l a.1
     go true k g r = record { v = i; is = rw k; named = eqb-true (name_of i) x k; holds = a.0 }
     go false k g r = let f = r g in record { v = f.v; is = rw k f.is; named = f.named; holds = f.holds }
 
-pub find_none : (x : ℕ) (l : List ListEntry) → count_of x l ≡ 0 → first_of x l ≡ none
+pub find_none : (x : ℕ) (l : List ListEntry) → count_of x l ≡ 0 → first_of x l ≡ None
 unfolding first_of count_of
 find_none x [] h = refl
 find_none x (i ∷ l) h = go (eqb (name_of i) x) h (find_none x l)
   where
-    go : (q : Bool) → cond q (suc (count_of x l)) (count_of x l) ≡ 0 → (count_of x l ≡ 0 → first_of x l ≡ none) → cond q (some i) (first_of x l) ≡ none
+    go : (q : Bool) → cond q (suc (count_of x l)) (count_of x l) ≡ 0 → (count_of x l ≡ 0 → first_of x l ≡ None) → cond q (Some i) (first_of x l) ≡ None
     go true e r = absurd (omega arith)
     go false e r = r e

@@ -1,8 +1,8 @@
 -- A lambda's list numbered, row after row. No place of the code stands here.
+use Rattle.std.specs.Prelude.{Option}
 use Prim.Native.Nat.{ℕ, zero, suc, ◌+◌, ◌-◌, ◌≤◌, ◌<◌}
 use mathlib.Core.List.{List, [], ◌∷◌}
 use mathlib.Core.Bool.{Bool, true, false, cond, not}
-use mathlib.Core.Option.{Option}
 use mathlib.Core.Path.{◌≡◌, refl, ap, sym, subst, ◌∙◌}
 use native.Mathlib.Omega.{arith}
 use borrow.Author.Tests.{ltb-false}
@@ -267,9 +267,9 @@ module _ {heap : Bool} {n first : ℕ} {p : Pass} {C w : List ℕ} where
     is = λ rs F A s g t.
         let l = m.left rs F A s g t in
         let z : n - k ≡ 0 = omega arith in
-        let none : l.t ≡ rows_done heap n first 0 s = sym (ap (λ (j : ℕ). rows_done heap j (first + k) i l.t) z) ∙ l.rest in
+        let None : l.t ≡ rows_done heap n first 0 s = sym (ap (λ (j : ℕ). rows_done heap j (first + k) i l.t) z) ∙ l.rest in
         let whole : rows_done heap n first 0 s ≡ rows_done heap e.length e.first 0 s = rw (a, b) in
-        subst (Tied (raw q F C' A w')) (none ∙ whole) l.tied;
+        subst (Tied (raw q F C' A w')) (None ∙ whole) l.tied;
   }
 
 -- Both

@@ -1,6 +1,5 @@
 -- The list that a second run keeps at a lambda's end, entry by entry: what its functions promise.
-use Rattle.std.specs.Prelude.{ℕ, ◌-◌, ◌≤◌, ◌<◌, List, ◌∷◌, map, Bool, cond, not, ◌&&◌, ◌||◌, ◌≡◌, length, set, replicate, eqb}
-use Rattle.std.proofs.Math.Option.{Option, none, some}
+use Rattle.std.specs.Prelude.{ℕ, ◌-◌, ◌≤◌, ◌<◌, List, ◌∷◌, map, Bool, cond, not, ◌&&◌, ◌||◌, ◌≡◌, length, set, replicate, eqb, Option, None, Some}
 use Rattle.std.proofs.lemmas.List.Edits.{sets}
 use Rattle.table.specs.Layout.{layout}
 use Rattle.tree.specs.Tree.{Ident, Tree}
@@ -40,18 +39,18 @@ pub record StandsBefore (C : List ℕ) (first end : ℕ) (m : List ℕ) (name : 
 
 -- the entry of a binder
 abbrev pub list_entry_in : Scope → Option Ident → Option ListEntry
-list_entry_in c none = none
-list_entry_in c (some b) = some (list_entry_of b (entry_in c b.at))
+list_entry_in c None = None
+list_entry_in c (Some b) = Some (list_entry_of b (entry_in c b.at))
 
 abbrev pub amended_info : Option ListEntry → Bool → ScopeInfo → ScopeInfo
-amended_info none enclosing v = v
-amended_info (some i) enclosing v = with_heap i.info.heap_offset (with_enclosing enclosing v)
+amended_info None enclosing v = v
+amended_info (Some i) enclosing v = with_heap i.info.heap_offset (with_enclosing enclosing v)
 
 -- a binder whose record lies inside the table, if any
 pub record SomeBinder (found : Binder) : Type 0 where
   pub o : Option Ident
   pub code : record_of found ≡ record_in o
-  pub few : (b : Ident) → o ≡ some b → b.at < rows_most
+  pub few : (b : Ident) → o ≡ Some b → b.at < rows_most
 
 pub record AmendsInfo (found : Binder) (p : Pass) (w : List ℕ) (name n : ℕ) (v r : ScopeInfo) : Type 0 where
   pub is : (s : State) (o : Option Ident) → Works p w s → record_of found ≡ record_in o

@@ -1,6 +1,5 @@
 -- A lambda's list numbered, row by row: what the code holds, and what its functions promise.
-use Rattle.std.specs.Prelude.{ℕ, zero, suc, ◌+◌, ◌≤◌, ◌<◌, List, Bool, true, false, cond, not, ◌≡◌, length, get_or, set, ltb}
-use Rattle.std.proofs.Math.Option.{Option, none, some}
+use Rattle.std.specs.Prelude.{ℕ, zero, suc, ◌+◌, ◌≤◌, ◌<◌, List, Bool, true, false, cond, not, ◌≡◌, length, get_or, set, ltb, Option, None, Some}
 use Rattle.table.specs.Layout.{layout}
 use Rattle.semantic.specs.Rows.{ListEntry, no_list_entry, put_list_entry}
 use Rattle.semantic.specs.ListEntries.{on_info}
@@ -20,8 +19,8 @@ use Rattle.amending.specs.declared.number.Numbered.{Numbered}
 use Rattle.lists.specs.Contract.{ListEntryIs, Held}
 
 abbrev pub near_of : Nearby → Option ScopeInfo
-near_of (Info v) = some v
-near_of Nothing = none
+near_of (Info v) = Some v
+near_of Nothing = None
 
 pub record TellsNear (p : Pass) (C w : List ℕ) (x : ℕ) (r : Nearby) : Type 0 where
   pub is : (rs F A : List ℕ) (s : State) → Good rs s → Tied (raw p F C A w) s → near_of r ≡ near s x

@@ -1,8 +1,9 @@
 -- The checks before the runs, and what an operation answers.
+use Rattle.std.specs.Prelude.{Option, None, Some}
+use Rattle.std.proofs.lemmas.Option.{none-some}
 use Prim.Native.Nat.{ℕ, ◌+◌, ◌≤◌, ◌<◌}
 use mathlib.Core.Bool.{true, false, true≢false}
 use mathlib.Core.List.{List}
-use mathlib.Core.Option.{Option, none, some, some-ne-none}
 use mathlib.Core.Path.{◌≡◌, refl, ap, sym, ◌∙◌}
 use native.Mathlib.Omega.{arith}
 use lib.ListN.{length, replicate, length-replicate}
@@ -23,7 +24,7 @@ use Rattle.analysis.specs.Steps.{StartsFit, Begins, Ends, Checks}
 pub starts_fit : {rs : List ℕ} (n : ℕ) → (length (records rs) ≤ rows_most → length (records rs) ≤ n) → StartsFit rs (replicate (n + 1) 0)
 starts_fit n f = record { room = λ h. omega (arith, length-replicate {A = ℕ} (n + 1) 0, f h) }
 
-none_found : {a : Answer} {o : Option Refusal} → refusal_in a ≡ o → a ≡ answer.Accepted → o ≡ none
+none_found : {a : Answer} {o : Option Refusal} → refusal_in a ≡ o → a ≡ answer.Accepted → o ≡ None
 none_found e h = sym e ∙ ap refusal_in h
 
 module _ {classes rs : List ℕ} {a : Answer} (e : refusal_in a ≡ refusal (length classes) rs) where
@@ -32,24 +33,24 @@ module _ {classes rs : List ℕ} {a : Answer} (e : refusal_in a ≡ refusal (len
     accepted_begins z = let (ts, k) = accepted (length classes) rs (none_found e h) in record { ts = ts; accepted = k; blank = z }
 
     pub accepted_checks : {f : List ℕ → Trees → Outcome} {o : Outcome} → Ends f classes rs o → Checks f classes rs o
-    accepted_checks x = record { unsound = λ r g. absurd (some-ne-none r (sym g ∙ none_found e h)); sound = x.sound; rest = λ _. x.rest }
+    accepted_checks x = record { unsound = λ r g. absurd (none-some r (sym (sym g ∙ none_found e h))); sound = x.sound; rest = λ _. x.rest }
 
   pub refused-checks : {f : List ℕ → Trees → Outcome} {m i : ℕ} {t : Tables} → a ≡ answer.Refused m i
       → Checks f classes rs (record { refused = refusal_in a; tables = t })
   refused-checks {t = t} h = record {
     unsound = λ r g. ap (λ (o : Option Refusal). cleared (record { refused = o; tables = t })) (e ∙ g);
-    sound = λ ts k. absurd (some-ne-none _ (sym (ap refusal_in h) ∙ e ∙ only (length classes) rs ts k));
-    rest = λ g. absurd (some-ne-none _ (sym (ap refusal_in h) ∙ g));
+    sound = λ ts k. absurd (none-some _ (sym (sym (ap refusal_in h) ∙ e ∙ only (length classes) rs ts k)));
+    rest = λ g. absurd (none-some _ (sym (sym (ap refusal_in h) ∙ g)));
   }
 
 -- where the records are trees, the checks tell where those start
 pub begun-told : {classes rs tops tops' : List ℕ} {t : Tables} {o : Option Refusal} → Begins classes rs t → StartsFit rs tops
-    → o ≡ refusal (length classes) rs → (o ≡ none → length (records rs) < length tops → TellsStarts (length classes) rs tops')
+    → o ≡ refusal (length classes) rs → (o ≡ None → length (records rs) < length tops → TellsStarts (length classes) rs tops')
     → TellsStarts (length classes) rs tops'
 begun-told {classes} {rs} b s e f = f (e ∙ only (length classes) rs b.ts b.accepted) (s.room (few_records b.accepted))
 
 module _ {f : List ℕ → Trees → Outcome} {classes rs : List ℕ} {t : Tables} where
-  pub unfit_answers : fitting rs t ≡ false → Answers f classes rs t (record { refused = some (record { number = 1; at = 0 }); tables = t })
+  pub unfit_answers : fitting rs t ≡ false → Answers f classes rs t (record { refused = Some (record { number = 1; at = 0 }); tables = t })
   unfit_answers e = record {
     unfit = λ _. refl;
     unsound = λ g. absurd (true≢false (sym g ∙ e));

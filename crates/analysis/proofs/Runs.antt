@@ -1,7 +1,7 @@
 -- What the runs need of blank tables, and what they leave in them.
+use Rattle.std.specs.Prelude.{None}
 use Prim.Native.Nat.{ℕ}
 use mathlib.Core.List.{List}
-use mathlib.Core.Option.{none}
 use mathlib.Core.Path.{◌≡◌, refl, ap, sym, subst, ◌∙◌}
 use lib.ListN.{length}
 use Rattle.tree.specs.Record.{records}
@@ -71,7 +71,7 @@ module _ {classes rs F C A w : List ℕ} (b : Begins classes rs (tables F C A w)
     }
 
     module _ {a : Answer} (h : a ≡ answer.Accepted) (g : refusal_in a ≡ first_in q) where
-      pub unnoted : (us : Trees) → Accepted (length classes) rs us → refused_first (fresh classes us).noted ≡ none
+      pub unnoted : (us : Trees) → Accepted (length classes) rs us → refused_first (fresh classes us).noted ≡ None
       unnoted us k = sym (refused_as (tied_as fresh us k first_tied).works) ∙ sym g ∙ ap refusal_in h
 
       abbrev pub second_ready : {p' : Pass} {w'' : List ℕ} → p' ≡ pass_new q.captured_top q.arguments_top

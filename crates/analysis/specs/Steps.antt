@@ -1,6 +1,5 @@
 -- What the steps of an operation promise: each of every tree that the records are.
-use Rattle.std.specs.Prelude.{ℕ, ◌≤◌, ◌<◌, Bool, true, false, List, ◌≡◌, length}
-use Rattle.std.proofs.Math.Option.{none, some}
+use Rattle.std.specs.Prelude.{ℕ, ◌≤◌, ◌<◌, Bool, true, false, List, ◌≡◌, length, None, Some}
 use Rattle.tree.specs.Record.{records}
 use Rattle.tree.specs.Tree.{Trees}
 use Rattle.tree.specs.Check.{Refusal, refusal}
@@ -29,6 +28,6 @@ pub record Ends (outcome_of : List ℕ → Trees → Outcome) (classes rs : List
 
 -- the same of any records: the checks say whether they are trees
 pub record Checks (outcome_of : List ℕ → Trees → Outcome) (classes rs : List ℕ) (o : Outcome) : Type 0 where
-  pub unsound : (r : Refusal) → refusal (length classes) rs ≡ some r → cleared o ≡ record { refused = some r; tables = zeros }
+  pub unsound : (r : Refusal) → refusal (length classes) rs ≡ Some r → cleared o ≡ record { refused = Some r; tables = zeros }
   pub sound : (ts : Trees) → Accepted (length classes) rs ts → cleared o ≡ outcome_of classes ts
-  pub rest : o.refused ≡ none → Rested (length (records rs)) o.tables.work
+  pub rest : o.refused ≡ None → Rested (length (records rs)) o.tables.work

@@ -1,14 +1,13 @@
 -- What the operations answer, as the definitions say it.
-use Rattle.std.specs.Prelude.{ℕ, List}
-use Rattle.std.proofs.Math.Option.{Option, none, some}
+use Rattle.std.specs.Prelude.{ℕ, List, Option, None, Some}
 use Rattle.tree.specs.Check.{Refusal}
 use Rattle.pass.specs.Run.{Tables, Outcome}
 use Rattle.answers.specs.declared.Answer.{Answer}
 use Rattle.answers.specs.declared.Answer.TheVariants as answer
 
 abbrev pub refusal_in : Answer → Option Refusal
-refusal_in answer.Accepted = none
-refusal_in (answer.Refused n i) = some (record { number = n; at = i })
+refusal_in answer.Accepted = None
+refusal_in (answer.Refused n i) = Some (record { number = n; at = i })
 
 abbrev pub tables : List ℕ → List ℕ → List ℕ → List ℕ → Tables
 tables F C A w = record { facts = F; captured = C; arguments = A; work = w }

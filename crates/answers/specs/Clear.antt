@@ -1,6 +1,5 @@
 -- What is cleared before a run, between two runs, and after them.
-use Rattle.std.specs.Prelude.{ℕ, ◌+◌, ◌-◌, ◌*◌, ◌≤◌, List, ◌≡◌, length, replicate}
-use Rattle.std.proofs.Math.Option.{Option, none, some}
+use Rattle.std.specs.Prelude.{ℕ, ◌+◌, ◌-◌, ◌*◌, ◌≤◌, List, ◌≡◌, length, replicate, Option, None, Some}
 use Rattle.table.specs.Region.{region, replaced}
 use Rattle.tree.specs.Check.{Refusal}
 use Rattle.scope_map.specs.Hints.{rows_length, hints_length}
@@ -10,8 +9,8 @@ use Rattle.work.specs.Works.{entries_first, entries_length, captures_first, bind
 
 -- what stays in the tables: the facts, or nothing where there is a refusal
 abbrev pub left : Option Refusal → Tables → Tables
-left none t = record { facts = t.facts; captured = t.captured; arguments = t.arguments; work = replicate work_length 0 }
-left (some r) t = zeros
+left None t = record { facts = t.facts; captured = t.captured; arguments = t.arguments; work = replicate work_length 0 }
+left (Some r) t = zeros
 
 abbrev pub cleared : Outcome → Outcome
 cleared o = record { refused = o.refused; tables = left o.refused o.tables }

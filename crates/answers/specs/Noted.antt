@@ -1,5 +1,5 @@
 -- The refusal of a fresh run, by what was noted.
-use Rattle.std.proofs.Math.Option.{Option}
+use Rattle.std.specs.Prelude.{Option}
 use Rattle.tree.specs.Check.{Refusal}
 use Rattle.pass.specs.Run.{nine_or, ten_at}
 use Rattle.work.specs.Coded.{noted_of}

@@ -1,6 +1,5 @@
 // What an operation clears: before a run, between two runs, and after them.
 ghost use Rattle.std.specs.Prelude.{◌≡◌, true, ◌-◌, ◌≤◌, length, replicate};
-ghost use Rattle.std.proofs.Math.Option.{none};
 ghost use Rattle.pass.specs.Run.{work_length, zeros, lengths_fit};
 ghost use Rattle.answers.specs.Answer.{tables, refusal_in};
 ghost use Rattle.answers.specs.Clear.{left, zeroed, names_cleared, Rested, Blank};
@@ -46,7 +45,7 @@ pub fn clear_after(
     work: &mut [u32],
 )
     requires { (lengths_fit (tables facts.old captured.old arguments.old work.old) ≡ true)
-        × (refusal_in a ≡ none → Rested n work.old) }
+        × (refusal_in a ≡ None → Rested n work.old) }
     ensures { tables facts.new captured.new arguments.new work.new
         ≡ left (refusal_in a) (tables facts.old captured.old arguments.old work.old) }
 {

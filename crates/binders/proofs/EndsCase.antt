@@ -1,7 +1,7 @@
 -- Names at their end, over states: last uses, parameters, and the names of a let.
+use Rattle.std.specs.Prelude.{Option, None, Some}
 use Prim.Native.Nat.{ℕ, suc, ◌+◌, ◌-◌, ◌*◌, ◌≤◌, ◌<◌}
 use mathlib.Core.List.{List, [], ◌∷◌}
-use mathlib.Core.Option.{Option, none, some}
 use mathlib.Core.Path.{◌≡◌, refl, ap, sym, subst, ◌∙◌}
 use native.Mathlib.Omega.{arith}
 use lib.ListN.{length, length-map}
@@ -44,8 +44,8 @@ marks-last {last} {i} {F} {F'} z h e k = record { is = λ rs p C A w s o q f. go
   where
     go : (p : Pass) (C A w : List ℕ) (s : State) (o : Option Ident) → last ≡ last_code o → Tied (raw p F C A w) s → length s.facts.rows ≡ rows_most
         → Tied (raw p F' C A w) (mark_last o s)
-    go p C A w s none q t n = absurd (z q)
-    go p C A w s (some x) q t n =
+    go p C A w s None q t n = absurd (z q)
+    go p C A w s (Some x) q t n =
         let j : i ≡ x.at = omega arith in
         tied_amend t n x.at (omega arith) mark_last_usage (subst (λ (m : ℕ). Amends put_row Blank (amended mark_last_usage) F m F') j k)
 
@@ -53,24 +53,24 @@ pub marks-none : {last : ℕ} {F : List ℕ} → last ≡ 0 → MarksLast last F
 marks-none {last} {F} z = record { is = λ rs p C A w s o q f. go p C A w s o q f.tied }
   where
     go : (p : Pass) (C A w : List ℕ) (s : State) (o : Option Ident) → last ≡ last_code o → Tied (raw p F C A w) s → Tied (raw p F C A w) (mark_last o s)
-    go p C A w s none q t = t
-    go p C A w s (some x) q t = absurd (omega arith)
+    go p C A w s None q t = t
+    go p C A w s (Some x) q t = absurd (omega arith)
 
 -- the number that an entry has for its last use
 pub last_few : {rs : List ℕ} {s : State} (i : ℕ) → Good rs s → last_code (entry_at s i).last_used ≤ rows_most
 last_few {rs} {s} i g = go (entry_at s i).last_used refl
   where
     go : (o : Option Ident) → (entry_at s i).last_used ≡ o → last_code o ≤ rows_most
-    go none e = omega arith
-    go (some y) e = omega (arith, (g.sound.lasts i y e).few)
+    go None e = omega arith
+    go (Some y) e = omega (arith, (g.sound.lasts i y e).few)
 
 last_of : {p : Pass} {w : List ℕ} {s : State} {i : ℕ} {e : Coded} → LoadsEntry w i e → Works p w s → e.last ≡ last_code (entry_at s i).last_used
 last_of {p} {s = s} l k = ap (λ (c : Coded). c.last) (l.is p s k)
 
 last_scope : (o : Option Ident) (s : State) → (mark_last o s).scope ≡ s.scope
 unfolding amend insert
-last_scope none s = refl
-last_scope (some x) s = refl
+last_scope None s = refl
+last_scope (Some x) s = refl
 
 -- Those of the newest layer, from row i on
 

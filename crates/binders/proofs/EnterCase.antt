@@ -1,8 +1,8 @@
 -- One name enters, over states.
+use Rattle.std.specs.Prelude.{Option, None, Some}
 use Prim.Native.Nat.{ℕ, zero, suc, ◌+◌, ◌-◌, ◌≤◌, ◌<◌}
 use mathlib.Core.List.{List}
 use mathlib.Core.Bool.{Bool, true, false, cond, not, ◌&&◌}
-use mathlib.Core.Option.{Option, none, some}
 use mathlib.Core.Path.{◌≡◌, refl, ap, sym, subst, ◌∙◌}
 use native.Mathlib.Omega.{arith}
 use lib.ListN.{drop, get_or, length-take, get_or-eq_default}
@@ -74,9 +74,9 @@ pub few_around : (o : Heaps) → FewHeaps o → or_zero (heaps_in o) ≤ list_en
 few_around o h = omega (arith, h, less_one o.code)
 
 -- the count that is kept as n, where n is not 0
-kept_count : (n : ℕ) → (n ≡ 0 → ⊥) → place_in n ≡ some (n - 1)
+kept_count : (n : ℕ) → (n ≡ 0 → ⊥) → place_in n ≡ Some (n - 1)
 kept_count zero h = absurd (h refl)
-kept_count (suc n) h = ap some (omega arith)
+kept_count (suc n) h = ap Some (omega arith)
 
 -- By whether it is on the heap
 
@@ -108,15 +108,15 @@ module _ {o : Heaps} {at : ℕ} {before : Second} where
 
 -- what holds of a state, and of it with refusal 11 noted
 noted_by : (P : State → Type 0) (heap : Bool) (o : Option ℕ) (x : Ident) (s : State) → P s → P (note_second 11 x.at s) → P (noted_name heap o x s)
-noted_by P true none x s a b = b
-noted_by P true (some n) x s a b = a
+noted_by P true None x s a b = b
+noted_by P true (Some n) x s a b = a
 noted_by P false o x s a b = a
 
 pub name_noted : (kind : IdentifierStatus) (base : ℕ) (o : Option ℕ) (before : List ListEntry) (heap : Bool) (x : Ident) (j h : ℕ) (s : State)
     → entered_name heap kind base o j h x (noted_name heap o x s) ≡ enter_name kind base o before heap x j h s
 unfolding enter_name
-name_noted kind base none before true x j h s = refl
-name_noted kind base (some n) before true x j h s = refl
+name_noted kind base None before true x j h s = refl
+name_noted kind base (Some n) before true x j h s = refl
 name_noted kind base o before false x j h s = refl
 
 pub noted_here : {rs : List ℕ} {heap : Bool} {o : Heaps} {at : ℕ} {p : Pass} {second : Second} {F C A w : List ℕ} {s : State} {x : Ident}

@@ -1,6 +1,5 @@
 -- What the functions by which names enter promise, of every state that the tables hold.
-use Rattle.std.specs.Prelude.{ℕ, ◌+◌, ◌≤◌, ◌<◌, List, Bool, cond, ◌≡◌, length}
-use Rattle.std.proofs.Math.Option.{Option}
+use Rattle.std.specs.Prelude.{ℕ, ◌+◌, ◌≤◌, ◌<◌, List, Bool, cond, ◌≡◌, length, Option}
 use Rattle.table.specs.Layout.{layout}
 use Rattle.tree.specs.Tree.{Ident}
 use Rattle.semantic.specs.Information.{new}

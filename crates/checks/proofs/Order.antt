@@ -1,7 +1,7 @@
 -- What is left of the checks once the first have passed.
+use Rattle.std.specs.Prelude.{Option, None, Some}
 use Prim.Native.Nat.{ℕ, ◌%◌, ◌≤◌, ◌<◌}
 use mathlib.Core.List.{List}
-use mathlib.Core.Option.{Option, none, some}
 use mathlib.Core.Path.{◌≡◌, sym, ◌∙◌}
 use native.Mathlib.Omega.{arith}
 use borrow.Author.Tests.{eq-eqb, ne_eqb, lt-ltb, le-ltb}
@@ -16,17 +16,17 @@ use Rattle.scans.specs.declared.scan.Found.TheVariants.{At, Nothing}
 use Rattle.scans.specs.Found.{found_of}
 
 module _ (N : ℕ) (rs : List ℕ) where
-  pub ragged : (length rs % width ≡ 0 → ⊥) → some (record { number = 1; at = 0 }) ≡ refusal N rs
+  pub ragged : (length rs % width ≡ 0 → ⊥) → Some (record { number = 1; at = 0 }) ≡ refusal N rs
   unfolding refusal check1
   ragged h = rw (ne_eqb (length rs % width) 0 h)
 
   module _ (h : length rs % width ≡ 0) where
-    pub many-records : 4096 < length (records rs) → some (record { number = 2; at = 0 }) ≡ refusal N rs
+    pub many-records : 4096 < length (records rs) → Some (record { number = 2; at = 0 }) ≡ refusal N rs
     unfolding refusal check1 check2
     many-records g = rw (eq-eqb (length rs % width) 0 h, lt-ltb 4096 (length (records rs)) g)
 
     module _ (g : length (records rs) ≤ 4096) where
-      pub many-names : 1024 < N → some (record { number = 2; at = 0 }) ≡ refusal N rs
+      pub many-names : 1024 < N → Some (record { number = 2; at = 0 }) ≡ refusal N rs
       unfolding refusal check1 check2
       many-names k = rw (eq-eqb (length rs % width) 0 h, le-ltb 4096 (length (records rs)) g, lt-ltb 1024 N k)
 
@@ -36,12 +36,12 @@ module _ (N : ℕ) (rs : List ℕ) where
 
 -- the checks from 3 on refuse by numbers from 3 on
 abbrev pub number_in : Option Refusal → ℕ
-number_in none = 3
-number_in (some r) = r.number
+number_in None = 3
+number_in (Some r) = r.number
 
 least : (n : ℕ) (o : Option ℕ) (p : Option Refusal) → 3 ≤ n → 3 ≤ number_in p → 3 ≤ number_in (or_else n o p)
-least n none p h g = g
-least n (some i) p h g = h
+least n None p h g = g
+least n (Some i) p h g = h
 
 pub late : (N : ℕ) (rs : List ℕ) → 3 ≤ number_in (from3 N rs)
 late N rs =
@@ -51,14 +51,14 @@ late N rs =
     (least 6 (check6 N rs) _ (omega arith)
     (least 7 (check7 N rs) _ (omega arith)
     (least 16 (check16 N rs) _ (omega arith)
-    (least 8 (check8 N rs) none (omega arith) (omega arith)))))))
+    (least 8 (check8 N rs) None (omega arith) (omega arith)))))))
 
 -- where none of the checks 3 to 7 and 16 applies, the last is left
 pub cleared : (N : ℕ) (rs : List ℕ) → Clear N rs → from3 N rs ≡ from8 N rs
 cleared N rs c = rw (c.fields, c.children, c.nesting, c.names, c.calls, c.tests)
 
 -- where none refuses, none of them applies
-pub unrefused : (N : ℕ) (rs : List ℕ) → refusal N rs ≡ none → Clear N rs
+pub unrefused : (N : ℕ) (rs : List ℕ) → refusal N rs ≡ None → Clear N rs
 unrefused N rs e = let c = silent N rs e in record { fields = c.c3; children = c.c4; nesting = c.c5; names = c.c6; calls = c.c7; tests = c.c16 }
 
 -- of the checks from 3 on, check n is next
@@ -67,7 +67,7 @@ pub record Next (N : ℕ) (rs : List ℕ) (n : ℕ) (check : ℕ → List ℕ �
 
 -- it finds a record, or nothing, and the later ones decide
 module _ {N : ℕ} {rs : List ℕ} {n : ℕ} {check : ℕ → List ℕ → Option ℕ} {later : ℕ → List ℕ → Option Refusal} (p : Next N rs n check later) {f : Found} (e : found_of f ≡ check N rs) where
-  pub refused : {i : ℕ} → f ≡ At i → some (record { number = n; at = i }) ≡ from3 N rs
+  pub refused : {i : ℕ} → f ≡ At i → Some (record { number = n; at = i }) ≡ from3 N rs
   refused q = sym (p.is ∙ rw (← e, q))
 
   pub passed : f ≡ Nothing → from3 N rs ≡ later N rs

@@ -1,8 +1,8 @@
 -- Checks 4 and 5 in one pass: the open records are held, none nested too deep so far, and those at top level are listed.
+use Rattle.std.specs.Prelude.{None}
 use Prim.Native.Nat.{ℕ, suc, ◌+◌, ◌*◌, ◌%◌, ◌≤◌, ◌<◌}
 use mathlib.Core.List.{List, [], ◌∷◌}
 use mathlib.Core.Bool.{Bool, true, false, cond}
-use mathlib.Core.Option.{none}
 use mathlib.Core.Path.{◌≡◌, refl, ap, sym, subst, ◌∙◌}
 use native.Mathlib.Omega.{arith}
 use borrow.Author.Tests.{ltb-false, eqb-true, not-false, eq-eqb, le-ltb}
@@ -52,7 +52,7 @@ stand_begin rs tops h g {n} e = record {
   listed = list_begin rs tops g;
 }
 
-when-none : (b : Bool) (i : ℕ) → when b i ≡ none → b ≡ false
+when-none : (b : Bool) (i : ℕ) → when b i ≡ None → b ≡ false
 when-none true i e = let z : ◌≡◌ {A = ℕ} 0 1 = cc in absurd (omega arith)
 when-none false i e = refl
 
@@ -75,7 +75,7 @@ module _ {rs tops kept : List ℕ} {b : Innermost} {top i : ℕ} (a : Standing r
     at_record : first_deep [] (records rs) ≡ on i (first is_deep (placing a.s (nth rs i) ∷ placed (after a.s (nth rs i)) (drop (i + 1) (records rs))))
     at_record = a.deep ∙ ap (λ (m : List Placed). on i (first is_deep m)) (placed-next (records rs) blank i a.s h)
 
-    pub stand_near : (N : ℕ) → check5 N rs ≡ none → b.word % 128 < 64
+    pub stand_near : (N : ℕ) → check5 N rs ≡ None → b.word % 128 < 64
     unfolding check5
     stand_near N e = omega (arith, ltb-false 64 (suc (length a.s)) (first-none is_deep i (placing a.s (nth rs i)) _ (sym at_record ∙ e)), stand_nesting)
 
@@ -113,17 +113,17 @@ module _ {rs tops kept : List ℕ} {b : Innermost} {top i : ℕ} (a : Standing r
       }
 
   module _ (h : length (records rs) ≤ i) (N : ℕ) where
-    pub stand_shallow : check5 N rs ≡ none
+    pub stand_shallow : check5 N rs ≡ None
     unfolding check5 first
     stand_shallow = a.deep ∙ ap (λ (m : List Placed). on i (first is_deep m)) (placed_end (records rs) blank i a.s h)
 
     at-end : left [] (records rs) ≡ a.s
     at-end = a.rest ∙ left_end (records rs) blank i a.s h
 
-    pub stand_none : check4 N rs ≡ none → b.word % 128 ≡ 0
+    pub stand_none : check4 N rs ≡ None → b.word % 128 ≡ 0
     unfolding check4
     stand_none e = stand_nesting ∙ eqb-true (length a.s) 0 (not-false _ (when-none _ _ (rw at-end at e)))
 
-    pub stand_whole : b.word % 128 ≡ 0 → check4 N rs ≡ none
+    pub stand_whole : b.word % 128 ≡ 0 → check4 N rs ≡ None
     unfolding check4
     stand_whole z = rw (at-end, eq-eqb (length a.s) 0 (sym stand_nesting ∙ z))

@@ -1,15 +1,14 @@
 -- The document's number and record for each answer of `check`.
-use Rattle.std.proofs.Math.Option.{Option, none, some}
-use Rattle.std.specs.Prelude.{ℕ}
+use Rattle.std.specs.Prelude.{ℕ, Option, None, Some}
 use Rattle.tree.specs.Check.{Refusal}
 use Rattle.checks.specs.declared.Checked.{Checked}
 use Rattle.checks.specs.declared.Checked.TheVariants.{Fit, Ragged, TooMany, Field, Missing, Deep, NotAName, EmptyCall, Untested, Repeated}
 
 abbrev refused : ℕ → ℕ → Option Refusal
-refused n i = some (record { number = n; at = i })
+refused n i = Some (record { number = n; at = i })
 
 abbrev pub refusal_of : Checked → Option Refusal
-refusal_of Fit = none
+refusal_of Fit = None
 refusal_of Ragged = refused 1 0
 refusal_of TooMany = refused 2 0
 refusal_of (Field i) = refused 3 i

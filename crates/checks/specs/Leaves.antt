@@ -1,6 +1,5 @@
 -- What the checks leave of the table of starts.
-use Rattle.std.specs.Prelude.{ℕ, ◌+◌, ◌≤◌, List, [], ◌∷◌, ◌⊎◌, ◌≡◌, length, drop, get_or}
-use Rattle.std.proofs.Math.Option.{some}
+use Rattle.std.specs.Prelude.{ℕ, ◌+◌, ◌≤◌, List, [], ◌∷◌, ◌⊎◌, ◌≡◌, length, drop, get_or, Some}
 use Rattle.tree.specs.Record.{Record, records}
 use Rattle.tree.specs.Place.{Open, after}
 use Rattle.tree.specs.Check.{Refusal, refusal}
@@ -27,5 +26,5 @@ pub record Stores (rs table table' : List ℕ) : Type 0 where
 -- it was. Where none refuses, `TellsStarts` says what is stored; after any other refusal that is free.
 pub record Leaves (N : ℕ) (rs table table' : List ℕ) : Type 0 where
   pub stored : Stores rs table table'
-  pub early : (r : Refusal) → refusal N rs ≡ some r → r.number ≤ 2 → table' ≡ table
+  pub early : (r : Refusal) → refusal N rs ≡ Some r → r.number ≤ 2 → table' ≡ table
   pub short : length table ≤ length (records rs) → table' ≡ table

@@ -1,7 +1,6 @@
 #![tactic(auto)]
 // The checks 1 to 8 and 16.
 ghost use Rattle.std.specs.Prelude.{◌≡◌, ℕ, ◌≤◌, ◌<◌, length};
-ghost use Rattle.std.proofs.Math.Option.{none};
 ghost use Rattle.tree.specs.Record.{records};
 ghost use Rattle.tree.specs.Check.{refusal};
 ghost use Rattle.checks.specs.Private.Order.{from3, from8};
@@ -91,7 +90,7 @@ fn in_order(rs: &[u32], names: usize) -> Checked
 // as it was or at most the record count.
 pub fn check(rs: &[u32], names: usize, tops: &mut [u16]) -> Checked
     ensures result_value { refusal_of result ≡ refusal names rs.now }
-    ensures told { refusal_of result ≡ none → length (records rs.now) < length tops.old → TellsStarts names rs.now tops.new }
+    ensures told { refusal_of result ≡ None → length (records rs.now) < length tops.old → TellsStarts names rs.now tops.new }
     ensures leaves { Leaves names rs.now tops.old tops.new }
 {
     if rs.len() % record::WIDTH != 0 {

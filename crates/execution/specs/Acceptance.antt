@@ -1,6 +1,5 @@
 -- What refusals 9 to 12 come to where no define is inner, by structure alone. Document 01, "What the operations answer".
-use Rattle.std.specs.Prelude.{ℕ, ◌+◌, List, [], ◌∷◌, Bool, true, false, cond, not, ◌&&◌, ◌||◌, eqb, ltb}
-use Rattle.std.proofs.Math.Option.{Option, none, some}
+use Rattle.std.specs.Prelude.{ℕ, ◌+◌, List, [], ◌∷◌, Bool, true, false, cond, not, ◌&&◌, ◌||◌, eqb, ltb, Option, None, Some}
 use Rattle.tree.specs.Tree.{Ident, Trees, bit}
 use Rattle.tree.specs.Check.{Refusal, member, or_else}
 use Rattle.pass.specs.Lists.{captured_most}
@@ -14,8 +13,8 @@ is_live b [] = false
 is_live b (c ∷ sc) = (eqb c.home.layer b.home.layer && eqb c.ident.name b.ident.name) || is_live b sc
 
 unfoldable pub nine_in : List Event → Option ℕ
-nine_in [] = none
-nine_in (enters b sc ∷ l) = cond (is_live b sc) (some b.ident.at) (nine_in l)
+nine_in [] = None
+nine_in (enters b sc ∷ l) = cond (is_live b sc) (Some b.ident.at) (nine_in l)
 nine_in (mentions m ∷ l) = nine_in l
 nine_in (ends i xs sc ∷ l) = nine_in l
 
@@ -27,8 +26,8 @@ has_name x [] = false
 has_name x (y ∷ ys) = eqb x y.name || has_name x ys
 
 abbrev pub is_captured : List Mention → Option Binder → Bool
-is_captured seen none = false
-is_captured seen (some b) = any (is_inner_of b) seen
+is_captured seen None = false
+is_captured seen (Some b) = any (is_inner_of b) seen
 
 -- around: all the names in scope; sc: those to count
 unfoldable pub list_length : List Mention → List Ident → List Binder → List Binder → ℕ
@@ -38,12 +37,12 @@ list_length seen xs around (c ∷ sc) =
 
 -- seen: the mentions so far; n: the entries so far
 unfoldable pub ten_from : List Mention → ℕ → List Event → Option ℕ
-ten_from seen n [] = none
+ten_from seen n [] = None
 ten_from seen n (enters b sc ∷ l) = ten_from seen n l
 ten_from seen n (mentions m ∷ l) = ten_from (m ∷ seen) n l
 ten_from seen n (ends i xs sc ∷ l) =
     let k = n + list_length seen xs sc sc in
-    cond (ltb captured_most k) (some i) (ten_from seen k l)
+    cond (ltb captured_most k) (Some i) (ten_from seen k l)
 
 abbrev pub ten_in : List Event → Option ℕ
 ten_in l = ten_from [] 0 l
@@ -78,16 +77,16 @@ is_twelve_of before after m b (i ∷ j ∷ is) =
     && (not (any (is_set_of b) before || any (is_set_within i b) (m ∷ after)) && any (λ o. is_set_within j b o && not (is_set_within i b o)) after))
 
 abbrev pub is_twelve : List Mention → List Mention → Mention → Option Binder → Bool
-is_twelve before after m none = false
-is_twelve before after m (some b) = is_twelve_of before after m b m.place.around
+is_twelve before after m None = false
+is_twelve before after m (Some b) = is_twelve_of before after m b m.place.around
 
 -- the first of both that the second run meets
 module _ (all : List Mention) where
   unfoldable pub second_from : List Mention → List Event → Option Refusal
-  second_from before [] = none
-  second_from before (enters b sc ∷ l) = cond (is_eleven all b) (some (record { number = 11; at = b.ident.at })) (second_from before l)
+  second_from before [] = None
+  second_from before (enters b sc ∷ l) = cond (is_eleven all b) (Some (record { number = 11; at = b.ident.at })) (second_from before l)
   second_from before (mentions m ∷ l) =
-      cond (is_twelve before (mentions_in l) m (meant m)) (some (record { number = 12; at = m.ident.at })) (second_from (m ∷ before) l)
+      cond (is_twelve before (mentions_in l) m (meant m)) (Some (record { number = 12; at = m.ident.at })) (second_from (m ∷ before) l)
   second_from before (ends i xs sc ∷ l) = second_from before l
 
 abbrev pub second_in : List Event → Option Refusal
@@ -96,7 +95,7 @@ second_in l = second_from (mentions_in l) [] l
 -- What a run refuses: "each check covers the whole input before the next", and 11 and 12 stand after 10, where the second run meets one first
 
 abbrev pub fresh_refusal : Trees → Option Refusal
-fresh_refusal ts = or_else 9 (nine_in (events ts)) (or_else 10 (ten_in (events ts)) none)
+fresh_refusal ts = or_else 9 (nine_in (events ts)) (or_else 10 (ten_in (events ts)) None)
 
 abbrev pub settled_refusal : Trees → Option Refusal
 settled_refusal ts = or_else 9 (nine_in (events ts)) (or_else 10 (ten_in (events ts)) (second_in (events ts)))

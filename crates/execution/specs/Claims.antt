@@ -1,6 +1,5 @@
 -- What is claimed of the facts: demands 2 and 3 of document 00, and order 7 of document 02. Read this first; each word leads to its definition.
-use Rattle.std.specs.Prelude.{ℕ, List, [], ◌≡◌, length}
-use Rattle.std.proofs.Math.Option.{none}
+use Rattle.std.specs.Prelude.{ℕ, List, [], ◌≡◌, length, None}
 use Rattle.tree.specs.Tree.{Trees}
 use Rattle.tree.specs.Define.{inner_defines}
 use Rattle.tree.specs.Expand.{expands, NineFormsIn}
@@ -77,7 +76,7 @@ NineExact = (classes rs : List ℕ) (ts : Trees) → Accepted (length classes) r
 
 abbrev pub TenExact : Type 0
 TenExact =
-    (classes rs : List ℕ) (ts : Trees) → Accepted (length classes) rs ts → inner_defines ts ≡ [] → (fresh classes ts).noted.nine ≡ none
+    (classes rs : List ℕ) (ts : Trees) → Accepted (length classes) rs ts → inner_defines ts ≡ [] → (fresh classes ts).noted.nine ≡ None
     → (fresh classes ts).noted.ten ≡ ten_in (events ts)
 
 abbrev pub SecondExact : Type 0

@@ -1,7 +1,6 @@
 -- What the claims presume of a tree.
-use Rattle.std.specs.Prelude.{List, [], true, ◌≡◌, ℕ, length}
+use Rattle.std.specs.Prelude.{List, [], true, ◌≡◌, ℕ, length, None}
 use mathlib.Core.List.{Memᴰ as Member}
-use Rattle.std.proofs.Math.Option.{none}
 use Rattle.tree.specs.Tree.{Trees}
 use Rattle.tree.specs.Define.{inner_defines}
 use Rattle.tree.specs.Accepted.{Accepted}
@@ -11,12 +10,12 @@ use Rattle.r7rs.specs.Binding.{Use, uses}
 -- the records rs are the tree ts, and the fresh run refuses nothing
 pub record FreshAccepts (classes rs : List ℕ) (ts : Trees) : Type 0 where
   pub accepted : Accepted (length classes) rs ts
-  pub not_refused : refused_first (fresh classes ts).noted ≡ none
+  pub not_refused : refused_first (fresh classes ts).noted ≡ None
 
 -- nor does the settled run
 pub record SettledAccepts (classes rs : List ℕ) (ts : Trees) : Type 0 where
   pub accepted : Accepted (length classes) rs ts
-  pub not_refused : or_second (refused_first (fresh classes ts).noted) (settled classes ts).noted.second ≡ none
+  pub not_refused : or_second (refused_first (fresh classes ts).noted) (settled classes ts).noted.second ≡ None
 
 -- "with no inner define and no set! of a parameter or let name that an inner lambda mentions"
 pub record Premises (ts : Trees) : Type 0 where

@@ -1,6 +1,5 @@
 -- What the facts have to say of each name, by R7RS's binding. Demand 2; document 01, "Rules of the pass".
-use Rattle.std.specs.Prelude.{ℕ, ◌+◌, List, [], ◌∷◌, ◌++◌, Bool, true, false, cond, not, ◌&&◌, ◌||◌, ◌≡◌, eqb}
-use Rattle.std.proofs.Math.Option.{Option, none, some}
+use Rattle.std.specs.Prelude.{ℕ, ◌+◌, List, [], ◌∷◌, ◌++◌, Bool, true, false, cond, not, ◌&&◌, ◌||◌, ◌≡◌, eqb, Option, None, Some}
 use Rattle.tree.specs.Tree.{Ident, Trees}
 use Rattle.tree.specs.Define.{top_level}
 use Rattle.tree.specs.Site.{lambdas_in}
@@ -26,33 +25,33 @@ abbrev pub reference : IdentifierStatus → ℕ → ℕ → ℕ → Reference
 reference k r d s = record { kind = k; refers = r; depth = d; slot = s }
 
 abbrev pub reference_in : Row → Option Reference
-reference_in Blank = none
-reference_in (Variable v) = some (reference v.kind v.refers_to v.depth v.stack_offset)
-reference_in (Function v) = none
-reference_in (CallSite v) = none
-reference_in (Let v) = none
+reference_in Blank = None
+reference_in (Variable v) = Some (reference v.kind v.refers_to v.depth v.stack_offset)
+reference_in (Function v) = None
+reference_in (CallSite v) = None
+reference_in (Let v) = None
 
 -- the depth that a lambda's fact tells
 abbrev pub depth_in : Row → Option ℕ
-depth_in Blank = none
-depth_in (Variable v) = none
-depth_in (Function v) = some v.depth
-depth_in (CallSite v) = none
-depth_in (Let v) = none
+depth_in Blank = None
+depth_in (Variable v) = None
+depth_in (Function v) = Some v.depth
+depth_in (CallSite v) = None
+depth_in (Let v) = None
 
 -- the uses that a name's fact has counted
 abbrev pub uses_in : Row → Option ℕ
-uses_in Blank = none
-uses_in (Variable v) = some v.usage_count
-uses_in (Function v) = none
-uses_in (CallSite v) = none
-uses_in (Let v) = none
+uses_in Blank = None
+uses_in (Variable v) = Some v.usage_count
+uses_in (Function v) = None
+uses_in (CallSite v) = None
+uses_in (Let v) = None
 
 -- Mentions of a binder
 
 abbrev pub is_it : Binder → Option Binder → Bool
-is_it b none = false
-is_it b (some c) = eqb b.ident.at c.ident.at
+is_it b None = false
+is_it b (Some c) = eqb b.ident.at c.ident.at
 
 abbrev pub is_set_of : Binder → Mention → Bool
 is_set_of b m = m.is_set && is_it b (meant m)
@@ -84,8 +83,8 @@ is_shared b l = any (is_inner_of b) l && any (is_set_of b) l
 -- A name with no parameter or let name to mean. Its bottom entry d: "An entry of depth 1 is read as Global." Else: "no entry is Free, or Global
 -- for a prelude name."
 abbrev pub global_reference : Bool → ℕ → Option Ident → Reference
-global_reference prelude layer (some d) = reference Global d.id 1 NONE
-global_reference prelude layer none = reference (cond prelude Global Free) NONE layer NONE
+global_reference prelude layer (Some d) = reference Global d.id 1 NONE
+global_reference prelude layer None = reference (cond prelude Global Free) NONE layer NONE
 
 module _ (classes : List ℕ) (ts : Trees) where
   abbrev pub bottom_reference : Mention → Reference
@@ -101,8 +100,8 @@ module _ (classes : List ℕ) (ts : Trees) where
   fresh_kind before m b = cond (is_inner m b) Captured (cond (any (is_inner_of b) before && (is_set_of b m || any (is_set_of b) before)) HeapAllocated Local)
 
   abbrev pub fresh_bound : List Mention → Mention → Option Binder → Reference
-  fresh_bound before m none = bottom_reference m
-  fresh_bound before m (some b) = reference (fresh_kind before m b) b.ident.id m.place.site.layer b.home.slot
+  fresh_bound before m None = bottom_reference m
+  fresh_bound before m (Some b) = reference (fresh_kind before m b) b.ident.id m.place.site.layer b.home.slot
 
   abbrev pub fresh_reference : List Mention → Mention → Reference
   fresh_reference before m = fresh_bound before m (meant m)
@@ -124,8 +123,8 @@ module _ (classes : List ℕ) (ts : Trees) where
   settled_inner before m b = reference (cond (is_set_by_end before m b) HeapAllocated Captured) b.ident.id m.place.site.layer NONE
 
   abbrev pub settled_bound : List Mention → Mention → Option Binder → Reference
-  settled_bound before m none = bottom_reference m
-  settled_bound before m (some b) = cond (is_inner m b) (settled_inner before m b) (settled_own (is_shared b all_mentions) m b)
+  settled_bound before m None = bottom_reference m
+  settled_bound before m (Some b) = cond (is_inner m b) (settled_inner before m b) (settled_own (is_shared b all_mentions) m b)
 
   abbrev pub settled_reference : List Mention → Mention → Reference
   settled_reference before m = settled_bound before m (meant m)
@@ -136,12 +135,12 @@ module _ (classes : List ℕ) (ts : Trees) where
 -- the facts T say, of each identifier read or set and of each parameter and let name, what `wanted` and `wantedBinder` say
 pub record Referred (ts : Trees) (T : List Row) (wanted : List Mention → Mention → Reference) (wantedBinder : Binder → Reference) : Type 0 where
   pub mentioned : (before after : List Mention) (m : Mention) → mentions_in (events ts) ≡ before ++ (m ∷ after)
-      → reference_in (row_of T m.ident.at) ≡ some (wanted before m)
-  pub bound : All (λ b. reference_in (row_of T b.ident.at) ≡ some (wantedBinder b)) (binders_in (events ts))
+      → reference_in (row_of T m.ident.at) ≡ Some (wanted before m)
+  pub bound : All (λ b. reference_in (row_of T b.ident.at) ≡ Some (wantedBinder b)) (binders_in (events ts))
 
 -- each lambda's fact tells the layer that it is made at
 abbrev pub LambdasMade : Trees → List Row → Type 0
-LambdasMade ts T = All (λ l. depth_in (row_of T l.0) ≡ some l.1) (lambdas_in ts 1)
+LambdasMade ts T = All (λ l. depth_in (row_of T l.0) ≡ Some l.1) (lambdas_in ts 1)
 
 -- The name of a define at top level: "An entry of depth 1", which refers to nothing and has no slot
 
@@ -149,17 +148,17 @@ abbrev pub defined_name : Reference
 defined_name = reference Global NONE 1 NONE
 
 abbrev pub DefinesNamed : Trees → List Row → Type 0
-DefinesNamed ts T = All (λ d. reference_in (row_of T d.name.at) ≡ some defined_name) (defines_of (top_level ts))
+DefinesNamed ts T = All (λ d. reference_in (row_of T d.name.at) ≡ Some defined_name) (defines_of (top_level ts))
 
 -- Uses. "On a fresh run a set! adds two uses to a local name and one to a global definition's fact."
 
 abbrev pub is_none : {A : Type 0} → Option A → Bool
-is_none none = true
-is_none (some a) = false
+is_none None = true
+is_none (Some a) = false
 
 abbrev pub is_ident : Ident → Option Ident → Bool
-is_ident d none = false
-is_ident d (some e) = eqb d.at e.at
+is_ident d None = false
+is_ident d (Some e) = eqb d.at e.at
 
 -- the identifier m refers to the define of the name d: it means no parameter or let name, and d is its bottom entry
 abbrev pub refers_to : Trees → Ident → Mention → Bool
@@ -176,8 +175,8 @@ bound_uses b l = count (is_of b) l + count (is_set_of b) l
 -- the facts T count the uses
 pub record UsesCounted (ts : Trees) (T : List Row) : Type 0 where
   -- of each parameter and let name
-  pub bound : All (λ b. uses_in (row_of T b.ident.at) ≡ some (bound_uses b (mentions_in (events ts)))) (binders_in (events ts))
+  pub bound : All (λ b. uses_in (row_of T b.ident.at) ≡ Some (bound_uses b (mentions_in (events ts)))) (binders_in (events ts))
   -- of each name that is defined at top level: every mention
-  pub defined : All (λ d. uses_in (row_of T d.name.at) ≡ some (count (refers_to ts d.name) (mentions_in (events ts)))) (defines_of (top_level ts))
+  pub defined : All (λ d. uses_in (row_of T d.name.at) ≡ Some (count (refers_to ts d.name) (mentions_in (events ts)))) (defines_of (top_level ts))
   -- of each identifier read or set: its own, if it refers to anything
-  pub mentioned : All (λ m. uses_in (row_of T m.ident.at) ≡ some (cond (has_entry ts m) 1 0)) (mentions_in (events ts))
+  pub mentioned : All (λ m. uses_in (row_of T m.ident.at) ≡ Some (cond (has_entry ts m) 1 0)) (mentions_in (events ts))

@@ -1,8 +1,8 @@
 -- A call's arguments and its fact, over states.
+use Rattle.std.specs.Prelude.{Option, None, Some}
 use Prim.Native.Nat.{ℕ, ◌+◌, ◌-◌, ◌*◌, ◌≤◌, ◌<◌}
 use mathlib.Core.List.{List}
 use mathlib.Core.Bool.{Bool, true, false, cond, ◌&&◌}
-use mathlib.Core.Option.{Option, none, some}
 use mathlib.Core.Path.{◌≡◌, refl, ap, sym, subst, ◌∙◌}
 use native.Mathlib.Omega.{arith}
 use lib.ListN.{length}
@@ -49,14 +49,14 @@ use Rattle.work.specs.declared.scope.Binder.TheVariants as binder
 abbrev pub Finds : Pass → List ℕ → ℕ → Binder → Type 0
 Finds p w n r = Tells p w (λ s. record_in (newest s n)) (record_of r)
 
-none_record : (o : Option Ident) → none ≡ record_in o → o ≡ none
-none_record none e = refl
-none_record (some x) e = absurd (let z : ◌≡◌ {A = ℕ} 0 1 = cc in omega arith)
+none_record : (o : Option Ident) → None ≡ record_in o → o ≡ None
+none_record None e = refl
+none_record (Some x) e = absurd (let z : ◌≡◌ {A = ℕ} 0 1 = cc in omega arith)
 
 -- the last use of the entry at b, at the record i
 record LastAt (rs : List ℕ) (s : State) (b i : ℕ) : Type 0 where
   pub y : Ident
-  pub is : (entry_at s b).last_used ≡ some y
+  pub is : (entry_at s b).last_used ≡ Some y
   pub place : y.at ≡ i
   pub known : Known rs y
 
@@ -90,9 +90,9 @@ module _ (rs : List ℕ) (at n : ℕ) {p : Pass} {w : List ℕ} {r : Binder} (na
             rw (← (named ∙ known_name k q), last_of s (binder_at_lem s a g), u);
       }
         where
-          no_last : (o : Option Ident) → last_code o ≡ 0 → o ≡ none
-          no_last none e = refl
-          no_last (some x) e = absurd (omega arith)
+          no_last : (o : Option Ident) → last_code o ≡ 0 → o ≡ None
+          no_last None e = refl
+          no_last (Some x) e = absurd (omega arith)
 
       -- the last use, where there is one
       module _ (z : v.last ≡ 0 → ⊥) where
@@ -100,8 +100,8 @@ module _ (rs : List ℕ) (at n : ℕ) {p : Pass} {w : List ℕ} {r : Binder} (na
         last-at s a g = go (entry_at s b).last_used refl (last_is s a)
           where
             go : (o : Option Ident) → (entry_at s b).last_used ≡ o → v.last ≡ last_code o → LastAt rs s b (v.last - 1)
-            go none q l = absurd (z l)
-            go (some y) q l = record { y = y; is = q; place = omega arith; known = g.sound.lasts b y q }
+            go None q l = absurd (z l)
+            go (Some y) q l = record { y = y; is = q; place = omega arith; known = g.sound.lasts b y q }
 
         pub last-inside : Mentioned rs at p w → v.last - 1 < length (records rs)
         last-inside m = let y = last-at m.s m.works m.good in omega (arith, y.place, y.known.inside)
@@ -174,8 +174,8 @@ marks_walk = record { none = λ s. refl; more = λ t ts s. refl }
 sized_argument : (t : Tree) (s : State) → Sized s (mark_argument t s)
 sized_argument (ident x) s = go (same_ident (last_use_of s (newest s x.name)) x)
   where
-    go : (b : Bool) → Sized s (cond b (mark_last (some x) s) s)
-    go true = sized_last (some x) s
+    go : (b : Bool) → Sized s (cond b (mark_last (Some x) s) s)
+    go true = sized_last (Some x) s
     go false = sized_same s
 sized_argument (const n q) s = sized_same s
 sized_argument (if n a b c) s = sized_same s

@@ -1,8 +1,8 @@
 -- A step stores what it changes alone: what it keeps of a state is told by the pass before it as by the one after it.
+use Rattle.std.specs.Prelude.{Option}
 use Prim.Native.Nat.{ℕ}
 use mathlib.Core.List.{List}
 use mathlib.Core.Bool.{Bool}
-use mathlib.Core.Option.{Option}
 use mathlib.Core.Path.{◌≡◌, refl, ap, sym, ◌∙◌}
 use Rattle.tree.specs.Tree.{Ident, Node, Tree}
 use Rattle.scope_map.specs.Map.{map_values}

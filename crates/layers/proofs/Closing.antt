@@ -1,8 +1,8 @@
 -- A layer that closes, and lists that are stored, touch different parts of a state: their order does not matter.
+use Rattle.std.specs.Prelude.{Option, None, Some}
 use Prim.Native.Nat.{ℕ, ◌+◌, ◌-◌}
 use mathlib.Core.List.{List, [], ◌∷◌, ◌++◌}
 use mathlib.Core.Bool.{Bool, true, false, cond}
-use mathlib.Core.Option.{Option, none, some}
 use mathlib.Core.Path.{◌≡◌, refl, ap, sym, ◌∙◌}
 use lib.ListN.{length, replicate}
 use lib.Seq.{sets}
@@ -46,8 +46,8 @@ put k s = record {
 
 put_last : (o : Option Ident) (k : Lists) (s : State) → mark_last o (put k s) ≡ put k (mark_last o s)
 unfolding amend insert
-put_last none k s = refl
-put_last (some x) k s = refl
+put_last None k s = refl
+put_last (Some x) k s = refl
 
 put_lasts : (l : List (Live Ident)) (k : Lists) (s : State) → mark_lasts l (put k s) ≡ put k (mark_lasts l s)
 unfolding mark_lasts
@@ -69,8 +69,8 @@ put-closed xs k s =
 
 last-lists : (o : Option Ident) (s : State) → lists_of (mark_last o s) ≡ lists_of s
 unfolding amend insert
-last-lists none s = refl
-last-lists (some x) s = refl
+last-lists None s = refl
+last-lists (Some x) s = refl
 
 lasts_lists : (l : List (Live Ident)) (s : State) → lists_of (mark_lasts l s) ≡ lists_of s
 unfolding mark_lasts
@@ -96,8 +96,8 @@ commutes g h e xs s =
 
 last-closed : (o : Option Ident) (s : State) → close_captures (close_scope (mark_last o s)) ≡ mark_last o (close_captures (close_scope s))
 unfolding close_scope close_captures amend insert
-last-closed none s = refl
-last-closed (some x) s = refl
+last-closed None s = refl
+last-closed (Some x) s = refl
 
 pub lasts_closed : (l : List (Live Ident)) (s : State) → close_captures (close_scope (mark_lasts l s)) ≡ mark_lasts l (close_captures (close_scope s))
 unfolding mark_lasts close_scope close_captures

@@ -1,8 +1,8 @@
 -- A lambda ends, over states.
+use Rattle.std.specs.Prelude.{Option, None, Some}
 use Prim.Native.Nat.{ℕ, suc, ◌+◌, ◌-◌, ◌*◌, ◌≤◌, ◌<◌}
 use mathlib.Core.List.{List, [], ◌∷◌, map}
 use mathlib.Core.Bool.{Bool, true, false, cond, not, ◌&&◌}
-use mathlib.Core.Option.{Option, none, some}
 use mathlib.Core.Path.{◌≡◌, refl, ap, sym, subst, ◌∙◌}
 use native.Mathlib.Omega.{arith}
 use lib.ListN.{length, drop, length-take}
@@ -92,8 +92,8 @@ either_length false i l = omega arith
 
 added-length : (b : Bool) (s : State) (o : Option Ident) (l : List ListEntry) → length (add_captured b s o l) ≤ suc (length l)
 added-length false s o l = omega arith
-added-length true s none l = omega arith
-added-length true s (some x) l = either_length (entry_at s x.at).captured (list_entry_of x (entry_at s x.at)) l
+added-length true s None l = omega arith
+added-length true s (Some x) l = either_length (entry_at s x.at).captured (list_entry_of x (entry_at s x.at)) l
 
 captured_length : (ps : List ℕ) (s : State) (l : List (Live Ident)) → length (captured_in ps s l) ≤ length l
 unfolding captured_in
@@ -167,11 +167,11 @@ amended_fine {Q} {G} lawful xs b e {s} h =
 
 good_lists : {rs : List ℕ} (o : Option FunctionInformation) (at : ℕ) (xs : List Ident) (b : Tree) {s : State} → Good rs s → Good rs (with_lists o at xs b s)
 unfolding store_arguments
-good_lists none at xs b {s} g =
+good_lists None at xs b {s} g =
     let u = store_captured at (made_list xs s) s in
     let z : Sized u (store_arguments (layer_list s) u) = record { rows = refl; arguments = length-sets u.facts.arguments u.facts.arguments_top (layer_list s) } in
     good_each (good_made at xs g) z (λ Q k G y h. each_arguments k y (layer_list s) h)
-good_lists (some i) at xs b {s} g =
+good_lists (Some i) at xs b {s} g =
     let l = amended_list xs b i.captured_vars s in
     let k = rewritten-put i.captured_vars l s in
     good_each g (record { rows = ap (λ (u : State). length u.facts.rows) k; arguments = ap (λ (u : State). length u.facts.arguments) k })
@@ -273,7 +273,7 @@ leaves_by : (o : Option FunctionInformation) (m : Node) (xs : List Ident) (b : T
     function_ends o m b escapes (captured_vars (map name_in xs) s) (layer_list s) s.captures (layers_closed xs s)
     ≡ insert m.at (Function (function_fact o (captured_list_at o xs b s) (argument_list_at o s) escapes (depth u))) u)
 unfolding make_function amend_function
-leaves_by none m xs b escapes s =
+leaves_by None m xs b escapes s =
     let u = layers_closed xs s in
     let c = made_list xs s in
     let l = layer_list s in
@@ -283,7 +283,7 @@ leaves_by none m xs b escapes s =
     let y : u.facts.arguments_top ≡ s.facts.arguments_top = ap (λ (k : Lists). k.arguments_top) (closed-lists xs s) in
     let n : depth (layers_closed xs (store_arguments l (store_captured m.at c s))) ≡ depth u = ap depth e ∙ ap depth (stored-put m.at c l u) in
     rw (← e, x, y, ← n)
-leaves_by (some i) m xs b escapes s =
+leaves_by (Some i) m xs b escapes s =
     let e = i.captured_vars in
     let l = amended_list xs b e s in
     let r : (layers_closed xs s).facts.captured ≡ s.facts.captured = ap (λ (k : Lists). k.captured) (closed-lists xs s) in
@@ -291,7 +291,7 @@ leaves_by (some i) m xs b escapes s =
     let used = now_used b (captured_vars (map name_in xs) s) in
     let out : List ListEntry → State = λ (g : List ListEntry).
     let h = amend_list used s.captures [] (kept_of b used (list_in g e)) in
-    insert m.at (Function (function_fact (some i) (record { first = e.first; length = length h }) i.arguments escapes i.depth)) (rewrite_captured e h (layers_closed xs s)) in
+    insert m.at (Function (function_fact (Some i) (record { first = e.first; length = length h }) i.arguments escapes i.depth)) (rewrite_captured e h (layers_closed xs s)) in
     ap out r ∙ rw (← c)
 
 module _ {rs : List ℕ} {at : ℕ} {d : Lambda} {p : Pass} {F C A w : List ℕ} (few : at < rows_most) (v : FoundFunction)

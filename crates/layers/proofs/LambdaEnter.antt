@@ -1,8 +1,8 @@
 -- A lambda is entered, over states.
+use Rattle.std.specs.Prelude.{Option, None, Some}
 use Prim.Native.Nat.{ℕ, zero, suc, ◌+◌, ◌≤◌, ◌<◌}
 use mathlib.Core.List.{List}
 use mathlib.Core.Bool.{Bool, true, false, cond}
-use mathlib.Core.Option.{Option, none, some}
 use mathlib.Core.Path.{◌≡◌, refl, ap, sym, subst, ◌∙◌}
 use native.Mathlib.Omega.{arith}
 use native.Mathlib.Numerals.{add-one}
@@ -110,8 +110,8 @@ record Opened (s t : State) : Type 0 where
 
 captures_opened : (o : Option FunctionInformation) (s : State) → Opened s (open_captures o s)
 unfolding open_captures
-captures_opened none s = record { rows = refl; arguments = refl; scope = refl }
-captures_opened (some v) s = let n = numbered-list v.captured_vars (opened s) in record { rows = n.rows; arguments = n.arguments; scope = n.scope }
+captures_opened None s = record { rows = refl; arguments = refl; scope = refl }
+captures_opened (Some v) s = let n = numbered-list v.captured_vars (opened s) in record { rows = n.rows; arguments = n.arguments; scope = n.scope }
 
 opened-fits : {rs : List ℕ} {p q : Pass} {F C A w : List ℕ} {s : State} → ((w : List ℕ) → Becomes p w opened q w) → Fits rs (raw p F C A w) s
     → Fits rs (raw q F C A w) (opened s)
@@ -122,8 +122,8 @@ opened-fits {w = w} {s} k f = record {
 
 open_is : (o : Option FunctionInformation) (s : State) → with_context (context_within o s.context) (number_found o (opened s)) ≡ open_captures o s
 unfolding open_captures
-open_is none s = refl
-open_is (some i) s = refl
+open_is None s = refl
+open_is (Some i) s = refl
 
 module _ {v : FoundFunction} {p : Pass} {C w : List ℕ} {q : Pass} (opens : (w : List ℕ) → Becomes p w opened q w) where
   pub list_room : ListOpens v p C w → ListRoom v q × SomeHeld q C w
@@ -164,9 +164,9 @@ module _ {v : FoundFunction} {C : List ℕ} where
 
 -- The lambda
 
-inside_of : (x : Option FunctionInformation) → ((i : FunctionInformation) → x ≡ some i → Inside i.captured_vars) → pass.Inside x
-inside_of none h = tt
-inside_of (some i) h = h i refl
+inside_of : (x : Option FunctionInformation) → ((i : FunctionInformation) → x ≡ Some i → Inside i.captured_vars) → pass.Inside x
+inside_of None h = tt
+inside_of (Some i) h = h i refl
 
 module _ {rs : List ℕ} {at : ℕ} {p : Pass} {F C A w : List ℕ} (few : at < rows_most) (v : FoundFunction)
     (found : Tells put_row Blank function_in F at (function_found v)) where

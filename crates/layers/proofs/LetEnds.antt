@@ -1,8 +1,8 @@
 -- Lets, over states: at their end.
+use Rattle.std.specs.Prelude.{Option, None, Some}
 use Prim.Native.Nat.{ℕ, ◌+◌, ◌*◌, ◌≤◌, ◌<◌}
 use mathlib.Core.List.{List, [], ◌∷◌}
 use mathlib.Core.Bool.{Bool, true, false, not, true≢false}
-use mathlib.Core.Option.{Option, none, some}
 use mathlib.Core.Path.{◌≡◌, refl, ap, sym, subst, ◌∙◌}
 use native.Mathlib.Omega.{arith}
 use lib.ListN.{length, get_or}
@@ -45,8 +45,8 @@ kept_then a b = record { sized = sized_then a.sized b.sized; top = b.top ∙ a.t
 
 kept_last : (o : Option Ident) (s : State) → Kept s (mark_last o s)
 unfolding amend insert
-kept_last none s = record { sized = sized_same s; top = refl; entries = refl }
-kept_last (some x) s = record { sized = sized_last (some x) s; top = refl; entries = refl }
+kept_last None s = record { sized = sized_same s; top = refl; entries = refl }
+kept_last (Some x) s = record { sized = sized_last (Some x) s; top = refl; entries = refl }
 
 pub leave_kept : (xs : List Ident) (s : State) → Kept s (leave_names xs s)
 unfolding leave_names

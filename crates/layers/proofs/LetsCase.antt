@@ -1,8 +1,8 @@
 -- Lets, over states: what is known on entering.
+use Rattle.std.specs.Prelude.{Option, None, Some}
 use Prim.Native.Nat.{ℕ, ◌+◌, ◌-◌, ◌*◌, ◌≤◌, ◌<◌}
 use mathlib.Core.List.{List}
 use mathlib.Core.Bool.{Bool, true, false}
-use mathlib.Core.Option.{Option, none, some}
 use mathlib.Core.Path.{◌≡◌, refl, ap, sym, ◌∙◌}
 use native.Mathlib.Omega.{arith}
 use native.Mathlib.Numerals.{add-one}
@@ -54,20 +54,20 @@ captured_length {s = s} f =
 
 record LambdaIs (a : Around) (o : Option Node) : Type 0 where
   pub n : Node
-  pub is : o ≡ some n
+  pub is : o ≡ Some n
   pub at : a.code - 1 ≡ n.at
 
 lambda_is : (a : Around) → (a.code ≡ 0 → ⊥) → (o : Option Node) → AroundIs a o → LambdaIs a o
-lambda_is a z none h = absurd (z h.0)
-lambda_is a z (some n) h = record { n = n; is = refl; at = omega (arith, h.0) }
+lambda_is a z None h = absurd (z h.0)
+lambda_is a z (Some n) h = record { n = n; is = refl; at = omega (arith, h.0) }
 
-nothing_is : (a : Around) → a.code ≡ 0 → (o : Option Node) → AroundIs a o → o ≡ none
-nothing_is a e none h = refl
-nothing_is a e (some n) h = absurd (omega (arith, h.0))
+nothing_is : (a : Around) → a.code ≡ 0 → (o : Option Node) → AroundIs a o → o ≡ None
+nothing_is a e None h = refl
+nothing_is a e (Some n) h = absurd (omega (arith, h.0))
 
 id_is : (a : Around) (o : Option Node) → AroundIs a o → a.id ≡ function_id o
-id_is a none h = h.1
-id_is a (some n) h = h.1
+id_is a None h = h.1
+id_is a (Some n) h = h.1
 
 -- a let relies on as much
 pub around_fits : {rs : List ℕ} {at : ℕ} {n : Names} {height : ℕ} {a : Around} {p : Pass} {F C A w : List ℕ} → LetFits rs at n height a p F C A w → AroundFits a F C
@@ -98,7 +98,7 @@ module _ (a : Around) where
       no_function q = record {
         is = λ rs p A w s o h f.
             let k = lambda_is a e o h in
-            let z : function_in (row_at s k.n.at) ≡ none = sym (row_says k f) ∙ ap function_found q in
+            let z : function_in (row_at s k.n.at) ≡ None = sym (row_says k f) ∙ ap function_found q in
             rw (k.is, z);
         few = omega arith;
       }
@@ -107,15 +107,15 @@ module _ (a : Around) where
         pub list_inside : AroundFits a F C → Inside v.captured_vars × (length C ≡ list_entries_length)
         list_inside b =
             let k = lambda_is a e b.function b.around in
-            let z : function_in (row_at b.s k.n.at) ≡ some v = sym (row_says k b.fits) ∙ ap function_found q in
+            let z : function_in (row_at b.s k.n.at) ≡ Some v = sym (row_says k b.fits) ∙ ap function_found q in
             ((b.outer k.n k.is).1 v z, captured_length b.fits)
 
         pub heaps_counted : {n : ℕ} → CountsHeap C v.captured_vars n → n ≤ list_entries_most → TellsHeaps a F C (record { code = n + 1 })
         heaps_counted {n} c small = record {
           is = λ rs p A w s o h f.
               let k = lambda_is a e o h in
-              let z : function_in (row_at s k.n.at) ≡ some v = sym (row_says k f) ∙ ap function_found q in
-              rw (k.is, z, add-one n) (ap some (c.is s.facts.captured f.tied.captured (captured_many f.tied.works)));
+              let z : function_in (row_at s k.n.at) ≡ Some v = sym (row_says k f) ∙ ap function_found q in
+              rw (k.is, z, add-one n) (ap Some (c.is s.facts.captured f.tied.captured (captured_many f.tied.works)));
           few = omega arith;
         }
 
@@ -132,7 +132,7 @@ module _ {at : ℕ} {F : List ℕ} where
     pub no_let : r ≡ letin.Nothing → {e : ListAt} → e ≡ record { first = 0; length = 0 } → TellsLet at F e
     no_let q k = record {
       is = λ rs p C A w s f.
-          let z : let_in (row_at s at) ≡ none = sym (let_says f) ∙ ap let_found q in
+          let z : let_in (row_at s at) ≡ None = sym (let_says f) ∙ ap let_found q in
           rw (k, z);
       inside = rw k (omega arith);
     }
@@ -140,7 +140,7 @@ module _ {at : ℕ} {F : List ℕ} where
     pub let_list : {v : LetInformation} → r ≡ letin.Found v → TellsLet at F v.arguments
     let_list {v} q = record {
       is = λ rs p C A w s f.
-          let z : let_in (row_at s at) ≡ some v = sym (let_says f) ∙ ap let_found q in
+          let z : let_in (row_at s at) ≡ Some v = sym (let_says f) ∙ ap let_found q in
           rw z;
       inside = a.list v (sym (let_says a.fits) ∙ ap let_found q);
     }

@@ -1,6 +1,5 @@
 -- What the functions that open and close a lambda or a let promise, of every state that the tables hold.
-use Rattle.std.specs.Prelude.{ℕ, ◌+◌, ◌≤◌, ◌<◌, List, Bool, ◌≡◌, length}
-use Rattle.std.proofs.Math.Option.{Option, none, some}
+use Rattle.std.specs.Prelude.{ℕ, ◌+◌, ◌≤◌, ◌<◌, List, Bool, ◌≡◌, length, Option, None, Some}
 use Rattle.tree.specs.Tree.{Ident, Node, Tree}
 use Rattle.scope_map.specs.ScopeMap.{newest_layer}
 use Rattle.semantic.specs.Rows.{Blank}
@@ -29,7 +28,7 @@ pub record Shallow (p : Pass) : Type 0 where
 
 -- the lists of a lambda's fact, if it has one, lie inside, and the captures have room for the captured one
 abbrev pub ListsFit : Pass → State → ℕ → Type 0
-ListsFit p s at = (v : FunctionInformation) → function_in (row_at s at) ≡ some v → Inside v.captured_vars × Inside v.arguments × CapturesRoom p v.captured_vars
+ListsFit p s at = (v : FunctionInformation) → function_in (row_at s at) ≡ Some v → Inside v.captured_vars × Inside v.arguments × CapturesRoom p v.captured_vars
 
 pub record LambdaFits (rs : List ℕ) (at : ℕ) (n : Names) (p : Pass) (F C A w : List ℕ) : Type 0 where
   pub s : State
@@ -47,8 +46,8 @@ pub record OpensLambda (rs : List ℕ) (at : ℕ) (n : Names) (p : Pass) (F C A 
 
 -- at its end: the argument list has room where the fact is made, and the captured list lies inside where it is amended
 pub record EndFits (p : Pass) (s : State) (at : ℕ) : Type 0 where
-  pub made : function_in (row_at s at) ≡ none → s.facts.arguments_top + length (newest_layer s.scope.names) ≤ list_entries_most
-  pub amended : (v : FunctionInformation) → function_in (row_at s at) ≡ some v → Inside v.captured_vars
+  pub made : function_in (row_at s at) ≡ None → s.facts.arguments_top + length (newest_layer s.scope.names) ≤ list_entries_most
+  pub amended : (v : FunctionInformation) → function_in (row_at s at) ≡ Some v → Inside v.captured_vars
   pub captured : p.captured_top + list_entries_most < 4294967296
 
 pub record LambdaEnds (rs : List ℕ) (at : ℕ) (d : Lambda) (p : Pass) (F C A w : List ℕ) : Type 0 where
@@ -78,8 +77,8 @@ pub record LetFits (rs : List ℕ) (at : ℕ) (n : Names) (height : ℕ) (a : Ar
   pub room : NamesRoom p n.count
   pub shallow : Shallow p
   pub slots : height + n.count < 4294967296
-  pub list : (v : LetInformation) → let_in (row_at s at) ≡ some v → Inside v.arguments
-  pub outer : (m : Node) → function ≡ some m → (m.at < rows_most) × ((v : FunctionInformation) → function_in (row_at s m.at) ≡ some v → Inside v.captured_vars)
+  pub list : (v : LetInformation) → let_in (row_at s at) ≡ Some v → Inside v.arguments
+  pub outer : (m : Node) → function ≡ Some m → (m.at < rows_most) × ((v : FunctionInformation) → function_in (row_at s m.at) ≡ Some v → Inside v.captured_vars)
 
 pub record OpensLet (rs : List ℕ) (at : ℕ) (n : Names) (height : ℕ) (a : Around) (p : Pass) (F C A w : List ℕ) (p' : Pass) (F' w' : List ℕ) : Type 0 where
   pub is : (s : State) (xs : List Ident) (m : Node) (function : Option Node) → m.at ≡ at → AroundIs a function → Told rs n xs

@@ -1,6 +1,5 @@
 -- What the functions of a lambda promise.
-use Rattle.std.specs.Prelude.{ℕ, ◌+◌, ◌-◌, ◌≤◌, ◌<◌, List, map, Bool, cond, ◌≡◌, length}
-use Rattle.std.proofs.Math.Option.{Option, none, some}
+use Rattle.std.specs.Prelude.{ℕ, ◌+◌, ◌-◌, ◌≤◌, ◌<◌, List, map, Bool, cond, ◌≡◌, length, Option, None, Some}
 use Rattle.tree.specs.Tree.{Ident, Tree}
 use Rattle.scope_map.specs.ScopeMap.{newest_layer}
 use Rattle.scope_map.specs.declared.ScopeMap.{ScopeMap}
@@ -29,12 +28,12 @@ use Rattle.layers.specs.declared.lambda.EndedLists.{EndedLists}
 
 -- its list, where it has a fact, lies inside, and the captures have room for it
 abbrev pub ListRoom : FoundFunction → Pass → Type 0
-ListRoom v p = (i : FunctionInformation) → function_found v ≡ some i → Inside i.captured_vars × CapturesRoom p i.captured_vars
+ListRoom v p = (i : FunctionInformation) → function_found v ≡ Some i → Inside i.captured_vars × CapturesRoom p i.captured_vars
 
 -- the list is numbered
 abbrev pub number_found : Option FunctionInformation → State → State
-number_found none s = s
-number_found (some i) s = number_list i.captured_vars s
+number_found None s = s
+number_found (Some i) s = number_list i.captured_vars s
 
 -- of the pass, the captures alone change
 pub record NumbersCaptures (v : FoundFunction) (p : Pass) (C w : List ℕ) (m : ScopeMap) (C' w' : List ℕ) : Type 0 where
@@ -42,8 +41,8 @@ pub record NumbersCaptures (v : FoundFunction) (p : Pass) (C w : List ℕ) (m : 
 
 -- one that escapes ends the context
 abbrev pub context_within : Option FunctionInformation → ℕ → ℕ
-context_within none context = context
-context_within (some i) context = cond i.escapes NONE context
+context_within None context = context
+context_within (Some i) context = cond i.escapes NONE context
 
 -- the captures' layer
 pub record ListOpens (v : FoundFunction) (p : Pass) (C w : List ℕ) : Type 0 where
@@ -60,7 +59,7 @@ pub record OpensList (v : FoundFunction) (p : Pass) (C w : List ℕ) (p' : Pass)
 
 -- its lists lie inside
 abbrev pub ListInside : FoundFunction → Type 0
-ListInside v = (i : FunctionInformation) → function_found v ≡ some i → Inside i.captured_vars × Inside i.arguments
+ListInside v = (i : FunctionInformation) → function_found v ≡ Some i → Inside i.captured_vars × Inside i.arguments
 
 -- what the parameters have in common
 pub record EntersBy (v : FoundFunction) (C : List ℕ) (g : Entering) : Type 0 where
@@ -88,8 +87,8 @@ abbrev pub layer_list : State → List ListEntry
 layer_list s = list_entries_of s (newest_layer s.scope.names)
 
 abbrev pub with_lists : Option FunctionInformation → ℕ → List Ident → Tree → State → State
-with_lists none at xs b s = store_arguments (layer_list s) (store_captured at (made_list xs s) s)
-with_lists (some i) at xs b s = rewrite_captured i.captured_vars (amended_list xs b i.captured_vars s) s
+with_lists None at xs b s = store_arguments (layer_list s) (store_captured at (made_list xs s) s)
+with_lists (Some i) at xs b s = rewrite_captured i.captured_vars (amended_list xs b i.captured_vars s) s
 
 -- where they lie
 
@@ -97,23 +96,23 @@ abbrev pub entries_between : ℕ → ℕ → ListAt
 entries_between from to = record { first = from; length = to - from }
 
 abbrev pub captured_list_at : Option FunctionInformation → List Ident → Tree → State → ListAt
-captured_list_at none xs b s = record { first = s.facts.captured_top; length = length (made_list xs s) }
-captured_list_at (some i) xs b s = record { first = i.captured_vars.first; length = length (amended_list xs b i.captured_vars s) }
+captured_list_at None xs b s = record { first = s.facts.captured_top; length = length (made_list xs s) }
+captured_list_at (Some i) xs b s = record { first = i.captured_vars.first; length = length (amended_list xs b i.captured_vars s) }
 
 abbrev pub argument_list_at : Option FunctionInformation → State → ListAt
-argument_list_at none s = record { first = s.facts.arguments_top; length = length (layer_list s) }
-argument_list_at (some i) s = i.arguments
+argument_list_at None s = record { first = s.facts.arguments_top; length = length (layer_list s) }
+argument_list_at (Some i) s = i.arguments
 
 -- the fact with them: a new one, or the one that the lambda has
 abbrev pub function_fact : Option FunctionInformation → ListAt → ListAt → Bool → ℕ → FunctionInformation
-function_fact none captured arguments escapes depth = record {
+function_fact None captured arguments escapes depth = record {
   captured_vars = captured;
   arguments = arguments;
   escapes = escapes;
   aliases_to = NONE;
   depth = depth;
 }
-function_fact (some i) captured arguments escapes depth = record {
+function_fact (Some i) captured arguments escapes depth = record {
   captured_vars = captured;
   arguments = arguments;
   escapes = i.escapes;
@@ -131,8 +130,8 @@ pub record ListsEnd (rs : List ℕ) (at : ℕ) (d : Lambda) (v : FoundFunction) 
   pub body : HasBody rs d b
   pub fits : Fits rs (raw p facts C A w) s
   pub few : at < rows_most
-  pub made : function_found v ≡ none → s.facts.arguments_top + length (newest_layer s.scope.names) ≤ list_entries_most
-  pub amended : (i : FunctionInformation) → function_found v ≡ some i → Inside i.captured_vars
+  pub made : function_found v ≡ None → s.facts.arguments_top + length (newest_layer s.scope.names) ≤ list_entries_most
+  pub amended : (i : FunctionInformation) → function_found v ≡ Some i → Inside i.captured_vars
   pub captured : p.captured_top + list_entries_most < 4294967296
 
 -- the lists are in the tables, and the code says where they lie

@@ -1,6 +1,5 @@
 -- What the functions of a let promise.
-use Rattle.std.specs.Prelude.{ℕ, ◌+◌, ◌≤◌, ◌<◌, List, Bool, true, false, ◌≡◌}
-use Rattle.std.proofs.Math.Option.{Option, some}
+use Rattle.std.specs.Prelude.{ℕ, ◌+◌, ◌≤◌, ◌<◌, List, Bool, true, false, ◌≡◌, Option, Some}
 use Rattle.tree.specs.Tree.{Ident, Node}
 use Rattle.semantic.specs.Rows.{Blank, ListEntry}
 use Rattle.semantic.specs.Kinds.{function_in, let_in}
@@ -30,7 +29,7 @@ pub record AroundFits (a : Around) (F C : List ℕ) : Type 0 where
   pub function : Option Node
   pub around : AroundIs a function
   pub fits : Fits rs (raw p F C arguments work) s
-  pub outer : (m : Node) → function ≡ some m → (m.at < rows_most) × ((v : FunctionInformation) → function_in (row_at s m.at) ≡ some v → Inside v.captured_vars)
+  pub outer : (m : Node) → function ≡ Some m → (m.at < rows_most) × ((v : FunctionInformation) → function_in (row_at s m.at) ≡ Some v → Inside v.captured_vars)
 
 pub record TellsHeaps (a : Around) (F C : List ℕ) (r : Heaps) : Type 0 where
   pub is : (rs : List ℕ) (p : Pass) (A w : List ℕ) (s : State) (function : Option Node) → AroundIs a function → Fits rs (raw p F C A w) s
@@ -50,7 +49,7 @@ pub record LetAt (at : ℕ) (F : List ℕ) : Type 0 where
   pub s : State
   pub fits : Fits rs (raw p F captured arguments work) s
   pub few : at < rows_most
-  pub list : (v : LetInformation) → let_in (row_at s at) ≡ some v → Inside v.arguments
+  pub list : (v : LetInformation) → let_in (row_at s at) ≡ Some v → Inside v.arguments
 
 pub record TellsLet (at : ℕ) (F : List ℕ) (r : ListAt) : Type 0 where
   pub is : (rs : List ℕ) (p : Pass) (C A w : List ℕ) (s : State) → Fits rs (raw p F C A w) s → list_in s.facts.arguments r ≡ let_arguments s (row_at s at)

@@ -1,9 +1,10 @@
 -- The text for an input, from its counts.
+use Rattle.std.specs.Prelude.{Option, None, Some}
+use Rattle.std.proofs.lemmas.Option.{none-some}
 use Prim.Native.Nat.{ℕ, ◌*◌, ◌%◌, ◌≤◌, ◌<◌}
 use mathlib.Core.Bool.{Bool, true, false, ◌||◌, true≢false}
 use mathlib.Core.List.{List}
 use mathlib.Core.Logic.{inl, inr, ⊎_elim}
-use mathlib.Core.Option.{Option, none, some, some-ne-none}
 use mathlib.Core.Path.{◌≡◌, refl, ap, sym, subst, ◌∙◌}
 use native.Mathlib.Omega.{arith}
 use borrow.Author.Tests.{lt-ltb, eq-eqb}
@@ -31,11 +32,11 @@ use Rattle.listing.proofs.Tables.{class_room, record_room}
 
 -- above 1,024 names
 
-either : (b : Bool) → when (b || true) 0 ≡ some 0
+either : (b : Bool) → when (b || true) 0 ≡ Some 0
 either true = refl
 either false = refl
 
-names-refused : (N : ℕ) (rs : List Record) → classes_length < N → refusal N (numbers rs) ≡ some (record { number = 2; at = 0 })
+names-refused : (N : ℕ) (rs : List Record) → classes_length < N → refusal N (numbers rs) ≡ Some (record { number = 2; at = 0 })
 unfolding refusal check1 check2
 names-refused N rs h =
     rw (
@@ -114,8 +115,8 @@ module _ {T R d : List ℕ} {t t' : Tables} {names many n : ℕ} (v : InputIn na
     where
       by_refusal : (f : all_fit T R t ≡ true) → length rs ≤ records_most → FreshIn cs (numbers rs) t' d n → (o : Option Refusal) → refusal (length cs) (numbers rs) ≡ o
           → Shows (all_fit T R t) cs rs (take n d)
-      by_refusal f h x (some a) e = subst (Shows (all_fit T R t) cs rs) (sym (x.refused a e).text) (refused f h e)
-      by_refusal f h x none e =
+      by_refusal f h x (Some a) e = subst (Shows (all_fit T R t) cs rs) (sym (x.refused a e).text) (refused f h e)
+      by_refusal f h x None e =
           let (ts, a) = acceptance (length cs) (numbers rs) e in
           subst (Shows (all_fit T R t) cs rs) (sym (x.accepted ts a).text) (accepted f h a)
 
@@ -135,7 +136,7 @@ module _ {T R d : List ℕ} {t t' : Tables} {names many n : ℕ} (v : InputIn na
     too_many = λ f h. (over f h).tables;
     refused = λ f h a e. ⊎_elim (λ g. (named f g).tables) (λ g. ((run_of f h g).refused a e).tables) (below_or classes_length (length cs));
     accepted = λ f h ts a.
-        ⊎_elim (λ g. absurd (some-ne-none _ (sym (names-refused (length cs) rs g) ∙ only (length cs) (numbers rs) ts a))) (λ g. ((run_of f h g).accepted ts a).tables)
+        ⊎_elim (λ g. absurd (none-some _ (sym (sym (names-refused (length cs) rs g) ∙ only (length cs) (numbers rs) ts a)))) (λ g. ((run_of f h g).accepted ts a).tables)
         (below_or classes_length (length cs));
   }
 

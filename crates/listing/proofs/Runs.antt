@@ -1,8 +1,9 @@
 -- The text of what a fresh run answers.
+use Rattle.std.specs.Prelude.{Option, None, Some}
+use Rattle.std.proofs.lemmas.Option.{none-some}
 use Prim.Native.Nat.{ℕ, ◌*◌, ◌≤◌}
 use mathlib.Core.Bool.{true}
 use mathlib.Core.List.{List, []}
-use mathlib.Core.Option.{Option, none, some, some-ne-none}
 use mathlib.Core.Path.{◌≡◌, refl, ap, sym, ◌∙◌}
 use native.Mathlib.Omega.{arith}
 use lib.ListN.{length}
@@ -30,7 +31,7 @@ use Rattle.listing.specs.Answered.{BlankFrom, FactsIn, OutcomeIn, FreshIn}
 module _ {a : Answer} {F d : List ℕ} {rows n : ℕ} where
   pub accepted_in : a ≡ answer.Accepted → FactsIn F rows d n → OutcomeIn a F rows d n
   accepted_in e v = record {
-    is = λ o l q f b. let z : o ≡ none = sym q ∙ ap refusal_in e in v.is l (f z) b ∙ ap (λ (p : Option Refusal). outcome_text p l) (sym z);
+    is = λ o l q f b. let z : o ≡ None = sym q ∙ ap refusal_in e in v.is l (f z) b ∙ ap (λ (p : Option Refusal). outcome_text p l) (sym z);
     inside = v.inside;
   }
 
@@ -50,13 +51,13 @@ rows-blank classes {rs = rs} {ts} k rows e x h =
 -- By the records
 
 outcome-refused : (q : Option Refusal) (f : Facts) → (outcome q f).refused ≡ q
-outcome-refused none f = refl
-outcome-refused (some r) f = refl
+outcome-refused None f = refl
+outcome-refused (Some r) f = refl
 
-outcome_facts : (q : Option Refusal) (f : Facts) → q ≡ none → (outcome q f).tables.facts ≡ layout put_row f.rows
+outcome_facts : (q : Option Refusal) (f : Facts) → q ≡ None → (outcome q f).tables.facts ≡ layout put_row f.rows
 unfolding tables_of
-outcome_facts none f e = refl
-outcome_facts (some r) f e = absurd (some-ne-none r e)
+outcome_facts None f e = refl
+outcome_facts (Some r) f e = absurd (none-some r (sym e))
 
 pub fresh_in : {classes rs d : List ℕ} {t u : Tables} {a : Answer} {rows n : ℕ} → fitting rs t ≡ true → length rs ≡ width * rows → Fresh classes rs t (record { refused = refusal_in a; tables = u })
     → OutcomeIn a u.facts rows d n → FreshIn classes rs u d n
@@ -65,7 +66,7 @@ fresh_in {classes} {rs} {d} {t} {u} {a} {rows} {n} h m x v = record {
   refused = λ r e.
       let o = x.answers.unsound h r e in
       record {
-        text = v.is (some r) [] (ap (λ (p : Outcome). p.refused) o) (λ z. absurd (some-ne-none r z)) (λ i g. refl);
+        text = v.is (Some r) [] (ap (λ (p : Outcome). p.refused) o) (λ z. absurd (none-some r (sym z))) (λ i g. refl);
         tables = ap (λ (p : Outcome). p.tables) o;
       };
   accepted = λ ts k.

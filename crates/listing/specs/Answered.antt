@@ -1,7 +1,6 @@
 -- What the functions that put a text into a buffer promise: its first n bytes are the text. What stands behind them is free; the buffer's length stays. And
 -- what the tables lent for a run then hold.
-use Rattle.std.specs.Prelude.{ℕ, ◌+◌, ◌*◌, ◌≤◌, ◌<◌, Bool, true, false, List, ◌++◌, ◌⊎◌, ◌≡◌, length, get_or, take}
-use Rattle.std.proofs.Math.Option.{Option, none, some}
+use Rattle.std.specs.Prelude.{ℕ, ◌+◌, ◌*◌, ◌≤◌, ◌<◌, Bool, true, false, List, ◌++◌, ◌⊎◌, ◌≡◌, length, get_or, take, Option, None, Some}
 use Rattle.table.specs.Layout.{layout}
 use Rattle.tree.specs.Record.{width}
 use Rattle.tree.specs.Tree.{Trees}
@@ -39,7 +38,7 @@ pub record FactsIn (F : List ℕ) (rows : ℕ) (d : List ℕ) (n : ℕ) : Type 0
 
 -- a refusal, or the facts of the rows where there is none
 pub record OutcomeIn (a : Answer) (F : List ℕ) (rows : ℕ) (d : List ℕ) (n : ℕ) : Type 0 where
-  pub is : (o : Option Refusal) (l : List Row) → refusal_in a ≡ o → (o ≡ none → F ≡ layout put_row l) → BlankFrom rows l → take n d ≡ outcome_text o l
+  pub is : (o : Option Refusal) (l : List Row) → refusal_in a ≡ o → (o ≡ None → F ≡ layout put_row l) → BlankFrom rows l → take n d ≡ outcome_text o l
   pub inside : n ≤ length d
 
 -- the text u' is u, and the tables t' are t
@@ -48,7 +47,7 @@ pub record Gives (u : List ℕ) (t : Tables) (u' : List ℕ) (t' : Tables) : Typ
   pub tables : t' ≡ t
 
 pub record FreshIn (classes rs : List ℕ) (t' : Tables) (d : List ℕ) (n : ℕ) : Type 0 where
-  pub refused : (r : Refusal) → refusal (length classes) rs ≡ some r → Gives (refusal_text r) zeros (take n d) t'
+  pub refused : (r : Refusal) → refusal (length classes) rs ≡ Some r → Gives (refusal_text r) zeros (take n d) t'
   pub accepted : (ts : Trees) → Accepted (length classes) rs ts → Gives (fresh_text classes ts) (fresh_outcome classes ts).tables (take n d) t'
   pub inside : n ≤ length d
 

@@ -1,7 +1,6 @@
 -- What the four tables lent for a run hold when the text is made. Document 01, "What the operations answer": unchanged after 1, zero after 2 to 12. A bad line
 -- goes before any refusal, and leaves them unchanged too.
-use Rattle.std.specs.Prelude.{ℕ, ◌≤◌, ◌<◌, Bool, true, false, List, ◌≡◌, length}
-use Rattle.std.proofs.Math.Option.{some}
+use Rattle.std.specs.Prelude.{ℕ, ◌≤◌, ◌<◌, Bool, true, false, List, ◌≡◌, length, Some}
 use Rattle.tree.specs.Record.{Record, numbers}
 use Rattle.tree.specs.Tree.{Trees}
 use Rattle.tree.specs.Check.{Refusal, refusal}
@@ -14,7 +13,7 @@ use Rattle.listing.specs.Listing.{records_most}
 pub record Left (fit : Bool) (cs : List ℕ) (rs : List Record) (t t' : Tables) : Type 0 where
   pub unfit : fit ≡ false → t' ≡ t
   pub too_many : fit ≡ true → records_most < length rs → t' ≡ zeros
-  pub refused : fit ≡ true → length rs ≤ records_most → (r : Refusal) → refusal (length cs) (numbers rs) ≡ some r → t' ≡ zeros
+  pub refused : fit ≡ true → length rs ≤ records_most → (r : Refusal) → refusal (length cs) (numbers rs) ≡ Some r → t' ≡ zeros
   pub accepted : fit ≡ true → length rs ≤ records_most → (ts : Trees) → Accepted (length cs) (numbers rs) ts → t' ≡ (fresh_outcome cs ts).tables
 
 -- for the bytes b

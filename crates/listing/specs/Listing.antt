@@ -1,6 +1,5 @@
 -- What the program `facts` prints. Document 01, "The printed facts".
-use Rattle.std.specs.Prelude.{ℕ, ◌+◌, ◌*◌, ◌≤◌, ◌<◌, Bool, true, false, ◌&&◌, List, ◌≡◌, eqb, length}
-use Rattle.std.proofs.Math.Option.{Option, none, some}
+use Rattle.std.specs.Prelude.{ℕ, ◌+◌, ◌*◌, ◌≤◌, ◌<◌, Bool, true, false, ◌&&◌, List, ◌≡◌, eqb, length, Option, None, Some}
 use Rattle.tree.specs.Record.{Record, width, numbers}
 use Rattle.tree.specs.Tree.{Trees}
 use Rattle.tree.specs.Check.{Refusal, refusal}
@@ -35,8 +34,8 @@ abbrev pub refusal_text : Refusal → List ℕ
 refusal_text r = refused_text r.number r.at
 
 abbrev pub outcome_text : Option Refusal → List Row → List ℕ
-outcome_text none l = facts_text l
-outcome_text (some r) l = refusal_text r
+outcome_text None l = facts_text l
+outcome_text (Some r) l = refusal_text r
 
 unfoldable pub fresh_text : List ℕ → Trees → List ℕ
 fresh_text classes ts = outcome_text (refused_first (fresh classes ts).noted) (fresh classes ts).facts.rows
@@ -45,7 +44,7 @@ fresh_text classes ts = outcome_text (refused_first (fresh classes ts).noted) (f
 pub data Shows (fit : Bool) (cs : List ℕ) (rs : List Record) : List ℕ → Type 0 where
   unfit : fit ≡ false → Shows fit cs rs (refused_text 1 0)
   too_many : fit ≡ true → records_most < length rs → Shows fit cs rs (refused_text 2 0)
-  refused : {r : Refusal} → fit ≡ true → length rs ≤ records_most → refusal (length cs) (numbers rs) ≡ some r → Shows fit cs rs (refusal_text r)
+  refused : {r : Refusal} → fit ≡ true → length rs ≤ records_most → refusal (length cs) (numbers rs) ≡ Some r → Shows fit cs rs (refusal_text r)
   accepted : {ts : Trees} → fit ≡ true → length rs ≤ records_most → Accepted (length cs) (numbers rs) ts → Shows fit cs rs (fresh_text cs ts)
 
 -- The text for the bytes b: a bad line goes before any refusal

@@ -1,8 +1,8 @@
 -- Entries as a list keeps them, and the newest binder of a name where it is captured. No place of the code stands here.
+use Rattle.std.specs.Prelude.{Option, None, Some}
 use Prim.Native.Nat.{ℕ, ◌-◌, ◌<◌}
 use mathlib.Core.List.{List}
 use mathlib.Core.Bool.{Bool, true, false, cond}
-use mathlib.Core.Option.{Option, none, some}
 use mathlib.Core.Path.{◌≡◌, refl, ap, sym, ◌∙◌}
 use native.Mathlib.Omega.{arith}
 use lib.ListN.{length}
@@ -31,23 +31,23 @@ pub last_none : {rs : List ℕ} {last : ℕ} → last ≡ 0 → TellsLast rs las
 last_none {rs} {last} e = record { is = λ o k q. go o q }
   where
     go : (o : Option Ident) → last ≡ last_code o → NONE ≡ id_of o
-    go none q = refl
-    go (some x) q = absurd (omega arith)
+    go None q = refl
+    go (Some x) q = absurd (omega arith)
 
 module _ {rs : List ℕ} {last : ℕ} (some-use : last ≡ 0 → ⊥) where
   pub last-inside : SomeLast rs last → last - 1 < length (records rs)
   last-inside h = go h.o h.known h.code
     where
-      go : (o : Option Ident) → ((y : Ident) → o ≡ some y → Known rs y) → last ≡ last_code o → last - 1 < length (records rs)
-      go none k q = absurd (some-use q)
-      go (some x) k q = omega (arith, (k x refl).inside)
+      go : (o : Option Ident) → ((y : Ident) → o ≡ Some y → Known rs y) → last ≡ last_code o → last - 1 < length (records rs)
+      go None k q = absurd (some-use q)
+      go (Some x) k q = omega (arith, (k x refl).inside)
 
   pub last_some : {r : ℕ} → r ≡ (nth rs (last - 1)).id → TellsLast rs last r
   last_some {r} e = record { is = go }
     where
-      go : (o : Option Ident) → ((y : Ident) → o ≡ some y → Known rs y) → last ≡ last_code o → r ≡ id_of o
-      go none k q = absurd (some-use q)
-      go (some x) k q =
+      go : (o : Option Ident) → ((y : Ident) → o ≡ Some y → Known rs y) → last ≡ last_code o → r ≡ id_of o
+      go None k q = absurd (some-use q)
+      go (Some x) k q =
           let z : last - 1 ≡ x.at = omega arith in
           e ∙ ap (λ (i : ℕ). (nth rs i).id) z ∙ ap (λ (d : Record). d.id) (k x refl).is
 
@@ -106,9 +106,9 @@ module _ {p : Pass} {w : List ℕ} (x : ℕ) (o : Binder) (t : Tells p w (λ s. 
   pub newest-none : o ≡ binder.Nothing → Captured binder.Nothing
   newest-none e = record { is = λ s k. go s.scope (newest s x) (ap record_of (sym e) ∙ t.is s k) }
     where
-      go : (c : Scope) (u : Option Ident) → none ≡ record_in u → none ≡ record_in (where_captured c u)
-      go c none q = refl
-      go c (some b) q = absurd (let z : ◌≡◌ {A = ℕ} 0 1 = cc in omega arith)
+      go : (c : Scope) (u : Option Ident) → None ≡ record_in u → None ≡ record_in (where_captured c u)
+      go c None q = refl
+      go c (Some b) q = absurd (let z : ◌≡◌ {A = ℕ} 0 1 = cc in omega arith)
 
   module _ {b : ℕ} (e : o ≡ binder.At b) where
     pub newest-inside : {rs : List ℕ} → KnownHere rs p w → b < rows_most
@@ -116,14 +116,14 @@ module _ {p : Pass} {w : List ℕ} (x : ℕ) (o : Binder) (t : Tells p w (λ s. 
         let k = newest-known rs h.s x b h.binders (ap record_of (sym e) ∙ t.is h.s h.works) in
         omega (arith, k.at, k.known.few)
 
-    picked : (c : Scope) (u : Option Ident) (q : Bool) → some b ≡ record_in u → (entry_in c b).captured ≡ q
+    picked : (c : Scope) (u : Option Ident) (q : Bool) → Some b ≡ record_in u → (entry_in c b).captured ≡ q
         → record_of (cond q (binder.At b) binder.Nothing) ≡ record_in (where_captured c u)
-    picked c none q h g = absurd (let z : ◌≡◌ {A = ℕ} 0 1 = cc in omega arith)
-    picked c (some y) q h g =
-        let z : b ≡ y.at = ap (λ (m : Option ℕ). elim m [ none ↦ 0 | some i ↦ i ]) h in
+    picked c None q h g = absurd (let z : ◌≡◌ {A = ℕ} 0 1 = cc in omega arith)
+    picked c (Some y) q h g =
+        let z : b ≡ y.at = ap (λ (m : Option ℕ). elim m [ None ↦ 0 | Some i ↦ i ]) h in
         go q (ap (λ (i : ℕ). (entry_in c i).captured) (sym z) ∙ g)
       where
-        go : (q : Bool) → (entry_in c y.at).captured ≡ q → record_of (cond q (binder.At b) binder.Nothing) ≡ record_in (where_captured c (some y))
+        go : (q : Bool) → (entry_in c y.at).captured ≡ q → record_of (cond q (binder.At b) binder.Nothing) ≡ record_in (where_captured c (Some y))
         go true g = rw g h
         go false g = rw g
 

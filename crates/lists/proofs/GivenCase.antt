@@ -1,8 +1,8 @@
 -- What live names give to the list of a lambda that ends, row by row. No place of the code stands here.
+use Rattle.std.specs.Prelude.{Option, None, Some}
 use Prim.Native.Nat.{ℕ, ◌+◌, ◌≤◌, ◌<◌}
 use mathlib.Core.List.{List, [], map}
 use mathlib.Core.Bool.{Bool, true, false, cond, not}
-use mathlib.Core.Option.{Option, none, some}
 use mathlib.Core.Path.{◌≡◌, refl, ap, sym, ◌∙◌}
 use native.Mathlib.Omega.{arith}
 use borrow.Author.Tests.{le-ltb, lt-ltb}
@@ -32,30 +32,30 @@ use Rattle.lists.specs.Laws.Given.{captured_step, indexes_none, with_length}
 -- What a name gives
 
 decoded_is : (o : Option Ident) → decoded (last_code o) ≡ record_in o
-decoded_is none = refl
-decoded_is (some x) = refl
+decoded_is None = refl
+decoded_is (Some x) = refl
 
 module _ {rs : List ℕ} {n : Names} {p : Pass} {w : List ℕ} {x : ℕ} where
   module _ {b : Bool} (h : HoldsName rs n x b) where
-    searched : (q : Binder) → Tells p w (λ s. record_in (cond (not b) (captured_newest s.scope x) none)) (record_of q) → Offers rs n p w [] x q
+    searched : (q : Binder) → Tells p w (λ s. record_in (cond (not b) (captured_newest s.scope x) None)) (record_of q) → Offers rs n p w [] x q
     searched q t = record {
       is = λ xs s k works idx.
-          t.is s works ∙ ap (λ (c : Bool). record_in (cond (not c) (captured_newest s.scope x) none)) (h.is k.many xs k.stand k.count);
+          t.is s works ∙ ap (λ (c : Bool). record_in (cond (not c) (captured_newest s.scope x) None)) (h.is k.many xs k.stand k.count);
     }
 
     pub offers_parameter : b ≡ true → Offers rs n p w [] x binder.Nothing
-    offers_parameter e = searched binder.Nothing (record { is = λ s k. sym (ap (λ (c : Bool). record_in (cond (not c) (captured_newest s.scope x) none)) e) })
+    offers_parameter e = searched binder.Nothing (record { is = λ s k. sym (ap (λ (c : Bool). record_in (cond (not c) (captured_newest s.scope x) None)) e) })
 
     pub offers_other : b ≡ false → {q r : Binder} → r ≡ q → Tells p w (λ s. record_in (captured_newest s.scope x)) (record_of r) → Offers rs n p w [] x q
     offers_other e {q} same t =
-        searched q (record { is = λ s k. ap record_of (sym same) ∙ t.is s k ∙ sym (ap (λ (c : Bool). record_in (cond (not c) (captured_newest s.scope x) none)) e) })
+        searched q (record { is = λ s k. ap record_of (sym same) ∙ t.is s k ∙ sym (ap (λ (c : Bool). record_in (cond (not c) (captured_newest s.scope x) None)) e) })
 
   -- no binder of the name is captured
   pub offers_nothing : {q : Binder} → q ≡ binder.Nothing → Tells p w (λ s. record_in (captured_newest s.scope x)) (record_of q)
       → Offers rs n p w [] x binder.Nothing
   offers_nothing e t = record { is = λ xs s k works idx. either (member x (map name_in xs)) (captured_newest s.scope x) (ap record_of (sym e) ∙ t.is s works) }
     where
-      either : (c : Bool) (o : Option Ident) → none ≡ record_in o → none ≡ record_in (cond (not c) o none)
+      either : (c : Bool) (o : Option Ident) → None ≡ record_in o → None ≡ record_in (cond (not c) o None)
       either true o z = refl
       either false o z = z
 
@@ -78,7 +78,7 @@ module _ {rs : List ℕ} {n : Names} {p : Pass} {w a : List ℕ} {i : ℕ} {r : 
   gives_low h = record {
     is = λ xs s e told works idx up.
         let z : ltb 1 e.layer ≡ false = le-ltb 1 e.layer (omega (arith, (live_is t works up).1)) in
-        sym (ap (λ (q : Bool). record_in (cond q (offered (map name_in xs) s.scope e.name) none)) z);
+        sym (ap (λ (q : Bool). record_in (cond q (offered (map name_in xs) s.scope e.name) None)) z);
   }
 
   pub gives-offered : 1 < r.layer → {q : Binder} → Offers rs n p w a r.name q → Gives rs n p w a i q
@@ -88,7 +88,7 @@ module _ {rs : List ℕ} {n : Names} {p : Pass} {w a : List ℕ} {i : ℕ} {r : 
         let z : ltb 1 e.layer ≡ true = lt-ltb 1 e.layer (omega (arith, row.1)) in
         o.is xs s told works idx
         ∙ ap (λ (x : ℕ). record_in (offered (map name_in xs) s.scope x)) row.0
-        ∙ sym (ap (λ (q : Bool). record_in (cond q (offered (map name_in xs) s.scope e.name) none)) z);
+        ∙ sym (ap (λ (q : Bool). record_in (cond q (offered (map name_in xs) s.scope e.name) None)) z);
   }
 
 -- The loop that counts: the names before row i have given n entries

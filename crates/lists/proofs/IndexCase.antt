@@ -1,8 +1,8 @@
 -- An index of the live names, row by row. No place of the code stands here.
+use Rattle.std.specs.Prelude.{Option, None, Some}
 use Prim.Native.Nat.{ℕ, zero, suc, ◌+◌, ◌-◌, ◌≤◌, ◌<◌}
 use mathlib.Core.List.{List, [], ◌∷◌, map}
 use mathlib.Core.Bool.{Bool, true, false, cond, not, ◌||◌}
-use mathlib.Core.Option.{Option, none, some}
 use mathlib.Core.Path.{◌≡◌, refl, ap, sym, subst, ◌∙◌}
 use native.Mathlib.Omega.{arith}
 use native.Mathlib.Numerals.{add-one}
@@ -44,13 +44,13 @@ codes {b = b} {i} z {e} l q h {r} k = record {
       k ∙ ap (λ (j : ℕ). cond q (suc j) 0) (sym at) ∙ go s.scope y q captured;
 }
   where
-    go : (c : Scope) (y : Ident) (q : Bool) → (entry_in c y.at).captured ≡ q → cond q (suc y.at) 0 ≡ last_code (where_captured c (some y))
+    go : (c : Scope) (y : Ident) (q : Bool) → (entry_in c y.at).captured ≡ q → cond q (suc y.at) 0 ≡ last_code (where_captured c (Some y))
     go c y true z = rw z
     go c y false z = rw z
 
-pub decodes : (code : ℕ) → (code ≡ 0 → ⊥) → {b : ℕ} → b ≡ code - 1 → some b ≡ decoded code
+pub decodes : (code : ℕ) → (code ≡ 0 → ⊥) → {b : ℕ} → b ≡ code - 1 → Some b ≡ decoded code
 decodes zero h e = absurd (h refl)
-decodes (suc b) h e = let z : b ≡ suc b - 1 = omega arith in ap (λ (j : ℕ). some j) (e ∙ sym z)
+decodes (suc b) h e = let z : b ≡ suc b - 1 = omega arith in ap (λ (j : ℕ). Some j) (e ∙ sym z)
 
 -- One number of an index is written, if the index has the name n; q tells whether x is n
 
@@ -93,7 +93,7 @@ module _ {p : Pass} {w : List ℕ} {i : ℕ} {r : Row} (t : TellsLive p w i r) {
   put_past g = record {
     is = λ s e works up x h.
         let z : n ≡ e.name = named ∙ (live_is t works up).0 in
-        past a n (last_code (where_captured s.scope (some e.value))) x (eqb e.name x) (λ b. z ∙ eqb-true e.name x b)
+        past a n (last_code (where_captured s.scope (Some e.value))) x (eqb e.name x) (λ b. z ∙ eqb-true e.name x b)
         (λ b k. eqb-false e.name x b (sym z ∙ k)) h g;
   }
 
@@ -114,11 +114,11 @@ module _ {p : Pass} {w a : List ℕ} where
         upto_next u h
         (λ s works e up r x k.
         f.is s e works up x (omega arith)
-        ∙ ap (λ (n : ℕ). cond (eqb e.name x) (last_code (where_captured s.scope (some e.value))) n) (r x (omega arith))
+        ∙ ap (λ (n : ℕ). cond (eqb e.name x) (last_code (where_captured s.scope (Some e.value))) n) (r x (omega arith))
         ∙ go s.scope e (get_in (before i s.scope.names.live) x) (eqb e.name x))
       where
         go : (c : Scope) (e : Live Ident) (o : Option (Live Ident)) (q : Bool)
-            → cond q (last_code (where_captured c (some e.value))) (last_code (where_captured c (binder_in o))) ≡ last_code (where_captured c (binder_in (cond q (some e) o)))
+            → cond q (last_code (where_captured c (Some e.value))) (last_code (where_captured c (binder_in o))) ≡ last_code (where_captured c (binder_in (cond q (Some e) o)))
         go c e o true = refl
         go c e o false = refl
 
@@ -192,6 +192,6 @@ indexed {a = a} f g e = record {
       ∙ go (member x ps) (captured_newest s.scope x);
 }
   where
-    go : (q : Bool) (o : Option Ident) → cond q 0 (last_code o) ≡ last_code (cond (not q) o none)
+    go : (q : Bool) (o : Option Ident) → cond q 0 (last_code o) ≡ last_code (cond (not q) o None)
     go true o = refl
     go false o = refl

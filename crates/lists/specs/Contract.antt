@@ -1,6 +1,5 @@
 -- What the functions over captured lists promise, of every state that the tables hold.
-use Rattle.std.specs.Prelude.{ℕ, ◌+◌, ◌≤◌, List, map, ◌≡◌, length, set}
-use Rattle.std.proofs.Math.Option.{some}
+use Rattle.std.specs.Prelude.{ℕ, ◌+◌, ◌≤◌, List, map, ◌≡◌, length, set, Some}
 use Rattle.tree.specs.Tree.{Ident}
 use Rattle.tree.specs.Stands.{NamesStand}
 use Rattle.semantic.specs.Rows.{ListEntry}
@@ -44,7 +43,7 @@ pub record StoresListEntry (C w : List ℕ) (r : ℕ) (i : Coded-as-ListEntry) (
 
 -- an entry as a list keeps it
 pub record Infos (rs : List ℕ) (b : ℕ) (e : Coded) (r : ScopeInfo) : Type 0 where
-  pub is : (x : Ident) (v : Entry) → Known rs x → x.at ≡ b → e ≡ coded v → ((y : Ident) → v.last_used ≡ some y → Known rs y) → r ≡ (list_entry_of x v).info
+  pub is : (x : Ident) (v : Entry) → Known rs x → x.at ≡ b → e ≡ coded v → ((y : Ident) → v.last_used ≡ Some y → Known rs y) → r ≡ (list_entry_of x v).info
 
 -- Some state is held, by tables of which the facts and the arguments are any; and it is good
 

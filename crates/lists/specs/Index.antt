@@ -1,6 +1,5 @@
 -- What a name gives to the list of a lambda that ends, and an index of it by name.
-use Rattle.std.specs.Prelude.{ℕ, zero, suc, ◌<◌, List, ◌∷◌, map, cond, not, ◌≡◌, length, get_or, eqb}
-use Rattle.std.proofs.Math.Option.{Option, none, some}
+use Rattle.std.specs.Prelude.{ℕ, zero, suc, ◌<◌, List, ◌∷◌, map, cond, not, ◌≡◌, length, get_or, eqb, Option, None, Some}
 use Rattle.tree.specs.Tree.{Ident}
 use Rattle.tree.specs.Check.{member}
 use Rattle.scope_map.specs.ScopeMap.{Live, get}
@@ -23,15 +22,15 @@ entry_in c i = get_or c.entries i no_entry
 
 -- a binder, where its entry is captured
 abbrev pub where_captured : Scope → Option Ident → Option Ident
-where_captured c none = none
-where_captured c (some b) = cond (entry_in c b.at).captured (some b) none
+where_captured c None = None
+where_captured c (Some b) = cond (entry_in c b.at).captured (Some b) None
 
 abbrev pub captured_newest : Scope → ℕ → Option Ident
 captured_newest c x = where_captured c (binder_in (get c.names x))
 
 -- what a name above the bottom layer gives to the list of a lambda with the parameters ps
 abbrev pub offered : List ℕ → Scope → ℕ → Option Ident
-offered ps c x = cond (not (member x ps)) (captured_newest c x) none
+offered ps c x = cond (not (member x ps)) (captured_newest c x) None
 
 -- the index a tells of each name that it has what the name gives: the binder's record, counted from 1, or 0
 abbrev pub Indexes : List ℕ → List ℕ → Scope → Type 0
@@ -43,8 +42,8 @@ pub record Indexed (rs : List ℕ) (n : Names) (p : Pass) (w a : List ℕ) : Typ
 
 -- the record that a number of it stands for
 abbrev pub decoded : ℕ → Option ℕ
-decoded zero = none
-decoded (suc b) = some b
+decoded zero = None
+decoded (suc b) = Some b
 
 -- What the functions promise
 
@@ -55,12 +54,12 @@ pub record SomeHere (p : Pass) (w : List ℕ) : Type 0 where
 
 -- the record b of a binder, counted from 1, or 0 where its entry is not captured
 pub record CodesBinder (w : List ℕ) (b r : ℕ) : Type 0 where
-  pub is : (p : Pass) (s : State) (y : Ident) → Works p w s → y.at ≡ b → r ≡ last_code (where_captured s.scope (some y))
+  pub is : (p : Pass) (s : State) (y : Ident) → Works p w s → y.at ≡ b → r ≡ last_code (where_captured s.scope (Some y))
 
 -- the live name in row i is the newest of its name
 pub record PutsRow (p : Pass) (w : List ℕ) (i : ℕ) (a a' : List ℕ) : Type 0 where
   pub is : (s : State) (e : Live Ident) → Works p w s → before (suc i) s.scope.names.live ≡ e ∷ before i s.scope.names.live
-      → (x : ℕ) → x < length a → get_or a' x 0 ≡ cond (eqb e.name x) (last_code (where_captured s.scope (some e.value))) (get_or a x 0)
+      → (x : ℕ) → x < length a → get_or a' x 0 ≡ cond (eqb e.name x) (last_code (where_captured s.scope (Some e.value))) (get_or a x 0)
 
 abbrev pub Zeros : List ℕ → Type 0
 Zeros a = (x : ℕ) → get_or a x 0 ≡ 0

@@ -1,6 +1,5 @@
 -- What the recorded facts tell: whether a call is a tail call, how deep a lambda is made, and where a name's value lies.
-use Rattle.std.specs.Prelude.{ℕ, zero, suc, List, get_or, eqb}
-use Rattle.std.proofs.Math.Option.{Option, none, some}
+use Rattle.std.specs.Prelude.{ℕ, zero, suc, List, get_or, eqb, Option, None, Some}
 use Rattle.tree.specs.Tree.{Trees, flats}
 use Rattle.tree.specs.First.{first}
 use Rattle.semantic.specs.Rows.{Row, Blank, Variable, Function, CallSite, Let}
@@ -20,25 +19,25 @@ made_at (Let v) = 0
 
 -- which of the frames of depths 2, 3, .. is the one of depth d
 abbrev pub frame_of : ℕ → Option ℕ
-frame_of zero = none
-frame_of (suc zero) = none
-frame_of (suc (suc d)) = some d
+frame_of zero = None
+frame_of (suc zero) = None
+frame_of (suc (suc d)) = Some d
 
 -- the one of a binder's depth
 abbrev pub frame_in : Row → Option ℕ
-frame_in Blank = none
+frame_in Blank = None
 frame_in (Variable v) = frame_of v.depth
-frame_in (Function v) = none
-frame_in (CallSite v) = none
-frame_in (Let v) = none
+frame_in (Function v) = None
+frame_in (CallSite v) = None
+frame_in (Let v) = None
 
 -- the fact of a record
 abbrev pub row_of : List Row → ℕ → Row
 row_of T i = get_or T i Blank
 
 abbrev pub row_of? : List Row → Option ℕ → Row
-row_of? T none = Blank
-row_of? T (some i) = row_of T i
+row_of? T None = Blank
+row_of? T (Some i) = row_of T i
 
 -- where the facts say that a name's value lies
 pub data Spot : Type 0 where
@@ -48,12 +47,12 @@ pub data Spot : Type 0 where
   nowhere : Spot
 
 abbrev pub kept_at : Option (ℕ × ℕ) → Spot
-kept_at none = nowhere
-kept_at (some p) = kept p.0 p.1
+kept_at None = nowhere
+kept_at (Some p) = kept p.0 p.1
 
 abbrev pub with_slot : Option ℕ → ℕ → Option (ℕ × ℕ)
-with_slot none s = none
-with_slot (some f) s = some (f, s)
+with_slot None s = None
+with_slot (Some f) s = Some (f, s)
 
 -- ts: the tree; T: the facts
 module _ (ts : Trees) (T : List Row) where
@@ -84,8 +83,8 @@ module _ (ts : Trees) (T : List Row) where
 
   -- the frame and slot of the name that it means
   abbrev pub home_in : Row → Option (ℕ × ℕ)
-  home_in Blank = none
+  home_in Blank = None
   home_in (Variable v) = home v
-  home_in (Function v) = none
-  home_in (CallSite v) = none
-  home_in (Let v) = none
+  home_in (Function v) = None
+  home_in (CallSite v) = None
+  home_in (Let v) = None

@@ -1,8 +1,6 @@
 -- What it is for the two machines to be in step. Documents 00, demand 3, and 01, "The slot machine of demand 3", last paragraph.
-use Rattle.std.specs.Prelude.{ℕ, zero, suc, List, [], ◌∷◌, ◌++◌, cond, ◌≡◌}
+use Rattle.std.specs.Prelude.{ℕ, zero, suc, List, [], ◌∷◌, ◌++◌, cond, ◌≡◌, Option, None, Some, slice_get}
 use mathlib.Core.List.{Memᴰ as Member}
-use Rattle.std.proofs.Math.Option.{Option, none, some}
-use Rattle.std.proofs.Math.ListN.{get_elem?}
 use Rattle.tree.specs.Tree.{Tree, Trees, ident, const, if, letin, define, lambda, sequence, call, set!, nil, cons}
 use Rattle.r7rs.specs.Binding.{Means}
 use Rattle.r7rs.specs.Machine.{Moment, start, entered, read, pushed, waiting, kend, kif, kseq, kpush, khead, kdrop, kret, kset, kdef, next, ended, stopped, Cells, last_n, but_n, kand, kwhen}
@@ -31,8 +29,8 @@ unfoldable mutual
 
 -- what is asked of a name's frame and slot
 abbrev pub Asked : Option (ℕ × ℕ) → (ℕ → ℕ → Type 0) → Type 0
-Asked none Q = ⊥
-Asked (some p) Q = Q p.0 p.1
+Asked None Q = ⊥
+Asked (Some p) Q = Q p.0 p.1
 
 -- ts: the tree; T: the facts
 module _ (ts : Trees) (T : List Row) where
@@ -43,7 +41,7 @@ module _ (ts : Trees) (T : List Row) where
     -- location was made for.
     abbrev pub EachName : Tree → Env → (ℕ → ℕ → PVal → Type 0) → Type 0
     EachName e ρ Q =
-        (i b : ℕ) (p : ℕ × ℕ) (w : PVal) → Member i (idents e) → Means ts i b → Member p ρ → get_elem? σ p.1 ≡ some (b, w)
+        (i b : ℕ) (p : ℕ × ℕ) (w : PVal) → Member i (idents e) → Means ts i b → Member p ρ → slice_get σ p.1 ≡ Some (b, w)
         → Asked (home_in ts T (row_of T i)) (λ f s. Q f s w)
 
     -- "Values are alike when equal, ... procedures when of one lambda with like values for the parameters and let names it takes from outside."
@@ -71,8 +69,8 @@ module _ (ts : Trees) (T : List Row) where
       LikeAt (fcons F C) (suc f) s w = LikeAt C f s w
 
     pub data LikeHand : Option SVal → Option PVal → Type 0 where
-      nothing : LikeHand none none
-      both : {v : SVal} {w : PVal} → Like v w → LikeHand (some v) (some w)
+      nothing : LikeHand None None
+      both : {v : SVal} {w : PVal} → Like v w → LikeHand (Some v) (Some w)
 
     pub data LikeAll : List SVal → List PVal → Type 0 where
       all_nil : LikeAll [] []

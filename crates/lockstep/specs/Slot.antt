@@ -1,7 +1,5 @@
 -- The slot machine: frames, and names found by the recorded facts alone. Document 01, "The slot machine of demand 3", first paragraph.
-use Rattle.std.specs.Prelude.{ℕ, ◌-◌, List, [], ◌∷◌, ◌++◌, Bool, true, false, cond, length, take, set, ltb}
-use Rattle.std.proofs.Math.Option.{Option, none, some}
-use Rattle.std.proofs.Math.ListN.{get_elem?}
+use Rattle.std.specs.Prelude.{ℕ, ◌-◌, List, [], ◌∷◌, ◌++◌, Bool, true, false, cond, length, take, set, ltb, Option, None, Some, slice_get}
 use Rattle.tree.specs.Tree.{Ident, Tree, Trees, nil}
 use Rattle.r7rs.specs.Machine.{start, Kont, kend, kif, kseq, kpush, khead, kdrop, kret, kset, kdef, State, Out, Got, got, missing, astray, state, Cells, unbound, fill, in_cell, last_n, but_n, kand, kwhen}
 use Rattle.r7rs.specs.Steps.{Procedure, Ops, step}
@@ -64,35 +62,35 @@ SOut = Out SVal SBody SMem
 -- A name is read, or set, at the spot that its facts give
 
 abbrev pub in_frame : Option SVal → Got SVal
-in_frame none = astray
-in_frame (some v) = got v
+in_frame None = astray
+in_frame (Some v) = got v
 
 abbrev pub in_outer : Option (List SVal) → ℕ → Got SVal
-in_outer none s = astray
-in_outer (some F) s = in_frame (get_elem? F s)
+in_outer None s = astray
+in_outer (Some F) s = in_frame (slice_get F s)
 
 abbrev pub sget : Spot → ℕ → SBody → SMem → Got SVal
 sget cell x b m = in_cell (m x)
-sget (own s) x b m = in_frame (get_elem? b.frame s)
-sget (kept f s) x b m = in_outer (get_elem? b.outer f) s
+sget (own s) x b m = in_frame (slice_get b.frame s)
+sget (kept f s) x b m = in_outer (slice_get b.outer f) s
 sget nowhere x b m = astray
 
 abbrev pub sput_cell : Option SVal → ℕ → SVal → SBody → SMem → Got (SBody × SMem)
-sput_cell none x v b m = missing
-sput_cell (some _) x v b m = got (b, fill m x v)
+sput_cell None x v b m = missing
+sput_cell (Some _) x v b m = got (b, fill m x v)
 
 abbrev pub put_frame : Bool → ℕ → SVal → SBody → SMem → Got (SBody × SMem)
 put_frame true s v b m = got (frames (set b.frame s v) b.outer, m)
 put_frame false s v b m = astray
 
 abbrev pub put_outer : Option (List SVal) → ℕ → ℕ → SVal → SBody → SMem → Got (SBody × SMem)
-put_outer none f s v b m = astray
-put_outer (some F) f s v b m = cond (ltb s (length F)) (got (frames b.frame (set b.outer f (set F s v)), m)) astray
+put_outer None f s v b m = astray
+put_outer (Some F) f s v b m = cond (ltb s (length F)) (got (frames b.frame (set b.outer f (set F s v)), m)) astray
 
 abbrev pub sput : Spot → ℕ → SVal → SBody → SMem → Got (SBody × SMem)
 sput cell x v b m = sput_cell (m x) x v b m
 sput (own s) x v b m = put_frame (ltb s (length b.frame)) s v b m
-sput (kept f s) x v b m = put_outer (get_elem? b.outer f) f s v b m
+sput (kept f s) x v b m = put_outer (slice_get b.outer f) f s v b m
 sput nowhere x v b m = astray
 
 -- "A lambda copies the frames of depths 2 up to the depth it is made at, none at depth 1."
@@ -123,9 +121,9 @@ sis_false sunit = false
 sis_false (sclo i xs e C) = false
 
 abbrev pub procedure : SVal → Option (Procedure Frames)
-procedure (sconst c q) = none
-procedure sunit = none
-procedure (sclo i xs e C) = some (record { names = xs; of = e; kept = C })
+procedure (sconst c q) = None
+procedure sunit = None
+procedure (sclo i xs e C) = Some (record { names = xs; of = e; kept = C })
 
 -- the frame without its last n values
 abbrev pub without : ℕ → SBody → SBody
@@ -154,4 +152,4 @@ module _ (ts : Trees) (T : List Row) where
   }
 
   unfoldable pub slots : ℕ → Ran SVal SBody SMem
-  slots n = run (step by_slots) (state (start ts) none (frames [] []) (kend nil) unbound) n
+  slots n = run (step by_slots) (state (start ts) None (frames [] []) (kend nil) unbound) n

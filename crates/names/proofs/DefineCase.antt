@@ -1,8 +1,8 @@
 -- A name enters, and a define's fact is made. No place of the code stands here.
+use Rattle.std.specs.Prelude.{Option, None, Some}
 use Prim.Native.Nat.{ℕ, ◌<◌}
 use mathlib.Core.List.{List, []}
 use mathlib.Core.Bool.{Bool, true, false, ◌&&◌}
-use mathlib.Core.Option.{Option, none, some}
 use mathlib.Core.Path.{◌≡◌, refl, ap, sym, ◌∙◌, subst}
 use native.Mathlib.Omega.{arith}
 use lib.Dec.{ltb}
@@ -111,7 +111,7 @@ good_shadow {s = s} classes b g =
     good_each g (sized_amend f b s) (λ Q l F z h. each_mark f b z (λ v q. subst F (sym (marked_uses v.builtin mark_shadowed v refl)) q) h)
 
 module _ {n : ℕ} {p : Pass} {F w : List ℕ} where
-  pub shadows-newest : {b : ℕ} {F' : List ℕ} → Tells p w (λ s. record_in (newest s n)) (some b)
+  pub shadows-newest : {b : ℕ} {F' : List ℕ} → Tells p w (λ s. record_in (newest s n)) (Some b)
       → Amends put_row Blank (amended (λ i. mark_if i.builtin mark_shadowed i)) F b F' → Shadows n p F w F'
   shadows-newest {b} {F'} o a = record {
     here = λ rs at classes C A s x en h.
@@ -128,7 +128,7 @@ module _ {n : ℕ} {p : Pass} {F w : List ℕ} where
         (subst (λ (i : ℕ). Here rs at (raw p F' C A w) (amend f i s) x) (sym z.at) k);
   }
 
-  pub shadows-none : Tells p w (λ s. record_in (newest s n)) none → Shadows n p F w F
+  pub shadows-none : Tells p w (λ s. record_in (newest s n)) None → Shadows n p F w F
   shadows-none o = record {
     here = λ rs at classes C A s x en h.
         subst (λ (o : Option Ident). Here rs at (raw p F C A w) (shadow classes o s) x)

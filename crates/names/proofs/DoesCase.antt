@@ -1,8 +1,8 @@
 -- The rule that decided is the pass's: its binder is known, and what was done by it is the read. No place of the code stands here.
+use Rattle.std.specs.Prelude.{Option, None, Some}
 use Prim.Native.Nat.{ℕ}
 use mathlib.Core.List.{List}
 use mathlib.Core.Bool.{Bool, true, false, cond}
-use mathlib.Core.Option.{Option, none, some}
 use mathlib.Core.Path.{◌≡◌, refl, ap, sym, ◌∙◌, subst}
 use lib.Dec.{eqb}
 use Rattle.tree.specs.Record.{nth}
@@ -35,31 +35,31 @@ use Rattle.names.proofs.ReadCase.{reads_free}
 -- The binder of a rule is the name's newest
 
 binder_of : Rule → Option Ident
-binder_of no_entry = none
-binder_of (depth_one y) = some y
-binder_of (current_layer y) = some y
-binder_of (taken_capture y c) = some y
-binder_of (home_slot y) = some y
+binder_of no_entry = None
+binder_of (depth_one y) = Some y
+binder_of (current_layer y) = Some y
+binder_of (taken_capture y c) = Some y
+binder_of (home_slot y) = Some y
 
 rule_binder : (s : State) (x : ℕ) → newest s x ≡ binder_of (rule_of s x)
 unfolding rule_of binder_of
 rule_binder s x = go (newest s x)
   where
-    last : (y : Ident) (o : Option (Live Capture)) → some y ≡ binder_of (capture_rule y o)
-    last y none = refl
-    last y (some c) = refl
+    last : (y : Ident) (o : Option (Live Capture)) → Some y ≡ binder_of (capture_rule y o)
+    last y None = refl
+    last y (Some c) = refl
 
-    local : (y : Ident) (b : Bool) → some y ≡ binder_of (cond b (current_layer y) (capture_rule y (get s.captures x)))
+    local : (y : Ident) (b : Bool) → Some y ≡ binder_of (cond b (current_layer y) (capture_rule y (get s.captures x)))
     local y true = refl
     local y false = last y (get s.captures x)
 
-    global : (y : Ident) (a b : Bool) → some y ≡ binder_of (cond a (depth_one y) (cond b (current_layer y) (capture_rule y (get s.captures x))))
+    global : (y : Ident) (a b : Bool) → Some y ≡ binder_of (cond a (depth_one y) (cond b (current_layer y) (capture_rule y (get s.captures x))))
     global y true b = refl
     global y false b = local y b
 
     go : (o : Option Ident) → o ≡ binder_of (entry_rule s x o)
-    go none = refl
-    go (some y) = global y (eqb (entry_at s y.at).depth 1) (eqb (entry_at s y.at).depth (depth s))
+    go None = refl
+    go (Some y) = global y (eqb (entry_at s y.at).depth 1) (eqb (entry_at s y.at).depth (depth s))
 
 -- A rule with the binder at b, and a capture's place
 
@@ -94,7 +94,7 @@ module _ {s : State} {x : ℕ} where
 -- The read by it
 
 abbrev Binds : (Ident → Rule) → Type 0
-Binds rule = (y : Ident) → binder_of (rule y) ≡ some y
+Binds rule = (y : Ident) → binder_of (rule y) ≡ Some y
 
 module _ {rs : List ℕ} {at : ℕ} {p : Pass} {F C w : List ℕ} {name : ℕ} (n : name ≡ (nth rs at).name) where
   named_here : {A : List ℕ} {s : State} {x : Ident} → Here rs at (raw p F C A w) s x → name ≡ x.name
@@ -106,9 +106,9 @@ module _ {rs : List ℕ} {at : ℕ} {p : Pass} {F C w : List ℕ} {name : ℕ} (
       let k = subst (λ (r : Decision). Same s name r (rule_of s name)) e (d.is rs s h.tied.works h.good) in
       subst (λ (x : ℕ). Same s x t (rule_of s x)) (named_here h) k
 
-  known_binder : {A : List ℕ} {s : State} {x y : Ident} → Here rs at (raw p F C A w) s x → some y ≡ binder_of (rule_of s x.name) → Known rs y
+  known_binder : {A : List ℕ} {s : State} {x y : Ident} → Here rs at (raw p F C A w) s x → Some y ≡ binder_of (rule_of s x.name) → Known rs y
   known_binder {s = s} {x} {y} h e =
-      let q : some y ≡ newest s x.name = e ∙ sym (rule_binder s x.name) in
+      let q : Some y ≡ newest s x.name = e ∙ sym (rule_binder s x.name) in
       let z = newest-known rs s x.name y.at h.good.sound.binders (ap record_in q) in
       let i : z.x ≡ y = cc z.is in
       subst (Known rs) i z.known

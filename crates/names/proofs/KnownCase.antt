@@ -1,8 +1,8 @@
 -- What is known of the identifiers of a state, and the bounds that follow. No place of the code stands here.
+use Rattle.std.specs.Prelude.{Option, None, Some}
 use Prim.Native.Nat.{ℕ, ◌+◌, ◌*◌, ◌≤◌, ◌<◌}
 use mathlib.Core.List.{List, [], ◌∷◌}
 use mathlib.Core.Bool.{Bool, true, false, cond}
-use mathlib.Core.Option.{Option, none, some}
 use mathlib.Core.Path.{◌≡◌, refl, ap, sym, subst}
 use native.Mathlib.Omega.{arith}
 use lib.ListN.{length}
@@ -33,21 +33,21 @@ use Rattle.names.specs.Laws.Idents.{known_few}
 
 -- What holds of every live name holds of one that is found
 
-pub none-some : {A : Type 0} {a : A} → none ≡ some a → ⊥
+pub none-some : {A : Type 0} {a : A} → None ≡ Some a → ⊥
 none-some e = let z : ◌≡◌ {A = ℕ} 0 1 = cc in omega arith
 
-pub found_has : {A : Type 0} (P : Live A → Type 0) (l : List (Live A)) (x : ℕ) {e : Live A} → All P l → get_in l x ≡ some e → P e
+pub found_has : {A : Type 0} (P : Live A → Type 0) (l : List (Live A)) (x : ℕ) {e : Live A} → All P l → get_in l x ≡ Some e → P e
 unfolding get_in
 found_has P [] x h q = absurd (none-some q)
 found_has P (d ∷ l) x {e} h q = pick (eqb d.name x) (λ r. found_has P l x h.1 r) q
   where
-    pick : (b : Bool) → (get_in l x ≡ some e → P e) → cond b (some d) (get_in l x) ≡ some e → P e
+    pick : (b : Bool) → (get_in l x ≡ Some e → P e) → cond b (Some d) (get_in l x) ≡ Some e → P e
     pick true f r = let g : d ≡ e = cc in subst P g h.0
     pick false f r = f r
 
-pub found_none : (o : Option Ident) → none ≡ record_in o → o ≡ none
-found_none none e = refl
-found_none (some y) e = absurd (none-some e)
+pub found_none : (o : Option Ident) → None ≡ record_in o → o ≡ None
+found_none None e = refl
+found_none (Some y) e = absurd (none-some e)
 
 -- Bounds
 
@@ -77,10 +77,10 @@ module _ {rs : List ℕ} {s : State} (g : Good rs s) where
 
   -- the record of a name's newest binder
   module _ (name : ℕ) {p : Pass} {w : List ℕ} {b : ℕ} where
-    pub newest_few : Works p w s → Tells p w (λ s. record_in (newest s name)) (some b) → b < rows_most
+    pub newest_few : Works p w s → Tells p w (λ s. record_in (newest s name)) (Some b) → b < rows_most
     newest_few k o = let z = newest-known rs s name b g.sound.binders (o.is s k) in known_few z.known z.at
 
-    pub newest_bounds : {F C A : List ℕ} → Tied (raw p F C A w) s → Tells p w (λ s. record_in (newest s name)) (some b) → Bounds F w b
+    pub newest_bounds : {F C A : List ℕ} → Tied (raw p F C A w) s → Tells p w (λ s. record_in (newest s name)) (Some b) → Bounds F w b
     newest_bounds t o = bounds t (newest_few t.works o)
 
 -- of the binder at b, and of the record at hand
@@ -107,8 +107,8 @@ used-fits q h = omega (arith, uses_are q)
 
 -- what a lookup tells, by the answer that it gave
 module _ {p : Pass} {w : List ℕ} {f : State → Option ℕ} {r : Binder} (t : Tells p w f (record_of r)) where
-  pub told_at : {b : ℕ} → r ≡ binder.At b → Tells p w f (some b)
+  pub told_at : {b : ℕ} → r ≡ binder.At b → Tells p w f (Some b)
   told_at e = subst (λ (r : Binder). Tells p w f (record_of r)) e t
 
-  pub told_none : r ≡ binder.Nothing → Tells p w f none
+  pub told_none : r ≡ binder.Nothing → Tells p w f None
   told_none e = subst (λ (r : Binder). Tells p w f (record_of r)) e t

@@ -1,8 +1,8 @@
 -- A read by each rule, from what the functions that it calls promise. No place of the code stands here.
+use Rattle.std.specs.Prelude.{None, Some}
 use Prim.Native.Nat.{ℕ, ◌<◌}
 use mathlib.Core.List.{List}
 use mathlib.Core.Bool.{Bool}
-use mathlib.Core.Option.{none, some}
 use mathlib.Core.Path.{◌≡◌, refl, ap, ◌∙◌}
 use native.Mathlib.Omega.{arith}
 use Rattle.tree.specs.Record.{nth}
@@ -102,7 +102,7 @@ reads_free {at = at} {d} {r = r} {s} {x} classes h g t k fact a =
 -- set!
 
 module _ {name : ℕ} {p : Pass} {F w : List ℕ} where
-  pub mutates : {b : ℕ} {e f u : Coded} {F' w' : List ℕ} → Tells p w (λ s. record_in (newest s name)) (some b)
+  pub mutates : {b : ℕ} {e f u : Coded} {F' w' : List ℕ} → Tells p w (λ s. record_in (newest s name)) (Some b)
       → LoadsEntry w b e → f ≡ used_more e → u ≡ now_mutated f → StoresEntry w b u w' → Amends put_row Blank (amended mark_set) F b F'
       → Mutates name p F w F' w'
   unfolding mutate
@@ -115,6 +115,6 @@ module _ {name : ℕ} {p : Pass} {F w : List ℕ} where
         rw (z.is, z.at) (rw z.at at (tied_amend (tied_entry t v e k) i a));
   }
 
-  pub mutates_none : Tells p w (λ s. record_in (newest s name)) none → Mutates name p F w F w
+  pub mutates_none : Tells p w (λ s. record_in (newest s name)) None → Mutates name p F w F w
   unfolding mutate
   mutates_none o = record { is = λ rs C A s g t. rw (found_none (newest s name) (o.is s t.works)) t }

@@ -1,7 +1,7 @@
 -- Which rule decides, from what the functions that look tell. No place of the code stands here.
+use Rattle.std.specs.Prelude.{Option, None, Some}
 use Prim.Native.Nat.{ℕ}
 use mathlib.Core.List.{List}
-use mathlib.Core.Option.{Option, none, some}
 use mathlib.Core.Path.{◌≡◌, refl, ap, sym, ◌∙◌}
 use native.Mathlib.Omega.{arith}
 use borrow.Author.Tests.{eq-eqb, ne_eqb}
@@ -35,12 +35,12 @@ use Rattle.names.proofs.KnownCase.{found_none}
 -- the live capture that was found
 record Newest (o : Option (Live Capture)) (d v : ℕ) : Type 0 where
   live : Live Capture
-  is : o ≡ some live
+  is : o ≡ Some live
   layer : d ≡ live.layer
   value : v ≡ live.value.row
 
 module _ {l : List (Live Capture)} {x : ℕ} where
-  found_nothing : Looked l x → Nothing ≡ found_in (map_live row_of l) x → get_in l x ≡ none
+  found_nothing : Looked l x → Nothing ≡ found_in (map_live row_of l) x → get_in l x ≡ None
   found_nothing (no_capture g f) q = g
   found_nothing (the_capture c i g f h) q = cc
 
@@ -71,16 +71,16 @@ module _ {p : Pass} {w : List ℕ} {name b : ℕ} where
 -- the binder at b, with its entry's depth
 record Entered (name b d : ℕ) (s : State) : Type 0 where
   y : Ident
-  is : newest s name ≡ some y
+  is : newest s name ≡ Some y
   at : y.at ≡ b
   deep : (entry_at s y.at).depth ≡ d
 
 module _ {p : Pass} {w : List ℕ} {name : ℕ} where
-  pub decides_none : Tells p w (λ s. record_in (newest s name)) none → Decides p w name NoEntry
+  pub decides_none : Tells p w (λ s. record_in (newest s name)) None → Decides p w name NoEntry
   unfolding rule_of
   decides_none o = record { is = λ rs s k g. rw (found_none (newest s name) (o.is s k)) no_entry_lem }
 
-  module _ {b : ℕ} {e : Coded} (o : Tells p w (λ s. record_in (newest s name)) (some b)) (l : LoadsEntry w b e) where
+  module _ {b : ℕ} {e : Coded} (o : Tells p w (λ s. record_in (newest s name)) (Some b)) (l : LoadsEntry w b e) where
     entered : {rs : List ℕ} (s : State) → Works p w s → Good rs s → Entered name b e.depth s
     entered {rs} s k g =
         let z = newest-known rs s name b g.sound.binders (o.is s k) in

@@ -1,6 +1,5 @@
 -- The rule that decides a read, as the code tells it.
-use Rattle.std.specs.Prelude.{ℕ, ◌≡◌}
-use Rattle.std.proofs.Math.Option.{some}
+use Rattle.std.specs.Prelude.{ℕ, ◌≡◌, Some}
 use Rattle.tree.specs.Tree.{Ident}
 use Rattle.scope_map.specs.ScopeMap.{Live, get}
 use Rattle.scope_map.specs.declared.Found.TheVariants.{At}
@@ -14,7 +13,7 @@ use Rattle.names.specs.declared.read.Rule.TheVariants.{NoEntry, DepthOne, Curren
 pub record Stands (s : State) (x place row : ℕ) (c : Capture) : Type 0 where
   pub live : Live Capture
   pub is : live.value ≡ c
-  pub newest : get s.captures x ≡ some live
+  pub newest : get s.captures x ≡ Some live
   pub found : capture_found s x ≡ At place live.layer row
   pub stands_for : row ≡ c.row
 

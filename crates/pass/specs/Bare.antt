@@ -1,7 +1,6 @@
 -- Trees, facts and states with every position 0. The modules below show of each function of the pass that it gives the same, but for positions,
 -- whatever the positions are.
-use Rattle.std.specs.Prelude.{map, ◌≡◌}
-use Rattle.std.proofs.Math.Option
+use Rattle.std.specs.Prelude.{map, ◌≡◌, option_map}
 use Rattle.tree.specs.Tree.{Node, Ident, Tree, Trees, ident, const, if, letin, define, lambda, sequence, call, set!, nil, cons, Sequence, begins, ands, whens}
 use Rattle.scope_map.specs.Map.{map_values}
 use Rattle.semantic.specs.Rows.{Row, Blank, Variable, Function, CallSite, Let, ListEntry}
@@ -92,7 +91,7 @@ bare_entry e = record {
   captured = e.captured;
   mutated = e.mutated;
   usage_count = e.usage_count;
-  last_used = Option.map bare_ident e.last_used;
+  last_used = option_map bare_ident e.last_used;
   stack_offset = e.stack_offset;
   heap_offset = e.heap_offset;
   depth = e.depth;

@@ -1,6 +1,5 @@
 -- Names that enter and leave: lambdas and lets. docs/RULES.md, 8 to 10.
-use Rattle.std.specs.Prelude.{ℕ, suc, ◌+◌, List, [], ◌∷◌, ◌++◌, map, Bool, true, false, cond, ◌&&◌, ◌||◌, length, get_or, eqb}
-use Rattle.std.proofs.Math.Option.{Option, none, some}
+use Rattle.std.specs.Prelude.{ℕ, suc, ◌+◌, List, [], ◌∷◌, ◌++◌, map, Bool, true, false, cond, ◌&&◌, ◌||◌, length, get_or, eqb, Option, None, Some}
 use Rattle.tree.specs.Tree.{Ident, Node, Tree, Trees, ident, const, if, letin, define, lambda, sequence, call, set!, nil, cons}
 use Rattle.tree.specs.Check.{member}
 use Rattle.scope_map.specs.ScopeMap.{ScopeMap, Live, push_layer, pop_layer, newest_layer}
@@ -25,13 +24,13 @@ abbrev pub is_heap : List ListEntry → ℕ → Bool
 is_heap l j = (get_or l j no_list_entry).info.captured && (get_or l j no_list_entry).info.mutated
 
 abbrev pub or_zero : Option ℕ → ℕ
-or_zero none = 0
-or_zero (some n) = n
+or_zero None = 0
+or_zero (Some n) = n
 
 -- refusal 11: no lambda around
 abbrev pub note_heap : Option ℕ → Ident → State → State
-note_heap none x s = note_second 11 x.at s
-note_heap (some n) x s = s
+note_heap None x s = note_second 11 x.at s
+note_heap (Some n) x s = s
 
 module _ (kind : IdentifierStatus) (base : ℕ) (heaps : Option ℕ) (before : List ListEntry) where
   -- the name at the place j, h heap entries before it
@@ -47,8 +46,8 @@ module _ (kind : IdentifierStatus) (base : ℕ) (heaps : Option ℕ) (before : L
 
 -- the id of the binder, or NONE; the last use of a name that leaves is marked
 abbrev pub mark_last : Option Ident → State → State
-mark_last none s = s
-mark_last (some x) s = amend mark_last_usage x.at s
+mark_last None s = s
+mark_last (Some x) s = amend mark_last_usage x.at s
 
 -- Lambda: on entering
 
@@ -60,8 +59,8 @@ argument_list s v = list_in s.facts.arguments v.arguments
 
 -- the captures' layer opens, with the lambda's list where it has a fact; one that escapes ends the context
 unfoldable pub open_captures : Option FunctionInformation → State → State
-open_captures none s = with_captures (push_layer s.captures) s
-open_captures (some v) s =
+open_captures None s = with_captures (push_layer s.captures) s
+open_captures (Some v) s =
     with_context (cond v.escapes NONE s.context) (number_list v.captured_vars (with_captures (push_layer s.captures) s))
 
 unfoldable pub open_scope : State → State
@@ -69,8 +68,8 @@ open_scope s = with_names (push_layer s.scope.names) s
 
 -- `visit_func_args`
 unfoldable pub enter_parameters : Option FunctionInformation → List Ident → State → State
-enter_parameters none xs s = enter_names Local 0 none [] xs 0 0 s
-enter_parameters (some v) xs s = enter_names Local 0 (some (heap_count (captured_list s v))) (argument_list s v) xs 0 0 s
+enter_parameters None xs s = enter_names Local 0 None [] xs 0 0 s
+enter_parameters (Some v) xs s = enter_names Local 0 (Some (heap_count (captured_list s v))) (argument_list s v) xs 0 0 s
 
 unfoldable pub open_lambda : Node → List Ident → State → State
 open_lambda n xs s =
@@ -168,8 +167,8 @@ amend_function n b now m v s =
     (rewrite_captured v.captured_vars l s)
 
 abbrev pub function_ends : Option FunctionInformation → Node → Tree → Bool → List ListEntry → List ListEntry → ScopeMap Capture → State → State
-function_ends none n b escapes now arguments m s = make_function n escapes (sort_by_id now) arguments s
-function_ends (some v) n b escapes now arguments m s = amend_function n b now m v s
+function_ends None n b escapes now arguments m s = make_function n escapes (sort_by_id now) arguments s
+function_ends (Some v) n b escapes now arguments m s = amend_function n b now m v s
 
 abbrev pub name_in : Ident → ℕ
 name_in x = x.name
@@ -183,20 +182,20 @@ close_lambda n xs b escapes s =
 -- Let
 
 abbrev pub let_arguments_in : State → Option LetInformation → List ListEntry
-let_arguments_in s none = []
-let_arguments_in s (some v) = list_in s.facts.arguments v.arguments
+let_arguments_in s None = []
+let_arguments_in s (Some v) = list_in s.facts.arguments v.arguments
 
 abbrev pub let_arguments : State → Row → List ListEntry
 let_arguments s r = let_arguments_in s (let_in r)
 
 -- how many heap entries the lambda around has
 abbrev pub heaps_in : State → Option FunctionInformation → Option ℕ
-heaps_in s none = none
-heaps_in s (some v) = some (heap_count (captured_list s v))
+heaps_in s None = None
+heaps_in s (Some v) = Some (heap_count (captured_list s v))
 
 abbrev pub heaps_around : State → Option Node → Option ℕ
-heaps_around s none = none
-heaps_around s (some n) = heaps_in s (function_in (row_at s n.at))
+heaps_around s None = None
+heaps_around s (Some n) = heaps_in s (function_in (row_at s n.at))
 
 -- a let opens a layer only at depth 1
 unfoldable pub open_layer : Bool → State → State
@@ -226,8 +225,8 @@ entered [] s = []
 entered (x ∷ xs) s = list_entry_of x (entry_at s x.at) ∷ entered xs s
 
 abbrev pub function_id : Option Node → ℕ
-function_id none = NONE
-function_id (some n) = n.id
+function_id None = NONE
+function_id (Some n) = n.id
 
 -- the let's fact, if it has none yet
 abbrev pub make_let : Row → Node → List ListEntry → ℕ → Option Node → State → State

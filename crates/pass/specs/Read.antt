@@ -1,6 +1,5 @@
 -- A name is read, set, or enters the scope. docs/RULES.md, 3, 5 and 6.
-use Rattle.std.specs.Prelude.{ℕ, ◌/◌, ◌%◌, suc, List, [], ◌∷◌, Bool, true, false, cond, not, ◌&&◌, get_or, eqb, ltb}
-use Rattle.std.proofs.Math.Option.{Option, none, some}
+use Rattle.std.specs.Prelude.{ℕ, ◌/◌, ◌%◌, suc, List, [], ◌∷◌, Bool, true, false, cond, not, ◌&&◌, get_or, eqb, ltb, Option, None, Some}
 use Rattle.tree.specs.Tree.{Ident, Tree, Trees, ident, const, if, letin, define, lambda, sequence, call, set!, nil, cons}
 use Rattle.tree.specs.Core.{core}
 use Rattle.scope_map.specs.ScopeMap.{ScopeMap, Live, get, has_at_top}
@@ -112,8 +111,8 @@ module _ (classes : List ℕ) where
   shadow_if_builtin i = mark_if i.builtin mark_shadowed i
 
   abbrev pub shadow : Option Ident → State → State
-  shadow none s = s
-  shadow (some b) s = amend shadow_if_builtin b.at s
+  shadow None s = s
+  shadow (Some b) s = amend shadow_if_builtin b.at s
 
   unfoldable pub enter_top_level_value : Ident → Tree → State → State
   enter_top_level_value x b s = enter_define Global (alias (core b)) x b (shadow (newest s x.name) s)
@@ -128,12 +127,12 @@ pub data Rule : Type 0 where
   home_slot : Ident → Rule
 
 abbrev pub capture_rule : Ident → Option (Live Capture) → Rule
-capture_rule b none = home_slot b
-capture_rule b (some c) = taken_capture b c.value
+capture_rule b None = home_slot b
+capture_rule b (Some c) = taken_capture b c.value
 
 abbrev pub entry_rule : State → ℕ → Option Ident → Rule
-entry_rule s x none = no_entry
-entry_rule s x (some b) =
+entry_rule s x None = no_entry
+entry_rule s x (Some b) =
     cond (eqb (entry_at s b.at).depth 1) (depth_one b)
     (cond (eqb (entry_at s b.at).depth (depth s)) (current_layer b) (capture_rule b (get s.captures x)))
 
@@ -223,8 +222,8 @@ module _ (classes : List ℕ) where
 
 -- set!: the newest entry of the name is used once more and mutated, and its binder's fact tells
 abbrev pub mutate_at : Option Ident → State → State
-mutate_at none s = s
-mutate_at (some b) s = amend mark_set b.at (put_entry b.at (mutated_entry (used_entry (entry_at s b.at))) s)
+mutate_at None s = s
+mutate_at (Some b) s = amend mark_set b.at (put_entry b.at (mutated_entry (used_entry (entry_at s b.at))) s)
 
 unfoldable pub mutate : ℕ → State → State
 mutate x s = mutate_at (newest s x) s

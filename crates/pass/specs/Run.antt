@@ -1,6 +1,5 @@
 -- Both runs, and what the operations answer. Document 01, "What the operations answer".
-use Rattle.std.specs.Prelude.{ℕ, ◌*◌, ◌%◌, List, Bool, true, false, ◌&&◌, ◌≡◌, length, replicate, eqb}
-use Rattle.std.proofs.Math.Option.{Option, none, some}
+use Rattle.std.specs.Prelude.{ℕ, ◌*◌, ◌%◌, List, Bool, true, false, ◌&&◌, ◌≡◌, length, replicate, eqb, Option, None, Some}
 use Rattle.table.specs.Layout.{layout}
 use Rattle.tree.specs.Record.{width}
 use Rattle.tree.specs.Tree.{Trees}
@@ -38,7 +37,7 @@ start f = record {
   scope = record { names = new; entries = replicate rows_most no_entry };
   captures = new;
   context = NONE;
-  noted = record { nine = none; ten = none; second = none };
+  noted = record { nine = None; ten = None; second = None };
 }
 
 -- `run_with_scope`: the lambda defines at top level enter first
@@ -56,19 +55,19 @@ settled classes ts = run classes ts (fresh classes ts).facts
 -- The refusals of a run: 9 covers the whole input before 10
 
 abbrev pub ten_at : Option ℕ → Option Refusal
-ten_at none = none
-ten_at (some i) = some (record { number = 10; at = i })
+ten_at None = None
+ten_at (Some i) = Some (record { number = 10; at = i })
 
 abbrev pub nine_or : Option ℕ → Option Refusal → Option Refusal
-nine_or none o = o
-nine_or (some i) o = some (record { number = 9; at = i })
+nine_or None o = o
+nine_or (Some i) o = Some (record { number = 9; at = i })
 
 abbrev pub refused_first : Noted → Option Refusal
 refused_first n = nine_or n.nine (ten_at n.ten)
 
 abbrev pub or_second : Option Refusal → Option Refusal → Option Refusal
-or_second none o = o
-or_second (some r) o = some r
+or_second None o = o
+or_second (Some r) o = Some r
 
 -- The tables that a caller lends
 
@@ -116,8 +115,8 @@ pub record Outcome : Type 0 where
   pub tables : Tables
 
 abbrev pub outcome : Option Refusal → Facts → Outcome
-outcome none f = record { refused = none; tables = tables_of f }
-outcome (some r) f = record { refused = some r; tables = zeros }
+outcome None f = record { refused = None; tables = tables_of f }
+outcome (Some r) f = record { refused = Some r; tables = zeros }
 
 unfoldable pub fresh_outcome : List ℕ → Trees → Outcome
 fresh_outcome classes ts = outcome (refused_first (fresh classes ts).noted) (fresh classes ts).facts
@@ -132,8 +131,8 @@ fitting rs t = eqb (length rs % width) 0 && lengths_fit t
 
 -- An operation answers `outcome_of` for the trees that the records are; the checks say when they are any
 pub record Answers (outcome_of : List ℕ → Trees → Outcome) (classes rs : List ℕ) (t : Tables) (o : Outcome) : Type 0 where
-  pub unfit : fitting rs t ≡ false → o ≡ record { refused = some (record { number = 1; at = 0 }); tables = t }
-  pub unsound : fitting rs t ≡ true → (r : Refusal) → refusal (length classes) rs ≡ some r → o ≡ record { refused = some r; tables = zeros }
+  pub unfit : fitting rs t ≡ false → o ≡ record { refused = Some (record { number = 1; at = 0 }); tables = t }
+  pub unsound : fitting rs t ≡ true → (r : Refusal) → refusal (length classes) rs ≡ Some r → o ≡ record { refused = Some r; tables = zeros }
   pub sound : fitting rs t ≡ true → (ts : Trees) → Accepted (length classes) rs ts → o ≡ outcome_of classes ts
 
 pub record Fresh (classes rs : List ℕ) (t : Tables) (o : Outcome) : Type 0 where

@@ -1,6 +1,5 @@
 -- What the pass works on: the facts, the scope, the captures, the define that it is in, and the refusals noted. `Analysis` and `AnalysisPass`.
-use Rattle.std.specs.Prelude.{ℕ, suc, List, Bool, true, false, get_or, set}
-use Rattle.std.proofs.Math.Option.{Option, none, some}
+use Rattle.std.specs.Prelude.{ℕ, suc, List, Bool, true, false, get_or, set, Option, None, Some}
 use Rattle.tree.specs.Tree.{Ident}
 use Rattle.tree.specs.Check.{Refusal}
 use Rattle.scope_map.specs.ScopeMap.{ScopeMap, Live, get}
@@ -120,7 +119,7 @@ no_entry = record {
   captured = false;
   mutated = false;
   usage_count = 0;
-  last_used = none;
+  last_used = None;
   stack_offset = 0;
   heap_offset = 0;
   depth = 0;
@@ -138,7 +137,7 @@ top_level_entry = record {
   captured = false;
   mutated = false;
   usage_count = 0;
-  last_used = none;
+  last_used = None;
   stack_offset = NONE;
   heap_offset = NONE;
   depth = 1;
@@ -149,7 +148,7 @@ local_entry slot d = record {
   captured = false;
   mutated = false;
   usage_count = 0;
-  last_used = none;
+  last_used = None;
   stack_offset = slot;
   heap_offset = NONE;
   depth = d;
@@ -160,7 +159,7 @@ heap_entry slot heap d = record {
   captured = true;
   mutated = true;
   usage_count = 0;
-  last_used = none;
+  last_used = None;
   stack_offset = slot;
   heap_offset = heap;
   depth = d;
@@ -183,7 +182,7 @@ last_entry x e = record {
   captured = e.captured;
   mutated = e.mutated;
   usage_count = e.usage_count;
-  last_used = some x;
+  last_used = Some x;
   stack_offset = e.stack_offset;
   heap_offset = e.heap_offset;
   depth = e.depth;
@@ -213,8 +212,8 @@ mutated_entry e = record {
 
 -- an entry as a list keeps it
 abbrev pub id_of : Option Ident → ℕ
-id_of none = NONE
-id_of (some x) = x.id
+id_of None = NONE
+id_of (Some x) = x.id
 
 abbrev pub list_entry_of : Ident → Entry → ListEntry
 list_entry_of b e = record {
@@ -241,8 +240,8 @@ list_entry_of b e = record {
 -- The newest entry of a name
 
 abbrev pub binder_in : Option (Live Ident) → Option Ident
-binder_in none = none
-binder_in (some e) = some e.value
+binder_in None = None
+binder_in (Some e) = Some e.value
 
 -- the binder of the name's newest entry
 abbrev pub newest : State → ℕ → Option Ident
@@ -254,8 +253,8 @@ depth s = s.scope.names.depth
 -- Refusals: the first one is kept
 
 abbrev pub or_kept : {A : Type 0} → Option A → A → Option A
-or_kept (some a) b = some a
-or_kept none b = some b
+or_kept (Some a) b = Some a
+or_kept None b = Some b
 
 abbrev pub note_nine : ℕ → State → State
 note_nine i s = with_noted (record { nine = or_kept s.noted.nine i; ten = s.noted.ten; second = s.noted.second }) s

@@ -1,6 +1,5 @@
 -- The visits, one for each form; and a run over the top level. docs/RULES.md, 2, 4 and 7.
-use Rattle.std.specs.Prelude.{ℕ, suc, ◌+◌, List, Bool, true, false, cond, not, ◌&&◌, length, eqb, ltb}
-use Rattle.std.proofs.Math.Option.{Option, none, some}
+use Rattle.std.specs.Prelude.{ℕ, suc, ◌+◌, List, Bool, true, false, cond, not, ◌&&◌, length, eqb, ltb, Option, None, Some}
 use Rattle.tree.specs.Tree.{Ident, Node, Tree, Trees, ident, const, if, letin, define, lambda, sequence, call, set!, nil, cons, begins, ands, whens, many}
 use Rattle.tree.specs.Core.{core, cores}
 use Rattle.semantic.specs.Information.{NONE}
@@ -26,7 +25,7 @@ pub record Flags : Type 0 where
   pub direct : Bool  -- the expression stands directly in an inner begin
 
 abbrev pub top_flags : Flags
-top_flags = record { tail = false; escape = false; height = 0; counter = 0; function = none; direct = false }
+top_flags = record { tail = false; escape = false; height = 0; counter = 0; function = None; direct = false }
 
 -- a part that is no tail position; one that is where the whole is
 abbrev pub not_tail : Flags → Flags
@@ -42,7 +41,7 @@ abbrev pub let_body_flags : ℕ → Flags → Flags
 let_body_flags k f = record { tail = f.tail; escape = f.escape; height = f.height + k; counter = f.counter; function = f.function; direct = false }
 
 abbrev pub body_flags : Node → ℕ → Flags → Flags
-body_flags n k f = record { tail = true; escape = f.escape; height = k; counter = suc f.counter; function = some n; direct = false }
+body_flags n k f = record { tail = true; escape = f.escape; height = k; counter = suc f.counter; function = Some n; direct = false }
 
 abbrev pub argument_flags : Flags → Flags
 argument_flags f = record { tail = false; escape = true; height = f.height; counter = f.counter; function = f.function; direct = false }
@@ -75,16 +74,16 @@ define_flags f = record { tail = false; escape = f.escape; height = f.height; co
 -- Call
 
 abbrev pub last_use_of : State → Option Ident → Option Ident
-last_use_of s none = none
-last_use_of s (some b) = (entry_at s b.at).last_used
+last_use_of s None = None
+last_use_of s (Some b) = (entry_at s b.at).last_used
 
 abbrev pub same_ident : Option Ident → Ident → Bool
-same_ident none x = false
-same_ident (some y) x = eqb y.id x.id
+same_ident None x = false
+same_ident (Some y) x = eqb y.id x.id
 
 -- an argument that is an identifier is marked where it is its name's last use so far
 abbrev pub mark_argument : Tree → State → State
-mark_argument (ident x) s = cond (same_ident (last_use_of s (newest s x.name)) x) (mark_last (some x) s) s
+mark_argument (ident x) s = cond (same_ident (last_use_of s (newest s x.name)) x) (mark_last (Some x) s) s
 mark_argument (const n q) s = s
 mark_argument (if n a b c) s = s
 mark_argument (letin n xs es b) s = s

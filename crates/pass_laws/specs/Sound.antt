@@ -1,7 +1,6 @@
 -- What a state holds: identifiers of the tree alone, rows inside their table, counts of uses and layers within bounds. The code of the pass stays
 -- inside its tables by it.
-use Rattle.std.specs.Prelude.{ℕ, suc, ◌+◌, ◌≤◌, ◌<◌, List, Bool, true, false, ◌≡◌, length}
-use Rattle.std.proofs.Math.Option.{Option, none, some}
+use Rattle.std.specs.Prelude.{ℕ, suc, ◌+◌, ◌≤◌, ◌<◌, List, Bool, true, false, ◌≡◌, length, Option, None, Some}
 use Rattle.tree.specs.Tree.{Ident, Tree, Trees, ident, const, if, letin, define, lambda, sequence, call, set!, nil, cons, many, begins, ands, whens}
 use Rattle.tree.specs.Core.{cores}
 use Rattle.tree.specs.Accepted.{All}
@@ -56,7 +55,7 @@ IsNamed e = e.value.name ≡ e.name
 pub record Each (Q : Property) (F : ℕ → Type 0) (s : State) : Type 0 where
   pub named : All IsNamed s.scope.names.live
   pub binders : All (λ e. Q.ident e.value) s.scope.names.live
-  pub lasts : (i : ℕ) (y : Ident) → (entry_at s i).last_used ≡ some y → Q.ident y
+  pub lasts : (i : ℕ) (y : Ident) → (entry_at s i).last_used ≡ Some y → Q.ident y
   pub list_entries : (i : ℕ) → Q.list_entry (list_entry_at s i)
   pub taken : All (λ c. Q.capture c.value.row c.value.binder) s.captures.live
   pub entry_uses : (i : ℕ) → F (entry_at s i).usage_count
@@ -117,13 +116,13 @@ abbrev pub OverRows : (ℕ → Type 0) → ListAt → Type 0
 OverRows R e = (r : ℕ) → e.first ≤ r → r < e.first + e.length → R r
 
 abbrev pub Listed : (ℕ → Type 0) → Option FunctionInformation → Type 0
-Listed R none = Unit {0}
-Listed R (some v) = OverRows R v.captured_vars
+Listed R None = Unit {0}
+Listed R (Some v) = OverRows R v.captured_vars
 
 -- that list lies inside the table
 abbrev pub Inside : Option FunctionInformation → Type 0
-Inside none = Unit {0}
-Inside (some v) = v.captured_vars.first + v.captured_vars.length ≤ captured_most
+Inside None = Unit {0}
+Inside (Some v) = v.captured_vars.first + v.captured_vars.length ≤ captured_most
 
 -- Every lambda that a visit enters finds a fact with L, or none
 module _ (L : Option FunctionInformation → Type 0) (classes : List ℕ) where

@@ -1,7 +1,6 @@
 -- The two stages of a pass: on the first run each lambda and each let makes its lists; on the second it finds them made. What a visit may rely on, so that
 -- it stays inside its tables.
-use Rattle.std.specs.Prelude.{ℕ, zero, suc, ◌+◌, ◌-◌, ◌*◌, ◌≤◌, ◌<◌, List, [], ◌∷◌, Bool, ◌≡◌, length}
-use Rattle.std.proofs.Math.Option.{Option, none, some}
+use Rattle.std.specs.Prelude.{ℕ, zero, suc, ◌+◌, ◌-◌, ◌*◌, ◌≤◌, ◌<◌, List, [], ◌∷◌, Bool, ◌≡◌, length, Option, None, Some}
 use Rattle.tree.specs.Tree.{Node, Tree, Trees, ident, const, if, letin, define, lambda, sequence, call, set!, nil, cons, bit, size, sizes}
 use Rattle.tree.specs.Core.{core}
 use Rattle.tree.specs.Define.{top_level}
@@ -69,8 +68,8 @@ layers_of (e ∷ l) = e.layer ∷ layers_of l
 
 -- How many captured entries a lambda's list has, by its fact; and those of n rows from i on
 abbrev pub list_length : Option FunctionInformation → ℕ
-list_length none = 0
-list_length (some v) = v.captured_vars.length
+list_length None = 0
+list_length (Some v) = v.captured_vars.length
 
 abbrev pub held : Row → ℕ
 held r = list_length (function_in r)
@@ -98,15 +97,15 @@ end_of e = e.first + e.length
 
 -- the fact of a lambda whose captured entries end by c and its arguments by a; that of a let whose arguments do
 abbrev pub ListsWithin : ℕ → ℕ → Option FunctionInformation → Type 0
-ListsWithin c a none = ⊥
-ListsWithin c a (some v) = (end_of v.captured_vars ≤ c) × (end_of v.arguments ≤ a)
+ListsWithin c a None = ⊥
+ListsWithin c a (Some v) = (end_of v.captured_vars ≤ c) × (end_of v.arguments ≤ a)
 
 abbrev pub FunctionWithin : ℕ → ℕ → Row → Type 0
 FunctionWithin c a r = ListsWithin c a (function_in r)
 
 abbrev pub NamesWithin : ℕ → Option LetInformation → Type 0
-NamesWithin a none = ⊥
-NamesWithin a (some v) = end_of v.arguments ≤ a
+NamesWithin a None = ⊥
+NamesWithin a (Some v) = end_of v.arguments ≤ a
 
 abbrev pub LetWithin : ℕ → Row → Type 0
 LetWithin a r = NamesWithin a (let_in r)
@@ -137,8 +136,8 @@ MadeAll = BlocksAllIn (FunctionWithin list_entries_most list_entries_most) (LetW
 
 -- the innermost lambda around, if there is one, stands before the record i, and P holds of its row
 abbrev pub Around : (Row → Type 0) → ℕ → State → Option Node → Type 0
-Around P i s none = Unit {0}
-Around P i s (some n) = (n.at < i) × P (row_at s n.at)
+Around P i s None = Unit {0}
+Around P i s (Some n) = (n.at < i) × P (row_at s n.at)
 
 -- on the first run nothing is made, there is room for r argument entries, all but one, and the n records may add captured entries
 pub record First (i n r : ℕ) (U : Type 0) (around : Option Node) (s : State) : Type 0 where
@@ -180,35 +179,35 @@ AfterInitials classes es f s = with_context s.context (visit_arguments classes e
 -- What a lambda finds of its fact: on entering, its lists lie within the tables and there is room for its captures; at its end, there is room for
 -- its arguments, or its lists lie within the tables
 abbrev pub EntersWithin : State → Option FunctionInformation → Type 0
-EntersWithin s none = Unit {0}
-EntersWithin s (some v) =
+EntersWithin s None = Unit {0}
+EntersWithin s (Some v) =
     (end_of v.captured_vars ≤ list_entries_most) × (end_of v.arguments ≤ list_entries_most) × (length s.captures.live + v.captured_vars.length ≤ list_entries_most)
 
 abbrev pub LeavesWithin : State → Option FunctionInformation → Type 0
-LeavesWithin s none =
+LeavesWithin s None =
     (s.facts.arguments_top + length (newest_layer s.scope.names) ≤ list_entries_most)
     × (s.facts.captured_top + length s.scope.names.live ≤ list_entries_most * list_entries_most)
-LeavesWithin s (some v) = (end_of v.captured_vars ≤ list_entries_most) × (end_of v.arguments ≤ list_entries_most)
+LeavesWithin s (Some v) = (end_of v.captured_vars ≤ list_entries_most) × (end_of v.arguments ≤ list_entries_most)
 
 -- and a let, of its own and of the lambda around
 abbrev pub LetEntersWithin : Option LetInformation → Type 0
-LetEntersWithin none = Unit {0}
-LetEntersWithin (some v) = end_of v.arguments ≤ list_entries_most
+LetEntersWithin None = Unit {0}
+LetEntersWithin (Some v) = end_of v.arguments ≤ list_entries_most
 
 abbrev pub LetLeavesWithin : ℕ → State → Row → Type 0
 LetLeavesWithin k s r = r ≡ Blank → s.facts.arguments_top + k ≤ list_entries_most
 
 abbrev pub CapturedWithin : Option FunctionInformation → Type 0
-CapturedWithin none = Unit {0}
-CapturedWithin (some v) = end_of v.captured_vars ≤ list_entries_most
+CapturedWithin None = Unit {0}
+CapturedWithin (Some v) = end_of v.captured_vars ≤ list_entries_most
 
 abbrev pub AroundWithin : State → Option Node → Type 0
-AroundWithin s none = Unit {0}
-AroundWithin s (some n) = CapturedWithin (function_in (row_at s n.at))
+AroundWithin s None = Unit {0}
+AroundWithin s (Some n) = CapturedWithin (function_in (row_at s n.at))
 
 -- Before the trees at top level are visited, which stand from the record i up to j; their names have entered
 abbrev pub StageTops : ℕ → ℕ → Trees → State → Type 0
-StageTops i j ts s = Staged i (j - i) (suc (sizes ts) - enterings ts) (UnmadeAll s ts) (MadeAll s ts) none s
+StageTops i j ts s = Staged i (j - i) (suc (sizes ts) - enterings ts) (UnmadeAll s ts) (MadeAll s ts) None s
 
 -- Where a run with the facts f begins its visits; and what it leaves, where it noted no refusal 10
 abbrev pub entered : List ℕ → Trees → Facts → State

@@ -1,8 +1,7 @@
 -- What the facts of a fresh run say of a tree without inner define, place by place, in R7RS's terms: the bridge between the pass and all that
 -- is read off its facts. `Rec Γ d h t e`: the rows T are those of the expression e in the scope Γ, at depth d and height h, in tail
 -- position of a lambda if t.
-use Rattle.std.specs.Prelude.{ℕ, suc, ◌+◌, ◌≤◌, ◌<◌, ◌≡◌, List, [], ◌∷◌, Bool, true, false, cond, length, get_or, eqb}
-use Rattle.std.proofs.Math.Option.{Option, none, some}
+use Rattle.std.specs.Prelude.{ℕ, suc, ◌+◌, ◌≤◌, ◌<◌, ◌≡◌, List, [], ◌∷◌, Bool, true, false, cond, length, get_or, eqb, Option, None, Some}
 use Rattle.tree.specs.Tree.{Ident, Node, Tree, Trees, ident, const, if, letin, define, lambda, sequence, call, set!, nil, cons, many, begins, ands, whens}
 use Rattle.tree.specs.Site.{let_layer}
 use Rattle.semantic.specs.Kinds.{is_tail_row}
@@ -22,8 +21,8 @@ abbrev pub Ctx : Type 0
 Ctx = List Bound
 
 abbrev pub lookup : Ctx → ℕ → Option Bound
-lookup [] x = none
-lookup (e ∷ Γ) x = cond (eqb e.binder.name x) (some e) (lookup Γ x)
+lookup [] x = None
+lookup (e ∷ Γ) x = cond (eqb e.binder.name x) (Some e) (lookup Γ x)
 
 -- names in order, the first at the slot s
 abbrev pub enter_all : List Ident → ℕ → ℕ → Ctx → Ctx
@@ -79,15 +78,15 @@ module _ (T : List Row) where
   module _ (P : Presumption) where
     -- the fact of an identifier that is read at depth d, by what its name finds in the scope
     pub data Ref (d : ℕ) (v : SemanticInformation) : Option Bound → Type 0 where
-      ref-cell : is_cell v.kind ≡ true → Ref d v none
-      ref-own : {e : Bound} → is_own v.kind ≡ true → Refers d v e → e.depth ≡ d → Ref d v (some e)
-      ref_outer : {e : Bound} → v.kind ≡ Captured → Refers d v e → 2 ≤ e.depth → e.depth < d → P.ReadInside e.binder → Ref d v (some e)
+      ref-cell : is_cell v.kind ≡ true → Ref d v None
+      ref-own : {e : Bound} → is_own v.kind ≡ true → Refers d v e → e.depth ≡ d → Ref d v (Some e)
+      ref_outer : {e : Bound} → v.kind ≡ Captured → Refers d v e → 2 ≤ e.depth → e.depth < d → P.ReadInside e.binder → Ref d v (Some e)
 
     -- of a set! target
     pub data Aim (d : ℕ) (v : SemanticInformation) : Option Bound → Type 0 where
-      aim_cell : is_cell v.kind ≡ true → Aim d v none
-      aim_own : {e : Bound} → is_own v.kind ≡ true → Refers d v e → e.depth ≡ d → P.SetOwn e.binder → Aim d v (some e)
-      aim_outer : {e : Bound} → v.kind ≡ Captured → Refers d v e → 2 ≤ e.depth → e.depth < d → P.SetInside e.binder → Aim d v (some e)
+      aim_cell : is_cell v.kind ≡ true → Aim d v None
+      aim_own : {e : Bound} → is_own v.kind ≡ true → Refers d v e → e.depth ≡ d → P.SetOwn e.binder → Aim d v (Some e)
+      aim_outer : {e : Bound} → v.kind ≡ Captured → Refers d v e → 2 ≤ e.depth → e.depth < d → P.SetInside e.binder → Aim d v (Some e)
 
     mutual
       pub data Rec : Ctx → ℕ → ℕ → Bool → Tree → Type 0 where

@@ -1,7 +1,6 @@
 -- What a visit may rely on, so that the code stays inside its tables and its numbers: of the identifiers and counts that the state holds, of the room that
 -- is left, and of the stage of the run.
-use Rattle.std.specs.Prelude.{ℕ, suc, ◌+◌, ◌-◌, ◌≤◌, ◌<◌, ◌≡◌, length}
-use Rattle.std.proofs.Math.Option.{Option, none, some}
+use Rattle.std.specs.Prelude.{ℕ, suc, ◌+◌, ◌-◌, ◌≤◌, ◌<◌, ◌≡◌, length, Option, None, Some}
 use Rattle.tree.specs.Tree.{Ident, Node, Tree, Trees, many, size, sizes, Num, Nums}
 use Rattle.scope_map.specs.ScopeMap.{newest_layer}
 use Rattle.semantic.specs.Rows.{Blank}
@@ -84,13 +83,13 @@ pub record Room (k : ℕ) (s : State) : Type 0 where
 -- the lists of a lambda's fact, if it has one, lie inside, and the captures have room for the captured one
 abbrev pub ListsFit : State → ℕ → Type 0
 ListsFit s at =
-    (v : FunctionInformation) → function_in (row_at s at) ≡ some v
+    (v : FunctionInformation) → function_in (row_at s at) ≡ Some v
     → (end_of v.captured_vars ≤ list_entries_most) × (end_of v.arguments ≤ list_entries_most)
     × (length s.captures.live + v.captured_vars.length ≤ list_entries_most)
 
 -- the captured list of a lambda's fact, if it has one, lies inside
 abbrev pub CapturedFits : State → ℕ → Type 0
-CapturedFits s at = (v : FunctionInformation) → function_in (row_at s at) ≡ some v → end_of v.captured_vars ≤ list_entries_most
+CapturedFits s at = (v : FunctionInformation) → function_in (row_at s at) ≡ Some v → end_of v.captured_vars ≤ list_entries_most
 
 module _ (P : Ident → Type 0) where
   -- tables have their lengths, identifiers are those of P, and counts are small
@@ -114,7 +113,7 @@ module _ (P : Ident → Type 0) where
   pub record LambdaEnds (at : ℕ) (s : State) : Type 0 where
     pub reliable : Reliable s
     pub few : at < rows_most
-    pub made : function_in (row_at s at) ≡ none → s.facts.arguments_top + length (newest_layer s.scope.names) ≤ list_entries_most
+    pub made : function_in (row_at s at) ≡ None → s.facts.arguments_top + length (newest_layer s.scope.names) ≤ list_entries_most
     pub amended : CapturedFits s at
     pub captured : s.facts.captured_top + list_entries_most < 4294967296
 
@@ -124,8 +123,8 @@ module _ (P : Ident → Type 0) where
     pub few : at < rows_most
     pub room : Room k s
     pub slots : height + k < 4294967296
-    pub list : (v : LetInformation) → let_in (row_at s at) ≡ some v → end_of v.arguments ≤ list_entries_most
-    pub outer : (m : Node) → function ≡ some m → (m.at < rows_most) × CapturedFits s m.at
+    pub list : (v : LetInformation) → let_in (row_at s at) ≡ Some v → end_of v.arguments ≤ list_entries_most
+    pub outer : (m : Node) → function ≡ Some m → (m.at < rows_most) × CapturedFits s m.at
 
   pub record LetEnds (at k : ℕ) (s : State) : Type 0 where
     pub reliable : Reliable s

@@ -1,7 +1,6 @@
 -- What `fresh` and `settled` promise whoever calls them, of what they answer and of the numbers that they leave, whatever the lent tables held.
 -- `Fresh` and `Settled` are what the functions ensure. Read this after execution/specs/Claims.antt; each word leads to its definition.
-use Rattle.std.specs.Prelude.{ℕ, List, [], map, true, ◌≡◌, length}
-use Rattle.std.proofs.Math.Option.{none}
+use Rattle.std.specs.Prelude.{ℕ, List, [], map, true, ◌≡◌, length, None}
 use Rattle.table.specs.Layout.{layout}
 use Rattle.tree.specs.Record.{Record, records}
 use Rattle.tree.specs.Tree.{Trees}
@@ -46,10 +45,10 @@ pub record Promise (classes rs : List ℕ) (o : Outcome) (Facts : Trees → List
   pub facts : (ts : Trees) (T : List Row) → Accepted (length classes) rs ts → o.tables.facts ≡ layout put_row T → Facts ts T
 
 abbrev pub FreshPromise : Type 0
-FreshPromise = (classes rs : List ℕ) (t : Tables) (o : Outcome) → Fresh classes rs t o → o.refused ≡ none → Promise classes rs o (FreshFacts classes)
+FreshPromise = (classes rs : List ℕ) (t : Tables) (o : Outcome) → Fresh classes rs t o → o.refused ≡ None → Promise classes rs o (FreshFacts classes)
 
 abbrev pub SettledPromise : Type 0
-SettledPromise = (classes rs : List ℕ) (t : Tables) (o : Outcome) → Settled classes rs t o → o.refused ≡ none → Promise classes rs o (SettledFacts classes)
+SettledPromise = (classes rs : List ℕ) (t : Tables) (o : Outcome) → Settled classes rs t o → o.refused ≡ None → Promise classes rs o (SettledFacts classes)
 
 -- Which of the refusals 9 to 12 is answered, of every script without an inner define: exactly what R7RS's walk over the script says. "First, a pass that
 -- refuses every script: the conditions above are exact both ways." What the checks 1 to 8 and 16 refuse is in `Fresh` and `Settled` themselves.

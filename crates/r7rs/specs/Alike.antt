@@ -1,6 +1,5 @@
 -- What it is for the plain machine to run a tree and its expansion (document 02, order 7) alike. The theorem is in Runs.
-use Rattle.std.specs.Prelude.{ℕ, map, ◌≡◌}
-use Rattle.std.proofs.Math.Option
+use Rattle.std.specs.Prelude.{ℕ, map, ◌≡◌, option_map}
 use Rattle.tree.specs.Tree.{Trees}
 use Rattle.tree.specs.Expand.{expand, expands}
 use Rattle.r7rs.specs.Machine.{ended, stopped, Cells}
@@ -18,7 +17,7 @@ LikeValue v w = w ≡ expand_value v
 
 -- cell by cell: both are unbound, or both hold like values
 abbrev pub LikeCells : Cells PVal → Cells PVal → Type 0
-LikeCells c d = (x : ℕ) → d x ≡ Option.map expand_value (c x)
+LikeCells c d = (x : ℕ) → d x ≡ option_map expand_value (c x)
 
 -- location by location: both are made for the same record
 abbrev pub expand_location : ℕ × PVal → ℕ × PVal

@@ -1,9 +1,8 @@
 -- Which parameter or let name each identifier means, by structure alone. R7RS 4.1.4 and 4.2.2. What places and names have by document 01
 -- (tree/specs/Site.antt) is carried along and decides nothing here.
-use Rattle.std.specs.Prelude.{ℕ, suc, ◌+◌, Bool, true, false, cond, ◌≡◌, length, eqb, ltb}
+use Rattle.std.specs.Prelude.{ℕ, suc, ◌+◌, Bool, true, false, cond, ◌≡◌, length, eqb, ltb, Option, None, Some}
 use mathlib.Core.List.{List, [], ◌∷◌, ◌++◌, reverse_aux}
 use mathlib.Core.List.{Memᴰ as Member}
-use Rattle.std.proofs.Math.Option.{Option, none, some}
 use Rattle.tree.specs.Tree.{Node, Ident, Tree, Trees, ident, const, if, letin, define, lambda, sequence, call, set!, nil, cons, many}
 use Rattle.tree.specs.Site.{Site, Home, top_site, raised_site, lambda_site, let_site, home_at}
 
@@ -111,8 +110,8 @@ binders_in (ends i xs sc ∷ l) = binders_in l
 
 -- An identifier means the innermost parameter or let name in scope that has its name
 abbrev pub find : List Binder → ℕ → Option Binder
-find [] x = none
-find (b ∷ sc) x = cond (eqb b.ident.name x) (some b) (find sc x)
+find [] x = None
+find (b ∷ sc) x = cond (eqb b.ident.name x) (Some b) (find sc x)
 
 abbrev pub meant : Mention → Option Binder
 meant m = find m.place.scope m.ident.name
@@ -130,8 +129,8 @@ pub record Use : Type 0 where
   pub is_set : Bool
 
 abbrev pub use_of : Mention → Option Binder → List Use
-use_of m none = []
-use_of m (some b) = record { at = m.ident.at; binder = b.ident.at; is_inner = is_inner m b; is_set = m.is_set } ∷ []
+use_of m None = []
+use_of m (Some b) = record { at = m.ident.at; binder = b.ident.at; is_inner = is_inner m b; is_set = m.is_set } ∷ []
 
 abbrev pub uses_of : List Mention → List Use
 uses_of [] = []

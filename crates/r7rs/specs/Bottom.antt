@@ -1,7 +1,6 @@
 -- Which define a name refers to that no parameter or let name binds: its entry in the bottom layer, where no define is inner.
 -- Document 01, "Rules of the pass": top-level lambda defines enter before anything is visited, other top-level defines before their body.
-use Rattle.std.specs.Prelude.{ℕ, List, [], ◌∷◌, ◌++◌, Bool, cond, not, ◌&&◌, eqb, ltb}
-use Rattle.std.proofs.Math.Option.{Option, none, some}
+use Rattle.std.specs.Prelude.{ℕ, List, [], ◌∷◌, ◌++◌, Bool, cond, not, ◌&&◌, eqb, ltb, Option, None, Some}
 use Rattle.tree.specs.Tree.{Ident, Tree, Trees, ident, const, if, letin, define, lambda, sequence, call, set!, nil, cons}
 use Rattle.tree.specs.Core.{is_lambda}
 use Rattle.tree.specs.Define.{top_level}
@@ -30,7 +29,7 @@ defines_of (cons t ts) = define_of t ++ defines_of ts
 -- the name of the last define that passes a test, else the one given
 unfoldable pub last_or : Option Ident → (Define → Bool) → List Define → Option Ident
 last_or o p [] = o
-last_or o p (d ∷ l) = last_or (cond (p d) (some d.name) o) p l
+last_or o p (d ∷ l) = last_or (cond (p d) (Some d.name) o) p l
 
 -- a lambda define of the name x
 abbrev pub is_lambda_of : ℕ → Define → Bool
@@ -44,4 +43,4 @@ is_value_of x i d = not d.is_lambda && (eqb d.name.name x && ltb d.at i)
 unfoldable pub bottom_entry : Trees → ℕ → ℕ → Option Ident
 bottom_entry ts x i =
     let ds = defines_of (top_level ts) in
-    last_or (last_or none (is_lambda_of x) ds) (is_value_of x i) ds
+    last_or (last_or None (is_lambda_of x) ds) (is_value_of x i) ds

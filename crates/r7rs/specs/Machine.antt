@@ -1,6 +1,5 @@
 -- What the two machines share: where a run stands, what waits, and what one more moment comes to. Document 01, "The slot machine of demand 3".
-use Rattle.std.specs.Prelude.{ℕ, ◌-◌, List, [], ◌∷◌, Bool, true, false, cond, not, length, take, drop, eqb}
-use Rattle.std.proofs.Math.Option.{Option, none, some}
+use Rattle.std.specs.Prelude.{ℕ, ◌-◌, List, [], ◌∷◌, Bool, true, false, cond, not, length, take, drop, eqb, Option, None, Some}
 use Rattle.tree.specs.Tree.{Ident, Tree, Trees, ident, const, if, letin, define, lambda, sequence, call, set!, node_in}
 
 -- an expression's record
@@ -104,14 +103,14 @@ Cells W = ℕ → Option W
 
 module _ {W : Type 0} where
   abbrev pub unbound : Cells W
-  unbound x = none
+  unbound x = None
 
   abbrev pub fill : Cells W → ℕ → W → Cells W
-  fill c x v y = cond (eqb x y) (some v) (c y)
+  fill c x v y = cond (eqb x y) (Some v) (c y)
 
   abbrev pub in_cell : Option W → Got W
-  in_cell none = missing
-  in_cell (some v) = got v
+  in_cell None = missing
+  in_cell (Some v) = got v
 
 -- a lambda with these parameters takes n arguments; "a wrong argument count stops both machines alike"
 abbrev pub takes : List Ident → ℕ → Bool

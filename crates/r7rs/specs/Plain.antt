@@ -1,7 +1,5 @@
 -- The plain machine: R7RS's environments, and no fact. Document 01, "The slot machine of demand 3", second paragraph.
-use Rattle.std.specs.Prelude.{ℕ, suc, List, [], ◌∷◌, ◌++◌, Bool, false, cond, length, drop, set, eqb}
-use Rattle.std.proofs.Math.Option.{Option, none, some}
-use Rattle.std.proofs.Math.ListN.{get_elem?}
+use Rattle.std.specs.Prelude.{ℕ, suc, List, [], ◌∷◌, ◌++◌, Bool, false, cond, length, drop, set, eqb, Option, None, Some, slice_get}
 use Rattle.tree.specs.Tree.{Ident, Tree}
 use Rattle.r7rs.specs.Machine.{Kont, kret, State, Out, Got, got, missing, Cells, fill, in_cell, last_n, but_n}
 use Rattle.r7rs.specs.Steps.{Procedure, Ops}
@@ -48,16 +46,16 @@ POut = Out PVal PBody PMem
 -- "An identifier reads its name's first location, else its cell."
 
 abbrev pub locate : Env → ℕ → Option ℕ
-locate [] x = none
-locate (p ∷ ρ) x = cond (eqb p.0 x) (some p.1) (locate ρ x)
+locate [] x = None
+locate (p ∷ ρ) x = cond (eqb p.0 x) (Some p.1) (locate ρ x)
 
 abbrev pub in_store : Option (ℕ × PVal) → Got PVal
-in_store none = missing
-in_store (some c) = got c.1
+in_store None = missing
+in_store (Some c) = got c.1
 
 abbrev pub pget_at : Option ℕ → ℕ → PMem → Got PVal
-pget_at none x m = in_cell (m.cells x)
-pget_at (some ℓ) x m = in_store (get_elem? m.store ℓ)
+pget_at None x m = in_cell (m.cells x)
+pget_at (Some ℓ) x m = in_store (slice_get m.store ℓ)
 
 abbrev pub pget : ℕ → PBody → PMem → Got PVal
 pget x b m = pget_at (locate b.env x) x m
@@ -65,16 +63,16 @@ pget x b m = pget_at (locate b.env x) x m
 -- "A set! ... fills what a read would find"; "reading or setting an unbound cell ... stops both machines alike"
 
 abbrev pub pput_cell : Option PVal → ℕ → PVal → PBody → PMem → Got (PBody × PMem)
-pput_cell none x w b m = missing
-pput_cell (some _) x w b m = got (b, mem m.store (fill m.cells x w))
+pput_cell None x w b m = missing
+pput_cell (Some _) x w b m = got (b, mem m.store (fill m.cells x w))
 
 abbrev pub put_store : Option (ℕ × PVal) → ℕ → PVal → PBody → PMem → Got (PBody × PMem)
-put_store none ℓ w b m = missing
-put_store (some c) ℓ w b m = got (b, mem (set m.store ℓ (c.0, w)) m.cells)
+put_store None ℓ w b m = missing
+put_store (Some c) ℓ w b m = got (b, mem (set m.store ℓ (c.0, w)) m.cells)
 
 abbrev pub pput_at : Option ℕ → ℕ → PVal → PBody → PMem → Got (PBody × PMem)
-pput_at none x w b m = pput_cell (m.cells x) x w b m
-pput_at (some ℓ) x w b m = put_store (get_elem? m.store ℓ) ℓ w b m
+pput_at None x w b m = pput_cell (m.cells x) x w b m
+pput_at (Some ℓ) x w b m = put_store (slice_get m.store ℓ) ℓ w b m
 
 abbrev pub pput : ℕ → PVal → PBody → PMem → Got (PBody × PMem)
 pput x w b m = pput_at (locate b.env x) x w b m
@@ -102,9 +100,9 @@ pis_false punit = false
 pis_false (pclo i xs e ρ) = false
 
 abbrev pub procedure : PVal → Option (Procedure Env)
-procedure (pconst c q) = none
-procedure punit = none
-procedure (pclo i xs e ρ) = some (record { names = xs; of = e; kept = ρ })
+procedure (pconst c q) = None
+procedure punit = None
+procedure (pclo i xs e ρ) = Some (record { names = xs; of = e; kept = ρ })
 
 -- what the plain machine does in its own way (Steps.antt): "A let ... moves each into a new location for its name ... and drops the names"; "a call ... enters
 -- ... the body of the procedure that the head gave, in that procedure's environment with the arguments moved into a new location for each

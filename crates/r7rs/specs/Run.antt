@@ -1,6 +1,5 @@
 -- n moments of a machine; and of the plain machine on a tree.
-use Rattle.std.specs.Prelude.{ℕ, zero, suc, []}
-use Rattle.std.proofs.Math.Option.{none}
+use Rattle.std.specs.Prelude.{ℕ, zero, suc, [], None}
 use Rattle.tree.specs.Tree.{Tree, Trees, sequence, nil, begins}
 use Rattle.r7rs.specs.Machine.{start, kend, State, Out, next, ended, stopped, outside, state, unbound}
 use Rattle.r7rs.specs.Plain.{PVal, PBody, PMem, body, mem, plainly}
@@ -37,4 +36,4 @@ abbrev pub no_body : Tree
 no_body = sequence (begins (record { at = 0; id = 0; from = 0; to = 0 })) nil
 
 unfoldable pub plain : Trees → ℕ → Ran PVal PBody PMem
-plain ts n = run (step plainly) (state (start ts) none (body no_body [] []) (kend nil) (mem [] unbound)) n
+plain ts n = run (step plainly) (state (start ts) None (body no_body [] []) (kend nil) (mem [] unbound)) n

@@ -1,6 +1,5 @@
 -- The steps that both machines make, whatever they do with names, procedures and calls. Document 01, "The slot machine of demand 3".
-use Rattle.std.specs.Prelude.{ℕ, suc, List, Bool, true, false, cond, length}
-use Rattle.std.proofs.Math.Option.{Option, none, some}
+use Rattle.std.specs.Prelude.{ℕ, suc, List, Bool, true, false, cond, length, Option, None, Some}
 use Rattle.tree.specs.Tree.{Ident, Tree, Trees, ident, const, if, letin, define, lambda, sequence, call, set!, nil, cons, begins, ands, whens}
 use Rattle.r7rs.specs.Machine.{at, After, to_head, to_body, Moment, start, entered, read, pushed, Kont, kend, kif, kseq, kand, kwhen, kpush, khead, kdrop, kret, kset, kdef, State, Out, next, ended, stopped, Got, state, on, takes, runs}
 
@@ -32,14 +31,14 @@ module _ {W E B M : Type 0} (O : Ops W E B M) where
 
   abbrev pub gives : Tree → B → Option W → Option W
   gives (ident x) b h = h
-  gives (const n q) b h = some (O.constant n.id q)
+  gives (const n q) b h = Some (O.constant n.id q)
   gives (if n a t e) b h = h
   gives (letin n xs es e) b h = h
   gives (define n x e) b h = h
-  gives (lambda n xs e) b h = some (O.made n.at xs e b)
-  gives (sequence (begins n) nil) b h = some O.unit
-  gives (sequence (ands n) nil) b h = some (O.constant 0 false)
-  gives (sequence (whens q n) nil) b h = some O.unit
+  gives (lambda n xs e) b h = Some (O.made n.at xs e b)
+  gives (sequence (begins n) nil) b h = Some O.unit
+  gives (sequence (ands n) nil) b h = Some (O.constant 0 false)
+  gives (sequence (whens q n) nil) b h = Some O.unit
   gives (sequence n (cons e es)) b h = h
   gives (call n f es) b h = h
   gives (set! n x e) b h = h
@@ -50,9 +49,9 @@ module _ {W E B M : Type 0} (O : Ops W E B M) where
   -- "A call ... enters ... the body of the procedure that the head gave"; "a call of a non-procedure or a wrong argument count stops both machines alike"
 
   abbrev pub applied : Option (Procedure E) → W → ℕ → ℕ → Kont B → B → M → Out W B M
-  applied none v i n k b m = stopped
-  applied (some p) v i n k b m =
-      cond (takes p.names n) (let q = O.callee p n b m in enter p.of (some v) q.0 (O.caller i n b k) q.1) stopped
+  applied None v i n k b m = stopped
+  applied (Some p) v i n k b m =
+      cond (takes p.names n) (let q = O.callee p n b m in enter p.of (Some v) q.0 (O.caller i n b k) q.1) stopped
 
   abbrev pub apply : W → ℕ → ℕ → Kont B → B → M → Out W B M
   apply v i n k b m = applied (O.procedure v) v i n k b m
@@ -63,16 +62,16 @@ module _ {W E B M : Type 0} (O : Ops W E B M) where
   -- follows is passed over, it is that of the empty begin. Records that the expansion adds make no moment.
   unfoldable pub give : W → Kont B → B → M → Out W B M
   give v (kend nil) b m = ended v m
-  give v (kend (cons e es)) b m = enter e (some v) (O.top e) (kend es) m
-  give v (kif t e k) b m = enter (cond (O.is_false v) e t) (some v) b k m
-  give v (kseq e nil k) b m = enter e (some v) b k m
-  give v (kseq e (cons e' es) k) b m = enter e (some v) b (kseq e' es k) m
-  give v (kand e nil k) b m = cond (O.is_false v) (give (O.constant 0 true) k b m) (enter e (some v) b k m)
-  give v (kand e (cons e' es) k) b m = cond (O.is_false v) (give (O.constant 0 true) k b m) (enter e (some v) b (kand e' es k) m)
+  give v (kend (cons e es)) b m = enter e (Some v) (O.top e) (kend es) m
+  give v (kif t e k) b m = enter (cond (O.is_false v) e t) (Some v) b k m
+  give v (kseq e nil k) b m = enter e (Some v) b k m
+  give v (kseq e (cons e' es) k) b m = enter e (Some v) b (kseq e' es k) m
+  give v (kand e nil k) b m = cond (O.is_false v) (give (O.constant 0 true) k b m) (enter e (Some v) b k m)
+  give v (kand e (cons e' es) k) b m = cond (O.is_false v) (give (O.constant 0 true) k b m) (enter e (Some v) b (kand e' es k) m)
   give v (kwhen q nil k) b m = give O.unit k b m
-  give v (kwhen q (cons e nil) k) b m = cond (runs q (O.is_false v)) (enter e (some v) b k m) (give O.unit k b m)
-  give v (kwhen q (cons e (cons e' es)) k) b m = cond (runs q (O.is_false v)) (enter e (some v) b (kseq e' es k) m) (give O.unit k b m)
-  give v (kpush i w n es k) b m = next (state (pushed i w (suc n) es) (some v) (O.push v b) k m)
+  give v (kwhen q (cons e nil) k) b m = cond (runs q (O.is_false v)) (enter e (Some v) b k m) (give O.unit k b m)
+  give v (kwhen q (cons e (cons e' es)) k) b m = cond (runs q (O.is_false v)) (enter e (Some v) b (kseq e' es k) m) (give O.unit k b m)
+  give v (kpush i w n es k) b m = next (state (pushed i w (suc n) es) (Some v) (O.push v b) k m)
   give v (khead i n k) b m = apply v i n k b m
   give v (kdrop n k) b m = give v k (O.drop n b) m
   give v (kret i b' k) b m = give v k b' m
@@ -81,8 +80,8 @@ module _ {W E B M : Type 0} (O : Ops W E B M) where
 
   -- the value in hand; there always is one where it is asked for
   abbrev pub given : Option W → Kont B → B → M → Out W B M
-  given none k b m = stopped
-  given (some v) k b m = give v k b m
+  given None k b m = stopped
+  given (Some v) k b m = give v k b m
 
   -- "A let pushes its initial values, moves each into a new location for its name, enters its body and drops the names."
   -- "A call pushes its arguments, enters its head." n values are pushed.
@@ -97,7 +96,7 @@ module _ {W E B M : Type 0} (O : Ops W E B M) where
 
   -- From an expression entered to the next moment: a name is read; a value in hand is given; or the first part is entered, and the rest waits
   abbrev pub go_on : Tree → Option W → B → Kont B → M → Out W B M
-  go_on (ident x) h b k m = on (O.get x b m) (λ v. next (state (read x.at) (some v) b k m))
+  go_on (ident x) h b k m = on (O.get x b m) (λ v. next (state (read x.at) (Some v) b k m))
   go_on (const n q) h b k m = given h k b m
   go_on (if n a t e) h b k m = enter a h b (kif t e k) m
   go_on (letin n xs es e) h b k m = push (to_body xs e) 0 es h b k m
@@ -115,7 +114,7 @@ module _ {W E B M : Type 0} (O : Ops W E B M) where
   -- "a tree of no records" gives the unspecified value
   abbrev pub move : Moment → Option W → B → Kont B → M → Out W B M
   move (start nil) h b k m = ended O.unit m
-  move (start (cons e es)) h b k m = enter e none (O.top e) (kend es) m
+  move (start (cons e es)) h b k m = enter e None (O.top e) (kend es) m
   move (entered e) h b k m = go_on e h b k m
   move (read i) h b k m = given h k b m
   move (pushed i w n es) h b k m = push w n es h b k m

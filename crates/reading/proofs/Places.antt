@@ -1,8 +1,8 @@
 -- One line, place by place.
+use Rattle.std.specs.Prelude.{Option, None, Some}
 use Prim.Native.Nat.{ℕ, ◌+◌, ◌-◌, ◌*◌, ◌^◌, ◌≤◌, ◌<◌}
 use mathlib.Core.Bool.{Bool, true, false, cond}
 use mathlib.Core.List.{List, [], ◌∷◌}
-use mathlib.Core.Option.{Option, none, some}
 use mathlib.Core.Path.{◌≡◌, refl, ap, sym, ◌∙◌}
 use native.Mathlib.Omega.{arith}
 use native.Mathlib.Numerals.{add-one}
@@ -38,11 +38,11 @@ next l i h = rw add-one (drop-cons l i 0 h)
 -- The mark m from its byte i on, at the place j
 
 module _ (m l : List ℕ) (i j : ℕ) where
-  pub after_short : i < length m → length l ≤ j → after (drop i m) (drop j l) ≡ none
+  pub after_short : i < length m → length l ≤ j → after (drop i m) (drop j l) ≡ None
   unfolding after
   after_short h g = rw (next m i h, drop_of_length-le l g)
 
-  pub after_differs : i < length m → j < length l → (get_or m i 0 ≡ get_or l j 0 → ⊥) → after (drop i m) (drop j l) ≡ none
+  pub after_differs : i < length m → j < length l → (get_or m i 0 ≡ get_or l j 0 → ⊥) → after (drop i m) (drop j l) ≡ None
   unfolding after
   after_differs h g e = rw (next m i h, next l j g, after, ne_eqb (get_or m i 0) (get_or l j 0) e)
 
@@ -50,7 +50,7 @@ module _ (m l : List ℕ) (i j : ℕ) where
   unfolding after
   after_turn h g e = rw (next m i h, next l j g, after, eq-eqb (get_or m i 0) (get_or l j 0) e)
 
-pub after-end : (m r : List ℕ) (i : ℕ) → length m ≤ i → after (drop i m) r ≡ some r
+pub after-end : (m r : List ℕ) (i : ℕ) → length m ≤ i → after (drop i m) r ≡ Some r
 unfolding after
 after-end m r i h = rw (drop_of_length-le m h)
 
@@ -137,7 +137,7 @@ place (Field.Value v p) = p
 place Field.Nothing = 0
 
 module _ {l : List ℕ} {o : Option Numbered} where
-  pub found_some : (f : Field) {v p : ℕ} → f ≡ Field.Value v p → Found l o f → (p ≤ length l) × (o ≡ some (numbered v (drop p l)))
+  pub found_some : (f : Field) {v p : ℕ} → f ≡ Field.Value v p → Found l o f → (p ≤ length l) × (o ≡ Some (numbered v (drop p l)))
   unfolding value place
   found_some (Field.Value w q) {v} {p} e (found h g) =
       let a : w ≡ v = ap value e in
@@ -145,27 +145,27 @@ module _ {l : List ℕ} {o : Option Numbered} where
       rw (← a, ← b) (h, g)
   found_some Field.Nothing e (found_not g) = let y : ◌≡◌ {A = ℕ} 0 1 = cc in absurd (omega arith)
 
-  pub found_none : (f : Field) → f ≡ Field.Nothing → Found l o f → o ≡ none
+  pub found_none : (f : Field) → f ≡ Field.Nothing → Found l o f → o ≡ None
   found_none (Field.Value w q) e (found h g) = let y : ◌≡◌ {A = ℕ} 0 1 = cc in absurd (omega arith)
   found_none Field.Nothing e (found_not g) = g
 
 -- the line ends at the place, or goes on
 module _ (l : List ℕ) {at : ℕ} where
-  pub line_ends : at ≡ length l → numbers_of [] (drop at l) ≡ some []
+  pub line_ends : at ≡ length l → numbers_of [] (drop at l) ≡ Some []
   unfolding numbers_of
   line_ends h = ap (numbers_of []) (drop_of_length-le l {i = at} (omega arith))
 
-  pub line_goes : at ≤ length l → (at ≡ length l → ⊥) → numbers_of [] (drop at l) ≡ none
+  pub line_goes : at ≤ length l → (at ≡ length l → ⊥) → numbers_of [] (drop at l) ≡ None
   unfolding numbers_of
   line_goes i h = ap (numbers_of []) (next l at (omega arith))
 
 -- A record's line, field after field
 
 entered-more : (a : List ℕ) (n : ℕ) (o : Option (List ℕ)) → enter a (onto n o) ≡ enter (entered a n) o
-entered-more a n none = refl
-entered-more a n (some ns) = refl
+entered-more a n None = refl
+entered-more a n (Some ns) = refl
 
-neither : (b : Bool) → ◌≡◌ {A = Option (List ℕ)} (cond b none none) none
+neither : (b : Bool) → ◌≡◌ {A = Option (List ℕ)} (cond b None None) None
 neither true = refl
 neither false = refl
 
@@ -177,8 +177,8 @@ module _ {l m : List ℕ} (r : Fields) where
       record {
         inside = g.0;
         is = λ ms.
-            ap (λ (o : Option (List ℕ)). cond r.ok (enter r.numbers o) none) (numbers-some m ms (drop r.at l) (numbered v (drop p l)) g.1)
-            ∙ ap (λ (o : Option (List ℕ)). cond r.ok o none) (entered-more r.numbers v (numbers_of ms (drop p l)));
+            ap (λ (o : Option (List ℕ)). cond r.ok (enter r.numbers o) None) (numbers-some m ms (drop r.at l) (numbered v (drop p l)) g.1)
+            ∙ ap (λ (o : Option (List ℕ)). cond r.ok o None) (entered-more r.numbers v (numbers_of ms (drop p l)));
       }
 
   pub next-none : (f : Field) → r.at ≤ length l → f ≡ Field.Nothing → Found l (field_at m (drop r.at l)) f
@@ -186,7 +186,7 @@ module _ {l m : List ℕ} (r : Fields) where
   next-none f h e k = record {
     inside = h;
     is = λ ms.
-        ap (λ (o : Option (List ℕ)). cond r.ok (enter r.numbers o) none) (numbers-none m ms (drop r.at l) (found_none f e k))
+        ap (λ (o : Option (List ℕ)). cond r.ok (enter r.numbers o) None) (numbers-none m ms (drop r.at l) (found_none f e k))
         ∙ neither r.ok;
   }
 
@@ -197,16 +197,16 @@ pub all-fields : (l : List ℕ) → numbers_of record_marks l ≡ enter (replica
 all-fields l = go (numbers_of record_marks l) refl
   where
     go : (o : Option (List ℕ)) → numbers_of record_marks l ≡ o → o ≡ enter (replicate width 0) o
-    go none e = refl
-    go (some ns) e = ap some (fields-entered (numbers_sound record_marks l ns e).below)
+    go None e = refl
+    go (Some ns) e = ap Some (fields-entered (numbers_sound record_marks l ns e).below)
 
 -- a field for each mark, and the end of the line
 pub record_read : {l : List ℕ} {a b c d e f : Fields} → Next l form= (record { ok = true; at = 0; numbers = replicate width 0 }) a → Next l id= a b → Next l name= b c
     → Next l count= c d → Next l from= d e → Next l to= e f
-    → (f.at ≡ length l → numbers_of record_marks l ≡ fields_in f) × ((f.at ≡ length l → ⊥) → numbers_of record_marks l ≡ none)
+    → (f.at ≡ length l → numbers_of record_marks l ≡ fields_in f) × ((f.at ≡ length l → ⊥) → numbers_of record_marks l ≡ None)
 record_read {l} {f = f} form id name count from to =
     let k : numbers_of record_marks l ≡ said_of l f [] = all-fields l ∙ form.is (drop 1 record_marks) ∙ id.is (drop 2 record_marks) ∙ name.is (drop 3 record_marks)
     ∙ count.is (drop 4 record_marks) ∙ from.is (drop 5 record_marks) ∙ to.is [] in (
-      λ h. k ∙ ap (λ (o : Option (List ℕ)). cond f.ok (enter f.numbers o) none) (line_ends l h),
-      λ h. k ∙ ap (λ (o : Option (List ℕ)). cond f.ok (enter f.numbers o) none) (line_goes l to.inside h) ∙ neither f.ok,
+      λ h. k ∙ ap (λ (o : Option (List ℕ)). cond f.ok (enter f.numbers o) None) (line_ends l h),
+      λ h. k ∙ ap (λ (o : Option (List ℕ)). cond f.ok (enter f.numbers o) None) (line_goes l to.inside h) ∙ neither f.ok,
     )

@@ -1,7 +1,7 @@
 -- One line more: what the state then says.
+use Rattle.std.specs.Prelude.{None, Some}
 use Prim.Native.Nat.{ℕ, suc, ◌+◌, ◌*◌, ◌^◌, ◌≤◌, ◌<◌}
 use mathlib.Core.List.{List, [], ◌∷◌, ◌++◌}
-use mathlib.Core.Option.{none, some}
 use mathlib.Core.Path.{◌≡◌, refl, ap, sym, subst, ◌∙◌}
 use native.Mathlib.Omega.{arith}
 use lib.ListN.{length, take, drop, set, length-append, length-set}
@@ -28,26 +28,26 @@ module _ {r q : Reading} {n : ℕ} {cs : List ℕ} {rs : List Record} {T R T' R'
       let k : shown (r.lines + 1) ≡ shown (2 + length cs + length rs) = omega (arith, v.lines) in
       spoilt (ap (λ (x : Reading). x.bad) e ∙ k) d
 
-  pub class-none : length cs < n → numbers_of class_marks l ≡ none → Turned (says n cs rs) l q T' R'
+  pub class-none : length cs < n → numbers_of class_marks l ≡ None → Turned (says n cs rs) l q T' R'
   unfolding class
   class-none h o = spoils (line-class n cs rs l h ∙ ap (class n cs rs) o)
 
-  pub class_large : length cs < n → {c : ℕ} → numbers_of class_marks l ≡ some (c ∷ []) → 256 ≤ c → Turned (says n cs rs) l q T' R'
+  pub class_large : length cs < n → {c : ℕ} → numbers_of class_marks l ≡ Some (c ∷ []) → 256 ≤ c → Turned (says n cs rs) l q T' R'
   class_large h {c} o g = spoils (line-class n cs rs l h ∙ ap (class n cs rs) o ∙ class-over n cs rs (c ∷ []) g)
 
-  pub record_none : n ≤ length cs → numbers_of record_marks l ≡ none → Turned (says n cs rs) l q T' R'
+  pub record_none : n ≤ length cs → numbers_of record_marks l ≡ None → Turned (says n cs rs) l q T' R'
   unfolding entry
   record_none h o = spoils (line_record n cs rs l h ∙ ap (entry n cs rs) o)
 
 -- The first line
 
-pub first-none : (r : Reading) {q : Reading} {T R l : List ℕ} → q ≡ spoiled r → r.lines ≡ 0 → numbers_of names_marks l ≡ none → Turned nothing l q T R
+pub first-none : (r : Reading) {q : Reading} {T R l : List ℕ} → q ≡ spoiled r → r.lines ≡ 0 → numbers_of names_marks l ≡ None → Turned nothing l q T R
 unfolding next with_line first
 first-none r e h o =
     let k : shown (r.lines + 1) ≡ shown 1 = omega arith in
     spoilt (ap (λ (x : Reading). x.bad) e ∙ k) (ap first o)
 
-pub first_some : {T R l : List ℕ} {n : ℕ} → n < 2 ^ 32 → numbers_of names_marks l ≡ some (n ∷ []) → Turned nothing l (counted 1 n 0 0 0) T R
+pub first_some : {T R l : List ℕ} {n : ℕ} → n < 2 ^ 32 → numbers_of names_marks l ≡ Some (n ∷ []) → Turned nothing l (counted 1 n 0 0 0) T R
 unfolding with_line first layout
 first_some {T} {R} {l} {n} h o =
     let e : with_line nothing l ≡ says n [] [] = ap first o in
@@ -75,7 +75,7 @@ keeps_class cs T c k h =
     ap (λ (i : ℕ). take i (set T (length cs) c)) a ∙ take-suc-set T (length cs) c b ∙ ap (λ (m : List ℕ). m ++ (c ∷ [])) (k (omega arith))
 
 pub class-some : {r : Reading} {n : ℕ} {cs : List ℕ} {rs : List Record} {T R T' l : List ℕ} {a b c : ℕ} → Says r n cs rs T R → length cs < n → c < 256
-    → numbers_of class_marks l ≡ some (c ∷ []) → a ≡ shown (r.lines + 1) → b ≡ shown (r.classes + 1) → T' ≡ set T r.classes c
+    → numbers_of class_marks l ≡ Some (c ∷ []) → a ≡ shown (r.lines + 1) → b ≡ shown (r.classes + 1) → T' ≡ set T r.classes c
     → Turned (says n cs rs) l (counted a r.names b r.records 0) T' R
 class-some {r} {n} {cs} {rs} {T} {R} {T'} {l} {a} {b} {c} v h g o ea eb et =
     let e : with_line (says n cs rs) l ≡ says n (cs ++ (c ∷ [])) rs = line-class n cs rs l h ∙ ap (class n cs rs) o ∙ class-fits n cs rs (c ∷ []) g in
@@ -118,11 +118,11 @@ keeps_record rs R R' x i e k w h =
 row_is : {ns : List ℕ} → Below record_marks ns → ns ≡ put (record_of ns)
 row_is (one_more_lem a (one_more_lem b (one_more_lem c (one_more_lem d (one_more_lem e (one_more_lem f none_left)))))) = refl
 
-pub record_long : (l : List ℕ) {ns : List ℕ} → numbers_of record_marks l ≡ some ns → length ns ≡ width
+pub record_long : (l : List ℕ) {ns : List ℕ} → numbers_of record_marks l ≡ Some ns → length ns ≡ width
 record_long l {ns} o = ap length (row_is (numbers_sound record_marks l ns o).below)
 
 pub record_some : {r : Reading} {n : ℕ} {cs : List ℕ} {rs : List Record} {T R R' l ns : List ℕ} {a b : ℕ} → Says r n cs rs T R → n ≤ length cs
-    → numbers_of record_marks l ≡ some ns → a ≡ shown (r.lines + 1) → b ≡ shown (r.records + 1) → RowStored R r.records ns R'
+    → numbers_of record_marks l ≡ Some ns → a ≡ shown (r.lines + 1) → b ≡ shown (r.records + 1) → RowStored R r.records ns R'
     → Turned (says n cs rs) l (counted a r.names r.classes b 0) T R'
 unfolding entry
 record_some {r} {n} {cs} {rs} {T} {R} {R'} {l} {ns} v h o ea eb w =

@@ -1,6 +1,5 @@
 -- What a byte string says, read as the input of document 01, "The printed facts".
-use Rattle.std.specs.Prelude.{ℕ, ◌+◌, ◌-◌, ◌*◌, ◌^◌, Bool, true, false, ◌&&◌, List, [], ◌∷◌, ◌++◌, eqb, leb, ltb, length, get_or}
-use Rattle.std.proofs.Math.Option.{Option, none, some}
+use Rattle.std.specs.Prelude.{ℕ, ◌+◌, ◌-◌, ◌*◌, ◌^◌, Bool, true, false, ◌&&◌, List, [], ◌∷◌, ◌++◌, eqb, leb, ltb, length, get_or, Option, None, Some}
 use Rattle.tree.specs.Record.{Record}
 use Rattle.printing.specs.Text.{LF, names_marks, class_marks, record_marks}
 
@@ -8,9 +7,9 @@ use Rattle.printing.specs.Text.{LF, names_marks, class_marks, record_marks}
 
 -- what follows the mark m, where l starts with it
 unfoldable pub after : List ℕ → List ℕ → Option (List ℕ)
-after [] l = some l
-after (m ∷ ms) [] = none
-after (m ∷ ms) (x ∷ l) = elim (eqb m x) [ true ↦ after ms l | false ↦ none ]
+after [] l = Some l
+after (m ∷ ms) [] = None
+after (m ∷ ms) (x ∷ l) = elim (eqb m x) [ true ↦ after ms l | false ↦ None ]
 
 pub record Numbered : Type 0 where
   pub value : ℕ
@@ -26,30 +25,30 @@ digits v (x ∷ l) = elim (is_digit x) [ true ↦ digits (10 * v + (x - 48)) l |
 
 -- below 2^32
 unfoldable pub fit : Numbered → Option Numbered
-fit n = elim (ltb n.value (2 ^ 32)) [ true ↦ some n | false ↦ none ]
+fit n = elim (ltb n.value (2 ^ 32)) [ true ↦ Some n | false ↦ None ]
 
 -- the number at the start of l: a 0 alone, or digits of which the first is not 0
 unfoldable pub number_at : List ℕ → Option Numbered
-number_at [] = none
-number_at (x ∷ l) = elim (eqb x 48) [ true ↦ some (record { value = 0; rest = l }) | false ↦ elim (is_digit x) [ true ↦ fit (digits (x - 48) l) | false ↦ none ] ]
+number_at [] = None
+number_at (x ∷ l) = elim (eqb x 48) [ true ↦ Some (record { value = 0; rest = l }) | false ↦ elim (is_digit x) [ true ↦ fit (digits (x - 48) l) | false ↦ None ] ]
 
 -- the number after the mark m
 abbrev pub number_if : Option (List ℕ) → Option Numbered
-number_if none = none
-number_if (some l) = number_at l
+number_if None = None
+number_if (Some l) = number_at l
 
 unfoldable pub field_at : List ℕ → List ℕ → Option Numbered
 field_at m l = number_if (after m l)
 
 abbrev pub onto : ℕ → Option (List ℕ) → Option (List ℕ)
-onto n none = none
-onto n (some ns) = some (n ∷ ns)
+onto n None = None
+onto n (Some ns) = Some (n ∷ ns)
 
 -- the numbers of a line of these marks
 unfoldable pub numbers_of : List (List ℕ) → List ℕ → Option (List ℕ)
-numbers_of [] [] = some []
-numbers_of [] (x ∷ l) = none
-numbers_of (m ∷ ms) l = elim (field_at m l) [ none ↦ none | some n ↦ onto n.value (numbers_of ms n.rest) ]
+numbers_of [] [] = Some []
+numbers_of [] (x ∷ l) = None
+numbers_of (m ∷ ms) l = elim (field_at m l) [ None ↦ None | Some n ↦ onto n.value (numbers_of ms n.rest) ]
 
 -- What the lines so far say
 
@@ -67,19 +66,19 @@ next (differs k) = k
 -- What the numbers of a line, if it has them, add: of the first line, of a class line and of a record line
 
 unfoldable pub first : Option (List ℕ) → Said
-first none = differs 1
-first (some ns) = says (get_or ns 0 0) [] []
+first None = differs 1
+first (Some ns) = says (get_or ns 0 0) [] []
 
 unfoldable pub class : ℕ → List ℕ → List Record → Option (List ℕ) → Said
-class n cs rs none = differs (next (says n cs rs))
-class n cs rs (some ns) = elim (ltb (get_or ns 0 0) 256) [ true ↦ says n (cs ++ (get_or ns 0 0 ∷ [])) rs | false ↦ differs (next (says n cs rs)) ]
+class n cs rs None = differs (next (says n cs rs))
+class n cs rs (Some ns) = elim (ltb (get_or ns 0 0) 256) [ true ↦ says n (cs ++ (get_or ns 0 0 ∷ [])) rs | false ↦ differs (next (says n cs rs)) ]
 
 abbrev pub record_of : List ℕ → Record
 record_of ns = record { form = get_or ns 0 0; id = get_or ns 1 0; name = get_or ns 2 0; count = get_or ns 3 0; from = get_or ns 4 0; to = get_or ns 5 0 }
 
 unfoldable pub entry : ℕ → List ℕ → List Record → Option (List ℕ) → Said
-entry n cs rs none = differs (next (says n cs rs))
-entry n cs rs (some ns) = says n cs (rs ++ (record_of ns ∷ []))
+entry n cs rs None = differs (next (says n cs rs))
+entry n cs rs (Some ns) = says n cs (rs ++ (record_of ns ∷ []))
 
 -- with one line more
 unfoldable pub with_line : Said → List ℕ → Said

@@ -1,8 +1,8 @@
 -- The limits by form are the rows of the table of forms: to be within them is to be sound.
+use Rattle.std.specs.Prelude.{Option, None, Some}
 use Prim.Native.Nat.{ℕ, zero, suc, ◌+◌, ◌*◌, ◌≤◌, ◌<◌}
 use mathlib.Core.List.{List}
 use mathlib.Core.Bool.{Bool, true, false, cond, ◌&&◌, ◌||◌, true≢false}
-use mathlib.Core.Option.{Option, none, some}
 use mathlib.Core.Path.{◌≡◌, refl, sym, ap, subst, ◌∙◌}
 use native.Mathlib.Omega.{arith}
 use native.Mathlib.Decide.{ℕ_discrete}
@@ -22,16 +22,16 @@ limit_at t j e = ap (λ (n : ℕ). limit_of t n j) e
 -- The parts of what a record's fields may be; an unknown form counts as one with no id, no name and no count
 
 abbrev name_below_in : Option Form → ℕ → ℕ
-name_below_in none N = 1
-name_below_in (some f) N = f.name_below N
+name_below_in None N = 1
+name_below_in (Some f) N = f.name_below N
 
 abbrev count_most_in : Option Form → ℕ
-count_most_in none = 0
-count_most_in (some f) = f.count_most
+count_most_in None = 0
+count_most_in (Some f) = f.count_most
 
 parts : (N : ℕ) (r : Record) (o : Option Form) → fits_as N r o ≡ is_form o && (id_fits (has_id_in o) r.id && (ltb r.name (name_below_in o N) && leb r.count (count_most_in o)))
-parts N r none = refl
-parts N r (some f) = refl
+parts N r None = refl
+parts N r (Some f) = refl
 
 -- how many names may be due where a record of form f stands: none but an identifier takes a name's place, and a record has 255 names at the most
 unfoldable due_most : ℕ → ℕ

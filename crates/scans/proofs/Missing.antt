@@ -1,7 +1,7 @@
 -- Check 4 counts: after i records the number is that of all the children to come.
+use Rattle.std.specs.Prelude.{None, Some}
 use Prim.Native.Nat.{ℕ, ◌+◌, ◌-◌, ◌*◌, ◌≤◌, ◌<◌}
 use mathlib.Core.List.{List, []}
-use mathlib.Core.Option.{none, some}
 use mathlib.Core.Path.{◌≡◌, refl, sym, ◌∙◌}
 use native.Mathlib.Omega.{arith}
 use borrow.Author.Tests.{eq-eqb, ne_eqb}
@@ -39,10 +39,10 @@ module _ {rs : List ℕ} {i places : ℕ} (a : Counting rs i places) where
     at-end : left [] (records rs) ≡ a.s
     at-end = a.rest ∙ left_end (records rs) blank i a.s h
 
-    pub none_missing : places ≡ 0 → none ≡ check4 N rs
+    pub none_missing : places ≡ 0 → None ≡ check4 N rs
     unfolding check4
     none_missing e = rw (at-end, eq-eqb (length a.s) 0 (none_open a.s a.live (sym a.all ∙ e)))
 
-    pub some_missing : (places ≡ 0 → ⊥) → some (length (records rs)) ≡ check4 N rs
+    pub some_missing : (places ≡ 0 → ⊥) → Some (length (records rs)) ≡ check4 N rs
     unfolding check4
     some_missing e = rw (at-end, ne_eqb (length a.s) 0 (λ z. omega (arith, some_open a.s (omega (arith, a.all)))))

@@ -1,8 +1,8 @@
 -- Check 6: while every name's place so far held a name, only the innermost open record has names to come.
+use Rattle.std.specs.Prelude.{None, Some}
 use Prim.Native.Nat.{ℕ, zero, suc, ◌+◌, ◌-◌, ◌≤◌, ◌<◌}
 use mathlib.Core.List.{List, [], ◌∷◌}
 use mathlib.Core.Bool.{true, false}
-use mathlib.Core.Option.{none, some}
 use mathlib.Core.Path.{◌≡◌, refl, ap, sym, subst, ◌∙◌}
 use native.Mathlib.Omega.{arith}
 use native.Mathlib.Decide.{dec_lt}
@@ -132,16 +132,16 @@ module _ {rs : List ℕ} {i d : ℕ} (a : Naming rs i d) where
     pub naming-next : (n : ℕ) → (0 < d → (nth rs i).form ≡ 1) → n ≡ d - 1 + names_of (nth rs i).form (nth rs i).count → Naming rs (i + 1) n
     naming-next n g e = either n g e (dec_lt 0 d)
 
-    pub misnamed_here : 0 < d → (f : ℕ) → f ≡ (nth rs i).form → (f ≡ 1 → ⊥) → (N : ℕ) → some i ≡ check6 N rs
+    pub misnamed_here : 0 < d → (f : ℕ) → f ≡ (nth rs i).form → (f ≡ 1 → ⊥) → (N : ℕ) → Some i ≡ check6 N rs
     unfolding check6
     misnamed_here z f ef e N = sym (at_record ∙ first_hit notAName i (placing a.s (nth rs i)) _ (rw (is_due_lem a.s d z a.names, ← ef, ne_eqb f 1 e)))
 
-    pub none-due : 0 < d → (N : ℕ) → check6 N rs ≡ none → (nth rs i).form ≡ 1
+    pub none-due : 0 < d → (N : ℕ) → check6 N rs ≡ None → (nth rs i).form ≡ 1
     unfolding check6
     none-due z N e =
         let f = first-none notAName i (placing a.s (nth rs i)) _ (sym at_record ∙ e) in
         eqb-true _ 1 (not-false _ (rw (is_due_lem a.s d z a.names) at f))
 
-  pub none_misnamed : length (records rs) ≤ i → (N : ℕ) → none ≡ check6 N rs
+  pub none_misnamed : length (records rs) ≤ i → (N : ℕ) → None ≡ check6 N rs
   unfolding check6 first
   none_misnamed h N = sym (a.rest ∙ ap (λ (l : List Placed). on i (first notAName l)) (placed_end (records rs) blank i a.s h))

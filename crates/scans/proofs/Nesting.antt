@@ -1,7 +1,7 @@
 -- Check 5: the walk of a tree. Its records stand first in l, the first of them at the nesting level.
+use Rattle.std.specs.Prelude.{None, Some}
 use Prim.Native.Nat.{ℕ, suc, ◌+◌, ◌-◌, ◌*◌, ◌≤◌, ◌<◌}
 use mathlib.Core.List.{List, [], ◌∷◌}
-use mathlib.Core.Option.{none, some}
 use mathlib.Core.Path.{◌≡◌, refl, ap, sym, subst, ◌∙◌}
 use native.Mathlib.Omega.{arith}
 use borrow.Author.Tests.{lt-ltb, le-ltb}
@@ -118,12 +118,12 @@ module _ {l : List Record} {used : ℕ} (a : Top l used) where
         ∙ ap (λ (k : List Record). on (used + m) (first_deep [] k)) (drop-drop m used l);
   }
 
-  pub top-deep : (j : ℕ) → DeepAt (drop used l) 1 j → (used + j < length l) × (some (used + j) ≡ first_deep [] l)
+  pub top-deep : (j : ℕ) → DeepAt (drop used l) 1 j → (used + j < length l) × (Some (used + j) ≡ first_deep [] l)
   top-deep j d = (omega (arith, d.within, length-drop used l, a.within), sym (a.rest ∙ ap (on used) (d.here [] refl)))
 
-  pub top_ends : EndsFirst (drop used l) 1 → none ≡ first_deep [] l
+  pub top_ends : EndsFirst (drop used l) 1 → None ≡ first_deep [] l
   top_ends d = sym (a.rest ∙ ap (on used) (d.none [] refl))
 
-  pub top-end : length l ≤ used → none ≡ first_deep [] l
+  pub top-end : length l ≤ used → None ≡ first_deep [] l
   unfolding first
   top-end h = sym (a.rest ∙ ap (λ (k : List Placed). on used (first is_deep k)) (placed_end l blank used [] h))

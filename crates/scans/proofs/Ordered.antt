@@ -1,8 +1,8 @@
 -- Check 8 where ids come in order: the loop that tells, and that none repeats.
+use Rattle.std.specs.Prelude.{None}
 use Prim.Native.Nat.{ℕ, zero, suc, ◌+◌, ◌≤◌, ◌<◌}
 use mathlib.Core.List.{List, []}
 use mathlib.Core.Bool.{Bool, true, false, cond}
-use mathlib.Core.Option.{none}
 use mathlib.Core.Path.{◌≡◌, refl, ap, sym, subst, subst⁻¹, ◌∙◌}
 use native.Mathlib.Omega.{arith}
 use native.Mathlib.Decide.{dec_lt}
@@ -40,7 +40,7 @@ module _ {rising : Bool} {rs : List ℕ} (o : InOrder rising rs) where
       let e : i + 1 ≡ suc i = omega arith in
       subst (Compared rs) e (ids_next (compared i (omega arith)) (omega arith) refl (new i (omega arith) (dec_lt 0 (nth rs i).id)))
 
-  pub none_repeats : none ≡ repeated [] (records rs)
+  pub none_repeats : None ≡ repeated [] (records rs)
   none_repeats = ids_end (compared (length (records rs)) (omega arith)) (omega arith)
 
 -- The loop

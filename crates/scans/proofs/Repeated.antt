@@ -1,8 +1,8 @@
 -- Check 8: the ids before record i, latest first, are those that `repeated` has seen there.
+use Rattle.std.specs.Prelude.{None, Some}
 use Prim.Native.Nat.{ℕ, suc, ◌+◌, ◌≤◌, ◌<◌}
 use mathlib.Core.List.{List, [], ◌∷◌}
 use mathlib.Core.Bool.{Bool, true, false, not, ◌&&◌}
-use mathlib.Core.Option.{none, some}
 use mathlib.Core.Path.{◌≡◌, ap, sym, ◌∙◌}
 use native.Mathlib.Omega.{arith}
 use borrow.Author.Tests.{eq-eqb, ne_eqb}
@@ -42,9 +42,9 @@ module _ {rs : List ℕ} {i : ℕ} (a : Compared rs i) where
     at_record : repeated [] (records rs) ≡ on i (repeated (seen rs i) (nth rs i ∷ drop (suc i) (records rs)))
     at_record = a.rest ∙ ap (λ (l : List Record). on i (repeated (seen rs i) l)) (drop-cons (records rs) i blank h)
 
-    pub ids_hit : {r : Bool} → r ≡ again rs i → r ≡ true → some i ≡ repeated [] (records rs)
+    pub ids_hit : {r : Bool} → r ≡ again rs i → r ≡ true → Some i ≡ repeated [] (records rs)
     unfolding repeated
-    ids_hit e g = let t = sym e ∙ g in sym (at_record ∙ rw t (ap some (omega arith)))
+    ids_hit e g = let t = sym e ∙ g in sym (at_record ∙ rw t (ap Some (omega arith)))
 
     pub ids_next : {r : Bool} → r ≡ again rs i → r ≡ false → Compared rs (i + 1)
     unfolding repeated
@@ -54,6 +54,6 @@ module _ {rs : List ℕ} {i : ℕ} (a : Compared rs i) where
         let later = repeated ((nth rs i).id ∷ seen rs i) (drop (suc i) (records rs)) in
         record { within = omega arith; rest = at_record ∙ rw (t, z) (on-on i 1 later ∙ ap (λ (k : ℕ). on k later) z) }
 
-  pub ids_end : length (records rs) ≤ i → none ≡ repeated [] (records rs)
+  pub ids_end : length (records rs) ≤ i → None ≡ repeated [] (records rs)
   unfolding repeated
   ids_end h = sym (a.rest ∙ ap (λ (l : List Record). on i (repeated (seen rs i) l)) (drop_of_length-le (records rs) h))

@@ -1,8 +1,8 @@
 -- A loop over the records that looks for the first where a test holds: it has come to record i, and what is to be found is found from there on.
+use Rattle.std.specs.Prelude.{None, Some}
 use Prim.Native.Nat.{ℕ, ◌+◌, ◌≤◌, ◌<◌}
 use mathlib.Core.List.{List}
 use mathlib.Core.Bool.{Bool, true, false, not}
-use mathlib.Core.Option.{none, some}
 use mathlib.Core.Path.{◌≡◌, sym, ◌∙◌}
 use native.Mathlib.Omega.{arith}
 use lib.ListN.{length, drop}
@@ -23,14 +23,14 @@ module _ (test : Record → Bool) (rs : List ℕ) where
   pub begin : At 0
   begin = record { within = omega arith; rest = sym (on-zero _) }
 
-  pub hit : {i : ℕ} → At i → i < length (records rs) → test (nth rs i) ≡ true → some i ≡ first test (records rs)
+  pub hit : {i : ℕ} → At i → i < length (records rs) → test (nth rs i) ≡ true → Some i ≡ first test (records rs)
   hit {i} a h t = sym (a.rest ∙ from_hit test (records rs) blank i h t)
 
   pub next : {i : ℕ} → At i → i < length (records rs) → test (nth rs i) ≡ false → At (i + 1)
   next {i} a h t = record { within = omega arith; rest = a.rest ∙ from_next test (records rs) blank i h t }
 
-  pub fails : {i : ℕ} → At i → i < length (records rs) → first test (records rs) ≡ none → test (nth rs i) ≡ false
+  pub fails : {i : ℕ} → At i → i < length (records rs) → first test (records rs) ≡ None → test (nth rs i) ≡ false
   fails {i} a h e = from_none test (records rs) blank i h (sym a.rest ∙ e)
 
-  pub end : {i : ℕ} → At i → length (records rs) ≤ i → none ≡ first test (records rs)
+  pub end : {i : ℕ} → At i → length (records rs) ≤ i → None ≡ first test (records rs)
   end {i} a h = sym (a.rest ∙ from_end test (records rs) blank i h)

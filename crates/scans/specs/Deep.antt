@@ -1,6 +1,5 @@
 -- The first record nested too deep.
-use Rattle.std.specs.Prelude.{ℕ, List, Bool, ltb}
-use Rattle.std.proofs.Math.Option.{Option}
+use Rattle.std.specs.Prelude.{ℕ, List, Bool, ltb, Option}
 use Rattle.tree.specs.Record.{Record}
 use Rattle.tree.specs.Place.{Open, Placed, placed}
 use Rattle.tree.specs.First.{first}

@@ -1,17 +1,16 @@
 -- A refusal in two numbers, as C is told it.
-use Rattle.std.specs.Prelude.{ℕ, List, ◌≡◌}
-use Rattle.std.proofs.Math.Option.{Option, none, some}
+use Rattle.std.specs.Prelude.{ℕ, List, ◌≡◌, Option, None, Some}
 use Rattle.tree.specs.Check.{Refusal}
 use Rattle.pass.specs.Run.{Tables, Outcome}
 
 -- 0 where nothing is refused
 abbrev pub number_told : Option Refusal → ℕ
-number_told none = 0
-number_told (some r) = r.number
+number_told None = 0
+number_told (Some r) = r.number
 
 abbrev pub record_told : Option Refusal → ℕ
-record_told none = 0
-record_told (some r) = r.at
+record_told None = 0
+record_told (Some r) = r.at
 
 -- what an operation with this contract tells, and the tables that it leaves
 pub record Tells (Contract : List ℕ → List ℕ → Tables → Outcome → Type 0) (classes rs : List ℕ) (t : Tables) (n i : ℕ) (t' : Tables) : Type 0 where

@@ -1,6 +1,5 @@
 -- What the code holds, and what each operation says of it. The contracts speak of every map held; there is at most one.
-use Rattle.std.specs.Prelude.{ℕ, ◌+◌, ◌-◌, ◌≤◌, ◌<◌, List, [], ◌∷◌, cond, ◌≡◌, length, drop, eqb, ltb}
-use Rattle.std.proofs.Math.Option.{Option, none, some}
+use Rattle.std.specs.Prelude.{ℕ, ◌+◌, ◌-◌, ◌≤◌, ◌<◌, List, [], ◌∷◌, cond, ◌≡◌, length, drop, eqb, ltb, Option, None, Some}
 use Rattle.scope_map.specs.ScopeMap.{Live, ScopeMap, is_at, below_layer, get, depth_of, has_at_top, define, newest_layer}
 use Rattle.scope_map.specs.Rows.{live_in, rows_from}
 use Rattle.scope_map.specs.Hints.{map_length, Roomy, Indexed}
@@ -40,8 +39,8 @@ found_in [] x = Nothing
 found_in (e ∷ l) x = cond (eqb e.name x) (At (length l) e.layer e.value) (found_in l x)
 
 abbrev pub entry_of : ℕ → Found → Option (Live ℕ)
-entry_of x (At i d v) = some (record { name = x; layer = d; value = v })
-entry_of x Nothing = none
+entry_of x (At i d v) = Some (record { name = x; layer = d; value = v })
+entry_of x Nothing = None
 
 pub record Gets (m : Map) (t : List ℕ) (x : ℕ) (r : Found) : Type 0 where
   pub is : (s : ScopeMap ℕ) → Held m t s → entry_of x r ≡ get s x
@@ -49,8 +48,8 @@ pub record Gets (m : Map) (t : List ℕ) (x : ℕ) (r : Found) : Type 0 where
   pub below : (i d v : ℕ) → r ≡ At i d v → i < m.length
 
 abbrev pub distance_in : ScopeMap ℕ → Option (Live ℕ) → Distance
-distance_in s none = distance.Nothing
-distance_in s (some e) = distance.Layers (depth_of s e)
+distance_in s None = distance.Nothing
+distance_in s (Some e) = distance.Layers (depth_of s e)
 
 abbrev pub distance_of : ScopeMap ℕ → ℕ → Distance
 distance_of s x = distance_in s (get s x)

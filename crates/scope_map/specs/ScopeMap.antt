@@ -1,6 +1,5 @@
 -- `ScopeMap`: layers of names, each with a value, as the list of live names. Document 01, "Parts, leaves first", 1.
-use Rattle.std.specs.Prelude.{ℕ, suc, ◌-◌, List, [], ◌∷◌, ◌++◌, Bool, false, cond, ◌&&◌, ◌||◌, eqb, ltb}
-use Rattle.std.proofs.Math.Option.{Option, none, some}
+use Rattle.std.specs.Prelude.{ℕ, suc, ◌-◌, List, [], ◌∷◌, ◌++◌, Bool, false, cond, ◌&&◌, ◌||◌, eqb, ltb, Option, None, Some}
 
 -- a live name: the layer it was defined in, the bottom one being 1, and its value
 pub record Live (A : Type 0) : Type 0 where
@@ -45,8 +44,8 @@ module _ {A : Type 0} where
 
   -- the newest value of a name
   unfoldable pub get_in : List (Live A) → ℕ → Option (Live A)
-  get_in [] x = none
-  get_in (e ∷ l) x = cond (eqb e.name x) (some e) (get_in l x)
+  get_in [] x = None
+  get_in (e ∷ l) x = cond (eqb e.name x) (Some e) (get_in l x)
 
   abbrev pub get : ScopeMap A → ℕ → Option (Live A)
   get m x = get_in m.live x

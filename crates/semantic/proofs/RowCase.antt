@@ -1,8 +1,8 @@
 -- Whole rows of the facts, against their numbers. No place of the code stands here.
+use Rattle.std.specs.Prelude.{Option, None, Some}
 use Prim.Native.Nat.{ℕ, ◌+◌, ◌*◌}
 use mathlib.Core.List.{List, [], ◌∷◌}
 use mathlib.Core.Bool.{Bool, true, false, cond}
-use mathlib.Core.Option.{Option, none, some}
 use mathlib.Core.Path.{◌≡◌, refl, ap, sym, ◌∙◌}
 use native.Mathlib.Omega.{arith}
 use borrow.Author.Tests.{eq-eqb, ne_eqb}
@@ -49,15 +49,15 @@ module _ (F : List ℕ) (i : ℕ) {B : Type 0} (test : ℕ → Bool) (f g : Row 
 
 -- the fact that a row holds whose first number is n
 module _ (F : List ℕ) (i n : ℕ) {A : Type 0} (decode : List ℕ → A) (g : Row → Option A)
-    (back : (r : Row) → cond (eqb (get_or (put_row r) 0 0) n) (some (decode (put_row r))) none ≡ g r) where
-  pub found : get_or F (row_width * i) 0 ≡ n → {row : List ℕ} → Tells put_row Blank put_row F i row → Tells put_row Blank g F i (some (decode row))
+    (back : (r : Row) → cond (eqb (get_or (put_row r) 0 0) n) (Some (decode (put_row r))) None ≡ g r) where
+  pub found : get_or F (row_width * i) 0 ≡ n → {row : List ℕ} → Tells put_row Blank put_row F i row → Tells put_row Blank g F i (Some (decode row))
   found k t =
-      told F i (λ m. eqb m n) (λ r. some (decode (put_row r))) g none back (eq-eqb (get_or F (row_width * i) 0) n k)
-      (record { is = λ l e h. ap (λ (m : List ℕ). some (decode m)) (t.is l e h) })
+      told F i (λ m. eqb m n) (λ r. Some (decode (put_row r))) g None back (eq-eqb (get_or F (row_width * i) 0) n k)
+      (record { is = λ l e h. ap (λ (m : List ℕ). Some (decode m)) (t.is l e h) })
 
-  pub not_found : (get_or F (row_width * i) 0 ≡ n → ⊥) → Tells put_row Blank g F i none
+  pub not_found : (get_or F (row_width * i) 0 ≡ n → ⊥) → Tells put_row Blank g F i None
   not_found k =
-      told F i (λ m. eqb m n) (λ r. some (decode (put_row r))) g none back (ne_eqb (get_or F (row_width * i) 0) n k) (record { is = λ l e h. refl })
+      told F i (λ m. eqb m n) (λ r. Some (decode (put_row r))) g None back (ne_eqb (get_or F (row_width * i) 0) n k) (record { is = λ l e h. refl })
 
 refers_back : (r : Row) → cond (is_identifier (get_or (put_row r) 0 0)) (get_or (put_row r) 7 0) NONE ≡ refers_in r
 unfolding put_row

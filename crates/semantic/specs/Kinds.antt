@@ -1,6 +1,5 @@
 -- What a row of the facts is, and what it says.
-use Rattle.std.specs.Prelude.{ℕ, Bool, true, false, cond, eqb, ltb}
-use Rattle.std.proofs.Math.Option.{Option, none, some}
+use Rattle.std.specs.Prelude.{ℕ, Bool, true, false, cond, eqb, ltb, Option, None, Some}
 use Rattle.semantic.specs.Information.{NONE}
 use Rattle.semantic.specs.Rows.{Row, Blank, Variable, Function, CallSite, Let}
 use Rattle.semantic.specs.declared.CallKind.{CallKind}
@@ -54,27 +53,27 @@ refers_in (Let v) = NONE
 
 -- the fact of a lambda, of a let
 abbrev pub function_in : Row → Option FunctionInformation
-function_in Blank = none
-function_in (Variable v) = none
-function_in (Function v) = some v
-function_in (CallSite v) = none
-function_in (Let v) = none
+function_in Blank = None
+function_in (Variable v) = None
+function_in (Function v) = Some v
+function_in (CallSite v) = None
+function_in (Let v) = None
 
 abbrev pub let_in : Row → Option LetInformation
-let_in Blank = none
-let_in (Variable v) = none
-let_in (Function v) = none
-let_in (CallSite v) = none
-let_in (Let v) = some v
+let_in Blank = None
+let_in (Variable v) = None
+let_in (Function v) = None
+let_in (CallSite v) = None
+let_in (Let v) = Some v
 
 -- what the code answers for them
 abbrev pub function_found : FoundFunction → Option FunctionInformation
-function_found (function.Found v) = some v
-function_found function.Nothing = none
+function_found (function.Found v) = Some v
+function_found function.Nothing = None
 
 abbrev pub let_found : FoundLet → Option LetInformation
-let_found (letin.Found v) = some v
-let_found letin.Nothing = none
+let_found (letin.Found v) = Some v
+let_found letin.Nothing = None
 
 abbrev pub is_call_site : Row → Bool
 is_call_site Blank = false

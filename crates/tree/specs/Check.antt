@@ -1,6 +1,5 @@
 -- Checks 1 to 8 and 16: each over the whole input before the next, each with the first record it applies to. Document 01, "What the operations answer".
-use Rattle.std.specs.Prelude.{ℕ, ◌%◌, List, [], ◌∷◌, Bool, true, false, cond, not, ◌&&◌, ◌||◌, length, eqb, ltb}
-use Rattle.std.proofs.Math.Option.{Option, none, some}
+use Rattle.std.specs.Prelude.{ℕ, ◌%◌, List, [], ◌∷◌, Bool, true, false, cond, not, ◌&&◌, ◌||◌, length, eqb, ltb, Option, None, Some}
 use Rattle.tree.specs.Record.{Record, width, records}
 use Rattle.tree.specs.Form.{fits}
 use Rattle.tree.specs.Place.{placed, left}
@@ -13,8 +12,8 @@ pub record Refusal : Type 0 where
 
 -- the record i where the test holds
 abbrev pub when : Bool → ℕ → Option ℕ
-when true i = some i
-when false i = none
+when true i = Some i
+when false i = None
 
 -- an id that is not 0 and stands earlier too
 abbrev pub member : ℕ → List ℕ → Bool
@@ -22,13 +21,13 @@ member i [] = false
 member i (j ∷ l) = eqb i j || member i l
 
 unfoldable pub repeated : List ℕ → List Record → Option ℕ
-repeated seen [] = none
-repeated seen (r ∷ l) = cond (not (eqb r.id 0) && member r.id seen) (some 0) (on 1 (repeated (r.id ∷ seen) l))
+repeated seen [] = None
+repeated seen (r ∷ l) = cond (not (eqb r.id 0) && member r.id seen) (Some 0) (on 1 (repeated (r.id ∷ seen) l))
 
 -- a check's number with the record that it refuses, else what the later checks say
 abbrev pub or_else : ℕ → Option ℕ → Option Refusal → Option Refusal
-or_else n (some i) o = some (record { number = n; at = i })
-or_else n none o = o
+or_else n (Some i) o = Some (record { number = n; at = i })
+or_else n None o = o
 
 -- a when or an unless of nothing
 abbrev pub untested : Record → Bool
@@ -83,4 +82,4 @@ module _ (N : ℕ) (rs : List ℕ) where
       (or_else 6 check6
       (or_else 7 check7
       (or_else 16 check16
-      (or_else 8 check8 none))))))))
+      (or_else 8 check8 None))))))))

@@ -1,7 +1,5 @@
 -- The twelve forms: what a record of each may hold, and how many children it has. Document 01, "The tree".
-use Rattle.std.specs.Prelude.{ℕ, zero, suc, ◌+◌, List, [], ◌∷◌, Bool, true, false, ◌&&◌, eqb, leb, ltb}
-use Rattle.std.proofs.Math.Option.{Option, none, some}
-use Rattle.std.proofs.Math.ListN.{get_elem?}
+use Rattle.std.specs.Prelude.{ℕ, zero, suc, ◌+◌, List, [], ◌∷◌, Bool, true, false, ◌&&◌, eqb, leb, ltb, Option, None, Some, slice_get}
 use Rattle.tree.specs.Record.{Record}
 
 -- A row of the document's table of forms
@@ -34,26 +32,26 @@ forms =
 
 -- the form of a number
 unfoldable pub form_of : ℕ → Option Form
-form_of zero = none
-form_of (suc n) = get_elem? forms n
+form_of zero = None
+form_of (suc n) = slice_get forms n
 
 -- whether a form is known, and whether it has an id
 abbrev pub is_form : Option Form → Bool
-is_form none = false
-is_form (some f) = true
+is_form None = false
+is_form (Some f) = true
 
 abbrev pub has_id_in : Option Form → Bool
-has_id_in none = false
-has_id_in (some f) = f.has_id
+has_id_in None = false
+has_id_in (Some f) = f.has_id
 
 -- the children of a record of form f and count c
 abbrev pub names_in : Option Form → ℕ → ℕ
-names_in none c = 0
-names_in (some f) c = f.names c
+names_in None c = 0
+names_in (Some f) c = f.names c
 
 abbrev pub others_in : Option Form → ℕ → ℕ
-others_in none c = 0
-others_in (some f) c = f.others c
+others_in None c = 0
+others_in (Some f) c = f.others c
 
 unfoldable pub names_of : ℕ → ℕ → ℕ
 names_of f c = names_in (form_of f) c
@@ -70,8 +68,8 @@ id_fits true i = leb 1 i && leb i 4294967294
 id_fits false i = eqb i 0
 
 abbrev pub fits_as : ℕ → Record → Option Form → Bool
-fits_as N r none = false
-fits_as N r (some f) = id_fits f.has_id r.id && (ltb r.name (f.name_below N) && leb r.count f.count_most)
+fits_as N r None = false
+fits_as N r (Some f) = id_fits f.has_id r.id && (ltb r.name (f.name_below N) && leb r.count f.count_most)
 
 unfoldable pub fits : ℕ → Record → Bool
 fits N r = fits_as N r (form_of r.form)

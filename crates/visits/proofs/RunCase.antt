@@ -1,7 +1,7 @@
 -- A run from its start: what its names rely on as they enter, and then its first tree.
+use Rattle.std.specs.Prelude.{Option, None, Some}
 use Prim.Native.Nat.{ℕ}
 use mathlib.Core.List.{List}
-use mathlib.Core.Option.{Option, none, some}
 use mathlib.Core.Path.{◌≡◌, refl, sym, subst}
 use lib.ListN.{length}
 use Rattle.tree.specs.Tree.{Trees, sizes}
@@ -25,13 +25,13 @@ use Rattle.work.specs.Laws.Known.{known_ident}
 use Rattle.visits.proofs.Views.{small}
 
 -- what is not refused has no refusal 10
-no_ten : (n : Noted) → refused_first n ≡ none → n.ten ≡ none
+no_ten : (n : Noted) → refused_first n ≡ None → n.ten ≡ None
 no_ten n e = go n.nine n.ten e
   where
-    go : (a b : Option ℕ) → nine_or a (ten_at b) ≡ none → b ≡ none
-    go a none e = refl
-    go none (some i) e = cc
-    go (some j) (some i) e = cc
+    go : (a b : Option ℕ) → nine_or a (ten_at b) ≡ None → b ≡ None
+    go a None e = refl
+    go None (Some i) e = cc
+    go (Some j) (Some i) e = cc
 
 all_known : {N : ℕ} {rs : List ℕ} {ts : Trees} → Accepted N rs ts → HoldsAll (Known rs) ts
 all_known {rs = rs} {ts} a = trees_hold (Known rs) (λ x i. known_ident i) ts (accepted_stand a)

@@ -1,7 +1,7 @@
 -- What is known where a visit begins: the part of a child, the state, and the identifiers of the tree.
+use Rattle.std.specs.Prelude.{Option, Some}
 use Prim.Native.Nat.{ℕ, ◌+◌, ◌*◌, ◌≤◌, ◌<◌}
 use mathlib.Core.List.{List}
-use mathlib.Core.Option.{Option, some}
 use mathlib.Core.Path.{◌≡◌, ap, subst, ◌∙◌}
 use native.Mathlib.Omega.{arith}
 use lib.ListN.{length, get_or, drop}
@@ -99,12 +99,12 @@ end_fits {s = s} t e b =
 
 -- a let that begins, and one that ends
 
-pub let_list : (s : State) {i j : ℕ} → i ≡ j → ((v : LetInformation) → let_in (row_at s i) ≡ some v → end_of v.arguments ≤ list_entries_most)
-    → (v : LetInformation) → let_in (row_at s j) ≡ some v → Inside v.arguments
+pub let_list : (s : State) {i j : ℕ} → i ≡ j → ((v : LetInformation) → let_in (row_at s i) ≡ Some v → end_of v.arguments ≤ list_entries_most)
+    → (v : LetInformation) → let_in (row_at s j) ≡ Some v → Inside v.arguments
 let_list s e h v f = h v (ap (λ (k : ℕ). let_in (row_at s k)) e ∙ f)
 
-pub let_outer : (s : State) {o : Option Node} → ((m : Node) → o ≡ some m → (m.at < rows_most) × pass.CapturedFits s m.at)
-    → (m : Node) → o ≡ some m → (m.at < rows_most) × ((v : FunctionInformation) → function_in (row_at s m.at) ≡ some v → Inside v.captured_vars)
+pub let_outer : (s : State) {o : Option Node} → ((m : Node) → o ≡ Some m → (m.at < rows_most) × pass.CapturedFits s m.at)
+    → (m : Node) → o ≡ Some m → (m.at < rows_most) × ((v : FunctionInformation) → function_in (row_at s m.at) ≡ Some v → Inside v.captured_vars)
 let_outer s h m e = ((h m e).0, λ v f. (h m e).1 v f)
 
 pub let_blank : (s : State) {i j k m : ℕ} → i ≡ j → k ≡ m → (row_at s i ≡ Blank → s.facts.arguments_top + m ≤ list_entries_most)

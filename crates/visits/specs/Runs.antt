@@ -1,6 +1,5 @@
 -- What a run promises: of every accepted tree and every start that the tables hold.
-use Rattle.std.specs.Prelude.{List, ◌≡◌, ℕ, length}
-use Rattle.std.proofs.Math.Option.{none}
+use Rattle.std.specs.Prelude.{List, ◌≡◌, ℕ, length, None}
 use Rattle.tree.specs.Tree.{Trees}
 use Rattle.tree.specs.Accepted.{Accepted}
 use Rattle.tree.specs.Starts.{TellsStarts}
@@ -12,7 +11,7 @@ use Rattle.visits.specs.Lent.{Slice, Loan, Lent, Kept}
 -- the facts that a run may start with: none, or those of a fresh run that was not refused
 pub data Starts (classes : List ℕ) (ts : Trees) (f : Facts) : Type 0 where
   anew : f ≡ no_facts → Starts classes ts f
-  again : refused_first (fresh classes ts).noted ≡ none → f ≡ (fresh classes ts).facts → Starts classes ts f
+  again : refused_first (fresh classes ts).noted ≡ None → f ≡ (fresh classes ts).facts → Starts classes ts f
 
 -- accepted trees, and tables that hold the start of a run over them
 pub record Ready (classes rs : List ℕ) (z : Raw) : Type 0 where

@@ -1,7 +1,7 @@
 -- The captures, against the map of the code and their rows.
+use Rattle.std.specs.Prelude.{Some}
 use Prim.Native.Nat.{ℕ, ◌+◌, ◌*◌, ◌/◌, ◌%◌, ◌≤◌, ◌<◌}
 use mathlib.Core.List.{List, [], ◌∷◌}
-use mathlib.Core.Option.{some}
 use mathlib.Core.Path.{◌≡◌, ap, sym, subst, ◌∙◌}
 use native.Mathlib.Omega.{arith}
 use lib.ListN.{length, get_or, set}
@@ -95,7 +95,7 @@ module _ (w : List ℕ) (i : ℕ) (z : length w ≡ work_long) (h : i < list_ent
       record {
         is = λ p s x d n k f.
             let m = s.captures.live in
-            let row : (c : Live Capture) → get_in m x ≡ some c → CaptureAt (set t (2 * i + 1) v) i (used_capture c.value) =
+            let row : (c : Live Capture) → get_in m x ≡ Some c → CaptureAt (set t (2 * i + 1) v) i (used_capture c.value) =
             λ c g.
             let a : capture_data_first + 2 * i + 1 ≡ capture_data_first + (2 * i + 1) = omega arith in
             let u = ap (λ (k : ℕ). get_or w k 0) (sym a) ∙ taken-uses k x (found_below m x f) f g in

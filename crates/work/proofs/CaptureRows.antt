@@ -1,8 +1,8 @@
 -- What is known of each capture, row by row: one row is written, or the newest layer goes.
+use Rattle.std.specs.Prelude.{Some}
 use Prim.Native.Nat.{ℕ, suc, ◌-◌, ◌*◌, ◌≤◌, ◌<◌}
 use mathlib.Core.List.{List, [], ◌∷◌}
 use mathlib.Core.Bool.{Bool, true, false, cond}
-use mathlib.Core.Option.{some}
 use mathlib.Core.Path.{◌≡◌, refl, ap, sym, subst, ◌∙◌}
 use native.Mathlib.Omega.{arith}
 use borrow.Author.Tests.{ltb-true, ltb-false}
@@ -111,16 +111,16 @@ use_rows x (e ∷ l) = pick (eqb e.name x) (use_rows x l)
 
 module _ (t t' : List ℕ) (i x : ℕ) (e : Elsewhere (capture_width * i) capture_width t t') where
   pub taken_use : (l : List (Live Capture)) {d v : ℕ} → found_in (map_live row_of l) x ≡ At i d v
-      → ((c : Live Capture) → get_in l x ≡ some c → CaptureAt t' i (used_capture c.value))
+      → ((c : Live Capture) → get_in l x ≡ Some c → CaptureAt t' i (used_capture c.value))
       → TakenIn t l → TakenIn t' (use_in x l)
   unfolding TakenIn use_in found_in get_in map_live
   taken_use [] q r k = k
   taken_use (a ∷ l) {d} {v} q r k = pick (eqb a.name x) q r (λ q r. taken_use l q r k.1)
     where
       pick : (b : Bool) → cond b (At (length (map_live row_of l)) a.layer a.value.row) (found_in (map_live row_of l) x) ≡ At i d v
-          → ((c : Live Capture) → cond b (some a) (get_in l x) ≡ some c → CaptureAt t' i (used_capture c.value))
+          → ((c : Live Capture) → cond b (Some a) (get_in l x) ≡ Some c → CaptureAt t' i (used_capture c.value))
           → (found_in (map_live row_of l) x ≡ At i d v
-          → ((c : Live Capture) → get_in l x ≡ some c → CaptureAt t' i (used_capture c.value))
+          → ((c : Live Capture) → get_in l x ≡ Some c → CaptureAt t' i (used_capture c.value))
           → TakenIn t' (use_in x l))
           → TakenIn t' (cond b (record { name = a.name; layer = a.layer; value = used_capture a.value } ∷ l) (a ∷ use_in x l))
       pick true q r f =

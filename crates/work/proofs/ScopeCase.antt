@@ -1,9 +1,8 @@
 -- The live names, against the map of the code.
+use Rattle.std.specs.Prelude.{Option, None, Some, option_map}
 use Prim.Native.Nat.{ℕ, suc, ◌+◌, ◌-◌, ◌≤◌, ◌<◌}
 use mathlib.Core.List.{List, [], ◌∷◌, ◌++◌, reverse, reverse-cons, reverse-append}
 use mathlib.Core.Bool.{Bool, true, false, cond, ◌&&◌}
-use mathlib.Core.Option
-use mathlib.Core.Option.{Option, none, some}
 use mathlib.Core.Path.{◌≡◌, refl, ap, sym, subst, ◌∙◌}
 use native.Mathlib.Omega.{arith}
 use lib.ListN.{length, get_or, take, drop}
@@ -53,12 +52,12 @@ module _ {p : Pass} {w : List ℕ} (h : Spacious p w) where
 -- What is told
 
 abbrev value_in : Option (Live ℕ) → Option ℕ
-value_in none = none
-value_in (some e) = some e.value
+value_in None = None
+value_in (Some e) = Some e.value
 
-record_told_lem : (o : Option (Live Ident)) → value_in (Option.map (map_value record_at) o) ≡ record_in (binder_in o)
-record_told_lem none = refl
-record_told_lem (some e) = refl
+record_told_lem : (o : Option (Live Ident)) → value_in (option_map (map_value record_at) o) ≡ record_in (binder_in o)
+record_told_lem None = refl
+record_told_lem (Some e) = refl
 
 module _ {p : Pass} {w : List ℕ} {x : ℕ} {f : Found} (g : Gets p.scope (region w 0 scope_length) x f) where
   newest-told : (s : State) → Works p w s → value_in (entry_of x f) ≡ record_in (newest s x)
@@ -66,19 +65,19 @@ module _ {p : Pass} {w : List ℕ} {x : ℕ} {f : Found} (g : Gets p.scope (regi
       let m = s.scope.names in
       ap value_in (g.is (map_values record_at m) k.names ∙ map_get record_at m x) ∙ record_told_lem (get m x)
 
-  pub newest-none : f ≡ found.Nothing → Tells p w (λ s. record_in (newest s x)) none
+  pub newest-none : f ≡ found.Nothing → Tells p w (λ s. record_in (newest s x)) None
   newest-none e = record { is = λ s k. ap (λ (f : Found). value_in (entry_of x f)) (sym e) ∙ newest-told s k }
 
-  pub newest-some : {i d v r : ℕ} → f ≡ found.At i d v → r ≡ v → Tells p w (λ s. record_in (newest s x)) (some r)
-  newest-some e q = record { is = λ s k. ap some q ∙ ap (λ (f : Found). value_in (entry_of x f)) (sym e) ∙ newest-told s k }
+  pub newest-some : {i d v r : ℕ} → f ≡ found.At i d v → r ≡ v → Tells p w (λ s. record_in (newest s x)) (Some r)
+  newest-some e q = record { is = λ s k. ap Some q ∙ ap (λ (f : Found). value_in (entry_of x f)) (sym e) ∙ newest-told s k }
 
 live_told-row : {p : Pass} {w : List ℕ} {s : State} {x r : ℕ} → Places p.scope (region w 0 scope_length) x r → Works p w s
     → is_live_row r p ≡ ltb 1 (depth s) && has_at_top s.scope.names x
 live_told-row {s = s} {x} u k = rw (depth_is k, u.has (map_values record_at s.scope.names) k.names ∙ map-has_at_top record_at s.scope.names x)
 
-id_none : (o : Option Ident) → none ≡ record_in o → NONE ≡ id_of o
-id_none none q = refl
-id_none (some x) q = absurd (let z : ◌≡◌ {A = ℕ} 0 1 = cc in omega arith)
+id_none : (o : Option Ident) → None ≡ record_in o → NONE ≡ id_of o
+id_none None q = refl
+id_none (Some x) q = absurd (let z : ◌≡◌ {A = ℕ} 0 1 = cc in omega arith)
 
 module _ {rs : List ℕ} {p : Pass} {w : List ℕ} (x : ℕ) {f : Binder} (t : Tells p w (λ s. record_in (newest s x)) (record_of f)) where
   pub no_id : f ≡ binder.Nothing → TellsId rs p w x NONE

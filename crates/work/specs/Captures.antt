@@ -1,6 +1,5 @@
 -- What the functions over the captures promise.
-use Rattle.std.specs.Prelude.{ℕ, ◌+◌, ◌*◌, ◌/◌, ◌%◌, List, ◌≡◌, length, get_or, set, eqb}
-use Rattle.std.proofs.Math.Option.{some}
+use Rattle.std.specs.Prelude.{ℕ, ◌+◌, ◌*◌, ◌/◌, ◌%◌, List, ◌≡◌, length, get_or, set, eqb, Some}
 use Rattle.std.proofs.lemmas.List.Edits.{sets}
 use Rattle.table.specs.Region.{region, replaced}
 use Rattle.scope_map.specs.ScopeMap.{Live, get, define, push_layer}
@@ -40,7 +39,7 @@ pub record GetsCapture (p : Pass) (w : List ℕ) (x : ℕ) (r : Found) : Type 0 
   pub is : (s : State) → Works p w s → r ≡ capture_found s x
 
 pub record LoadsCapture (w : List ℕ) (place : ℕ) (r : CodedCapture) : Type 0 where
-  pub is : (p : Pass) (s : State) (x d v : ℕ) (c : Live Capture) → Works p w s → capture_found s x ≡ At place d v → get s.captures x ≡ some c
+  pub is : (p : Pass) (s : State) (x d v : ℕ) (c : Live Capture) → Works p w s → capture_found s x ≡ At place d v → get s.captures x ≡ Some c
       → r ≡ capture_of c.value
 
 pub record UsesCapture (w : List ℕ) (place : ℕ) (w' : List ℕ) : Type 0 where

@@ -1,6 +1,5 @@
 -- What the code holds of an entry, of a capture and of a refusal; and their rows of the work table.
-use Rattle.std.specs.Prelude.{ℕ, zero, suc, ◌+◌, ◌*◌, ◌<◌, List, [], ◌∷◌}
-use Rattle.std.proofs.Math.Option.{Option, none, some}
+use Rattle.std.specs.Prelude.{ℕ, zero, suc, ◌+◌, ◌*◌, ◌<◌, List, [], ◌∷◌, Option, None, Some}
 use Rattle.tree.specs.Tree.{Ident, bit}
 use Rattle.tree.specs.Check.{Refusal}
 use Rattle.semantic.specs.Rows.{ListEntry}
@@ -15,8 +14,8 @@ use Rattle.work.specs.declared.scope.Binder.TheVariants as binder
 
 -- the record of an identifier, counted from 1; 0 is none
 abbrev pub last_code : Option Ident → ℕ
-last_code none = 0
-last_code (some x) = suc x.at
+last_code None = 0
+last_code (Some x) = suc x.at
 
 abbrev pub coded : Entry → Coded
 coded e = record {
@@ -60,8 +59,8 @@ put_binder i = i.binder.at ∷ []
 
 -- a place counted from 1; 0 is none
 abbrev pub place_in : ℕ → Option ℕ
-place_in zero = none
-place_in (suc i) = some i
+place_in zero = None
+place_in (suc i) = Some i
 
 abbrev pub noted_of : Noted → Option ℕ
 noted_of n = place_in n.code
@@ -71,16 +70,16 @@ refusal_at n i = record { number = n; at = i }
 
 -- no refusal has the number 0
 abbrev pub numbered_in : ℕ → ℕ → Option Refusal
-numbered_in zero i = none
-numbered_in (suc n) i = some (refusal_at (suc n) i)
+numbered_in zero i = None
+numbered_in (suc n) i = Some (refusal_at (suc n) i)
 
 abbrev pub second_of : Second → Option Refusal
 second_of s = numbered_in s.number s.at
 
 abbrev pub record_in : Option Ident → Option ℕ
-record_in none = none
-record_in (some x) = some x.at
+record_in None = None
+record_in (Some x) = Some x.at
 
 abbrev pub record_of : Binder → Option ℕ
-record_of (binder.At i) = some i
-record_of binder.Nothing = none
+record_of (binder.At i) = Some i
+record_of binder.Nothing = None

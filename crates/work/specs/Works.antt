@@ -1,6 +1,5 @@
 -- The work table and what is threaded beside it hold a state, all but its facts.
-use Rattle.std.specs.Prelude.{ℕ, ◌*◌, ◌≤◌, ◌<◌, List, [], ◌∷◌, ◌≡◌, length}
-use Rattle.std.proofs.Math.Option.{Option}
+use Rattle.std.specs.Prelude.{ℕ, ◌*◌, ◌≤◌, ◌<◌, List, [], ◌∷◌, ◌≡◌, length, Option}
 use Rattle.table.specs.Layout.{layout}
 use Rattle.table.specs.Region.{region}
 use Rattle.tree.specs.Tree.{Ident}

@@ -1,6 +1,5 @@
 -- What a run leaves: of the entries those of the tree's records alone, and the outcome in the tables that hold its state.
-use Rattle.std.specs.Prelude.{ℕ, ◌+◌, ◌-◌, ◌*◌, ◌≤◌, List, ◌≡◌, refl, length, get_or, drop, replicate}
-use Rattle.std.proofs.Math.Option.{Option, none, some}
+use Rattle.std.specs.Prelude.{ℕ, ◌+◌, ◌-◌, ◌*◌, ◌≤◌, List, ◌≡◌, refl, length, get_or, drop, replicate, Option, None, Some}
 use Rattle.std.proofs.Common.{ap, sym, ◌∙◌, arith, length-drop, get_or-drop, ext_get_or}
 use Rattle.std.proofs.lemmas.List.{length-replicate}
 use Rattle.table.specs.Layout.{layout}
@@ -69,6 +68,6 @@ same_tables w f c a = rw (f, c, a)
 pub tied_outcome : {p : Pass} {F C A w : List ℕ} {s : State} (o : Option Refusal) → Tied (raw p F C A w) s
     → cleared (record { refused = o; tables = tables F C A w }) ≡ outcome o s.facts
 unfolding tables_of
-tied_outcome none t =
-    ap (λ (u : Tables). record { refused = none; tables = u }) (same_tables (replicate work_length 0) t.facts t.captured t.arguments)
-tied_outcome (some r) t = refl
+tied_outcome None t =
+    ap (λ (u : Tables). record { refused = None; tables = u }) (same_tables (replicate work_length 0) t.facts t.captured t.arguments)
+tied_outcome (Some r) t = refl

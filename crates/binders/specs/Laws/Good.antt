@@ -1,7 +1,6 @@
 -- What keeps a state good: names that enter, and names that leave.
-use Rattle.std.specs.Prelude.{ℕ, List, [], ◌∷◌, Bool, ◌≡◌, refl}
+use Rattle.std.specs.Prelude.{ℕ, List, [], ◌∷◌, Bool, ◌≡◌, refl, Option, None, Some}
 use Rattle.std.proofs.Math.Bool.{true, false}
-use Rattle.std.proofs.Math.Option.{Option, none, some}
 use Rattle.tree.specs.Tree.{Ident}
 use Rattle.semantic.specs.Rows.{ListEntry}
 use Rattle.semantic.specs.declared.IdentifierStatus.{IdentifierStatus}
@@ -19,8 +18,8 @@ use Rattle.work.specs.Laws.Good.{Sized, sized_then, sized_facts, sized_enter, si
 
 -- a name of a lambda or a let
 heap_facts : (o : Option ℕ) (x : Ident) (s : State) → (note_heap o x s).facts ≡ s.facts
-heap_facts none x s = refl
-heap_facts (some n) x s = refl
+heap_facts None x s = refl
+heap_facts (Some n) x s = refl
 
 module _ (kind : IdentifierStatus) (base : ℕ) (heaps : Option ℕ) (before : List ListEntry) where
   sized_name : (b : Bool) (x : Ident) (j h : ℕ) (s : State) → Sized s (enter_name kind base heaps before b x j h s)

@@ -1,6 +1,6 @@
 -- `check`: 1 and 2, then the pass that clears 3 to 7 and 16 and lists where the trees start, or all in order.
+use Rattle.std.proofs.lemmas.Option.{none-some}
 use native.Mathlib.Omega.{arith}
-use mathlib.Core.Option.{some-ne-none}
 use mathlib.Core.Path.{sym, ◌∙◌}
 use Prim.Native.Nat.{◌<◌}
 use lib.ListN.{length}
@@ -15,7 +15,7 @@ pub returns-then-rs-ne0-clause-result_value : goal.returns-then-rs-ne0-clause-re
 returns-then-rs-ne0-clause-result_value c = ragged _ _ c.if-rs-ne0.true
 
 pub returns-then-rs-ne0-clause-told : goal.returns-then-rs-ne0-clause-told
-returns-then-rs-ne0-clause-told c = λ e. absurd (some-ne-none _ e)
+returns-then-rs-ne0-clause-told c = λ e. absurd (none-some _ (sym e))
 
 pub returns-then-rs-ne0-clause-leaves : goal.returns-then-rs-ne0-clause-leaves
 returns-then-rs-ne0-clause-leaves c = leaves_all
@@ -24,7 +24,7 @@ pub returns-then-len-gt-MOST_RECORDS-clause-result_value : goal.returns-then-len
 returns-then-len-gt-MOST_RECORDS-clause-result_value c = many-records _ _ c.if-rs-ne0.false (omega arith)
 
 pub returns-then-len-gt-MOST_RECORDS-clause-told : goal.returns-then-len-gt-MOST_RECORDS-clause-told
-returns-then-len-gt-MOST_RECORDS-clause-told c = λ e. absurd (some-ne-none _ e)
+returns-then-len-gt-MOST_RECORDS-clause-told c = λ e. absurd (none-some _ (sym e))
 
 pub returns-then-len-gt-MOST_RECORDS-clause-leaves : goal.returns-then-len-gt-MOST_RECORDS-clause-leaves
 returns-then-len-gt-MOST_RECORDS-clause-leaves c = leaves_all
@@ -33,7 +33,7 @@ pub returns-then-names-gt-MOST_NAMES-clause-result_value : goal.returns-then-nam
 returns-then-names-gt-MOST_NAMES-clause-result_value c = many-names _ _ c.if-rs-ne0.false (omega arith) c.if-names-gt-MOST_NAMES.true
 
 pub returns-then-names-gt-MOST_NAMES-clause-told : goal.returns-then-names-gt-MOST_NAMES-clause-told
-returns-then-names-gt-MOST_NAMES-clause-told c = λ e. absurd (some-ne-none _ e)
+returns-then-names-gt-MOST_NAMES-clause-told c = λ e. absurd (none-some _ (sym e))
 
 pub returns-then-names-gt-MOST_NAMES-clause-leaves : goal.returns-then-names-gt-MOST_NAMES-clause-leaves
 returns-then-names-gt-MOST_NAMES-clause-leaves c = leaves_all

@@ -1,11 +1,10 @@
 -- The checks in order: what is left of them once the first have passed.
-use Rattle.std.specs.Prelude.{ℕ, List}
-use Rattle.std.proofs.Math.Option.{Option, none}
+use Rattle.std.specs.Prelude.{ℕ, List, Option, None}
 use Rattle.tree.specs.Check.{Refusal, or_else, check3, check4, check5, check6, check7, check16, check8}
 
 module _ (N : ℕ) (rs : List ℕ) where
   abbrev pub from8 : Option Refusal
-  from8 = or_else 8 (check8 N rs) none
+  from8 = or_else 8 (check8 N rs) None
 
   abbrev pub from16 : Option Refusal
   from16 = or_else 16 (check16 N rs) from8

@@ -1,8 +1,8 @@
 -- The claim on the fresh run's binding holds.
-use Rattle.std.specs.Prelude.{ℕ, ◌+◌, Bool, true, false, ◌&&◌, ◌||◌, ◌≡◌, length, get_or, eqb}
+use Rattle.std.specs.Prelude.{ℕ, ◌+◌, Bool, true, false, ◌&&◌, ◌||◌, ◌≡◌, length, get_or, eqb, Option, None, Some}
+use Rattle.std.proofs.lemmas.Option.{none-some}
 use mathlib.Core.List.{List, [], ◌∷◌, ◌++◌, append_assoc, append-nil}
 use Rattle.std.proofs.Math.Bool.{and-true, and-false}
-use Rattle.std.proofs.Math.Option.{Option, none, some, some-ne-none}
 use Rattle.std.proofs.Math.Path.{refl, ap}
 use Rattle.std.proofs.Common.{sym, subst, ◌∙◌, arith, eqb-true, eq-eqb, ne_eqb}
 use Rattle.std.proofs.lemmas.Bool.{eqb-false}
@@ -24,10 +24,10 @@ use Rattle.execution.specs.References.{reference, reference_in, is_it, is_set_of
 use Rattle.execution.specs.Claims.{BindingFresh}
 
 -- A row that tells is a reference
-pub refers : {T : List Row} {i r d s : ℕ} {k : IdentifierStatus} → Tells T i k r d s → reference_in (get_or T i Blank) ≡ some (reference k r d s)
+pub refers : {T : List Row} {i r d s : ℕ} {k : IdentifierStatus} → Tells T i k r d s → reference_in (get_or T i Blank) ≡ Some (reference k r d s)
 refers t =
     ap reference_in t.is
-    ∙ (λ i. some (reference (t.kind i) (t.refers i) (t.depth i) (t.slot i)))
+    ∙ (λ i. Some (reference (t.kind i) (t.refers i) (t.depth i) (t.slot i)))
 
 pub eqb_sym : (a b : ℕ) → eqb a b ≡ eqb b a
 eqb_sym a b = go (eqb b a) refl
@@ -54,7 +54,7 @@ module _ (classes : List ℕ) (ts : Trees) (T : List Row) (c : Ident → Option 
   says_at u (n ∷ before) after m s =
       rw (← append_assoc u (use_of n (meant n)) (uses_of before)) (says_at (u ++ use_of n (meant n)) before after m s.1)
 
-  says_bound : (u : List Use) (l : List Event) → Says classes T c u l → All (λ b. reference_in (get_or T b.ident.at Blank) ≡ some (fresh_binder classes ts b)) (binders_in l)
+  says_bound : (u : List Use) (l : List Event) → Says classes T c u l → All (λ b. reference_in (get_or T b.ident.at Blank) ≡ Some (fresh_binder classes ts b)) (binders_in l)
   says_bound u [] s = tt
   says_bound u (enters b sc ∷ l) s = (refers s.0, says_bound u l s.1)
   says_bound u (mentions m ∷ l) s = says_bound (u ++ use_of m (meant m)) l s.1
@@ -97,8 +97,8 @@ module _ (L : ℕ → ℕ) where
         inner-one m (find-all m.place.scope a.0 m.ident.name) (uses_of l) ∙ ap (λ (q : Bool). is_inner_of b m || q) (inner-before l a.1)
 
 set-one : (b : Binder) (m : Mention) (o : Option Binder) (r : List Use) → is_set_in b.ident.at (use_of m o ++ r) ≡ (m.is_set && is_it b o) || is_set_in b.ident.at r
-set-one b m none r = ap (λ (q : Bool). q || is_set_in b.ident.at r) (sym (and-false m.is_set))
-set-one b m (some c) r = ap (λ (q : Bool). (m.is_set && q) || is_set_in b.ident.at r) (eqb_sym c.ident.at b.ident.at)
+set-one b m None r = ap (λ (q : Bool). q || is_set_in b.ident.at r) (sym (and-false m.is_set))
+set-one b m (Some c) r = ap (λ (q : Bool). (m.is_set && q) || is_set_in b.ident.at r) (eqb_sym c.ident.at b.ident.at)
 
 pub set_before : (b : Binder) (l : List Mention) → is_set_in b.ident.at (uses_of l) ≡ any (is_set_of b) l
 unfolding any
@@ -109,27 +109,27 @@ set_before b (m ∷ l) = set-one b m (meant m) (uses_of l) ∙ ap (λ (q : Bool)
 
 module _ (classes : List ℕ) (ts : Trees) (T : List Row) (L : ℕ → ℕ) (before : List Mention) (m : Mention) where
   pub cell_refers : (o : Option Ident) → SaysCell classes T (cell ts) m.ident m.place.site.layer o
-      → reference_in (get_or T m.ident.at Blank) ≡ some (global_reference (is_prelude classes m.ident.name) m.place.site.layer o)
-  cell_refers none t = refers t
-  cell_refers (some d) t = refers t
+      → reference_in (get_or T m.ident.at Blank) ≡ Some (global_reference (is_prelude classes m.ident.name) m.place.site.layer o)
+  cell_refers None t = refers t
+  cell_refers (Some d) t = refers t
 
-  kind_refers : (b : Binder) → meant m ≡ some b → Known L b → All (Sound L) before → kind_of (uses_of before) m b ≡ fresh_kind classes ts before m b
+  kind_refers : (b : Binder) → meant m ≡ Some b → Known L b → All (Sound L) before → kind_of (uses_of before) m b ≡ fresh_kind classes ts before m b
   kind_refers b e k a =
       let own : is_set_of b m ≡ m.is_set = ap (λ (o : Option Binder). m.is_set && is_it b o) e ∙ ap (λ (q : Bool). m.is_set && q) (eq-eqb b.ident.at b.ident.at refl) ∙ and-true m.is_set in
       rw (inner-before L b k before a, set_before b before, own)
 
   meant_refers : (o : Option Binder) → meant m ≡ o → Of (Known L) o → All (Sound L) before → SaysOf classes T (cell ts) (uses_of before) m o
-      → reference_in (get_or T m.ident.at Blank) ≡ some (fresh_bound classes ts before m o)
-  meant_refers none e k a t = cell_refers (bottom_entry ts m.ident.name m.ident.at) t
-  meant_refers (some b) e (of_some k) a t = refers t ∙ ap (λ (q : IdentifierStatus). some (reference q b.ident.id m.place.site.layer b.home.slot)) (kind_refers b e k a)
+      → reference_in (get_or T m.ident.at Blank) ≡ Some (fresh_bound classes ts before m o)
+  meant_refers None e k a t = cell_refers (bottom_entry ts m.ident.name m.ident.at) t
+  meant_refers (Some b) e (of_some k) a t = refers t ∙ ap (λ (q : IdentifierStatus). Some (reference q b.ident.id m.place.site.layer b.home.slot)) (kind_refers b e k a)
 
 -- no refusal, so none of 9
-pub no_nine : (n : Noted) → refused_first n ≡ none → n.nine ≡ none
+pub no_nine : (n : Noted) → refused_first n ≡ None → n.nine ≡ None
 no_nine n e = go n.nine e
   where
-    go : (o : Option ℕ) → nine_or o (ten_at n.ten) ≡ none → o ≡ none
-    go none q = refl
-    go (some i) q = absurd (some-ne-none _ q)
+    go : (o : Option ℕ) → nine_or o (ten_at n.ten) ≡ None → o ≡ None
+    go None q = refl
+    go (Some i) q = absurd (none-some _ (sym q))
 
 pub binding_fresh : BindingFresh
 unfolding events

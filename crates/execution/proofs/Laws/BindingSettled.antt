@@ -1,8 +1,8 @@
 -- The claim on the settled run's binding holds.
-use Rattle.std.specs.Prelude.{ℕ, ◌+◌, List, [], ◌∷◌, ◌++◌, Bool, true, false, cond, ◌&&◌, ◌||◌, ◌≡◌, refl, length, get_or}
+use Rattle.std.specs.Prelude.{ℕ, ◌+◌, List, [], ◌∷◌, ◌++◌, Bool, true, false, cond, ◌&&◌, ◌||◌, ◌≡◌, refl, length, get_or, Option, None, Some}
+use Rattle.std.proofs.lemmas.Option.{none-some}
 use Rattle.std.proofs.Math.Bool.{and-true, and-false, or-false}
 use Rattle.std.proofs.Common.{true≢false, ap, sym, subst, ◌∙◌, arith, ltb-true, eq-eqb}
-use Rattle.std.proofs.Math.Option.{Option, none, some, some-ne-none}
 use Rattle.tree.specs.Tree.{Trees, sizes}
 use Rattle.tree.specs.Check.{Refusal, member}
 use Rattle.tree.specs.Accepted.{All}
@@ -169,10 +169,10 @@ module _ (classes : List ℕ) (ts : Trees) (R : List Row) where
   shared_is b k a = λ j. inner-before (levels ts) b k (mentions_in (events ts)) a j && set_before b (mentions_in (events ts)) j
 
   told-bound : (l : List Event) → TellsAll classes S R (cell ts) l → All (Known (levels ts)) (binders_in l) → All (Sound (levels ts)) (mentions_in (events ts))
-      → All (λ b. reference_in (get_or R b.ident.at Blank) ≡ some (settled_binder classes ts b)) (binders_in l)
+      → All (λ b. reference_in (get_or R b.ident.at Blank) ≡ Some (settled_binder classes ts b)) (binders_in l)
   told-bound [] t k a = tt
   told-bound (enters b sc ∷ l) t k a = (
-    refers t.0 ∙ ap (λ (q : Bool). some (reference (cond q HeapAllocated (cond b.is_let LetVar Local)) NONE b.home.layer NONE)) (shared_is b k.0 a),
+    refers t.0 ∙ ap (λ (q : Bool). Some (reference (cond q HeapAllocated (cond b.is_let LetVar Local)) NONE b.home.layer NONE)) (shared_is b k.0 a),
     told-bound l t.1 k.1 a,
   )
   told-bound (mentions m ∷ l) t k a = told-bound l t.1 k a
@@ -188,9 +188,9 @@ module _ (classes : List ℕ) (ts : Trees) (R : List Row) where
 
     told_refers : (o : Option Binder) → meant m ≡ o → Of (Known (levels ts)) o → All (Sound (levels ts)) (mentions_in (events ts))
         → All (Zone (events ts)) m.place.around
-        → TellsOf classes S R (cell ts) m o → reference_in (get_or R m.ident.at Blank) ≡ some (settled_bound classes ts before m o)
-    told_refers none g k a z t = cell_refers classes ts R (levels ts) before m (bottom_entry ts m.ident.name m.ident.at) t
-    told_refers (some b) g (of_some k) a z t = refers t ∙ ap some (go (is_inner m b) refl)
+        → TellsOf classes S R (cell ts) m o → reference_in (get_or R m.ident.at Blank) ≡ Some (settled_bound classes ts before m o)
+    told_refers None g k a z t = cell_refers classes ts R (levels ts) before m (bottom_entry ts m.ident.name m.ident.at) t
+    told_refers (Some b) g (of_some k) a z t = refers t ∙ ap Some (go (is_inner m b) refl)
       where
         go : (i : Bool) → is_inner m b ≡ i → reference (told_kind S m b) b.ident.id m.place.site.layer
             (cond (is_inner m b) NONE (cond (shared S.U b.ident.at) b.place b.home.slot))
@@ -206,17 +206,17 @@ module _ (classes : List ℕ) (ts : Trees) (R : List Row) where
             own false = refl
 
 -- no refusal, so none of 9 and 10
-pub unnoted_of : (n : Noted) (o : Option Refusal) → or_second (refused_first n) o ≡ none → Unnoted n
+pub unnoted_of : (n : Noted) (o : Option Refusal) → or_second (refused_first n) o ≡ None → Unnoted n
 unnoted_of n o e = record { nine = nine n.nine n.ten e; ten = ten n.nine n.ten e }
   where
-    nine : (a b : Option ℕ) → or_second (nine_or a (ten_at b)) o ≡ none → a ≡ none
-    nine none b q = refl
-    nine (some i) b q = absurd (some-ne-none _ q)
+    nine : (a b : Option ℕ) → or_second (nine_or a (ten_at b)) o ≡ None → a ≡ None
+    nine None b q = refl
+    nine (Some i) b q = absurd (none-some _ (sym q))
 
-    ten : (a b : Option ℕ) → or_second (nine_or a (ten_at b)) o ≡ none → b ≡ none
-    ten none none q = refl
-    ten none (some i) q = absurd (some-ne-none _ q)
-    ten (some i) b q = absurd (some-ne-none _ q)
+    ten : (a b : Option ℕ) → or_second (nine_or a (ten_at b)) o ≡ None → b ≡ None
+    ten None None q = refl
+    ten None (Some i) q = absurd (none-some _ (sym q))
+    ten (Some i) b q = absurd (none-some _ (sym q))
 
 zoned_all : (E : List Event) (l : List Event) → All (Zoned E) l → All (λ m. All (Zone E) m.place.around) (mentions_in l)
 zoned_all E [] a = tt

@@ -1,6 +1,5 @@
 -- The claims on the names that are defined at top level, and on the depths of lambdas, hold.
-use Rattle.std.specs.Prelude.{List, ◌≡◌, get_or}
-use Rattle.std.proofs.Math.Option.{some}
+use Rattle.std.specs.Prelude.{List, ◌≡◌, get_or, Some}
 use Rattle.std.proofs.Common.{ap, ◌∙◌}
 use Rattle.tree.specs.Tree.{Trees}
 use Rattle.tree.specs.Define.{top_level}
@@ -17,11 +16,11 @@ use Rattle.execution.specs.Claims.{DefinedFresh, DefinedSettled}
 
 refer : (ts : Trees) (T : List Row) → All (λ d. Defined (get_or T d.name.at Blank)) (defines_of (top_level ts)) → DefinesNamed ts T
 refer ts T =
-    all_map (λ d. Defined (get_or T d.name.at Blank)) (λ d. reference_in (get_or T d.name.at Blank) ≡ some defined_name)
-    (λ d p. ap reference_in p.is ∙ (λ i. some (reference (p.kind i) (p.refers i) (p.depth i) (p.slot i)))) (defines_of (top_level ts))
+    all_map (λ d. Defined (get_or T d.name.at Blank)) (λ d. reference_in (get_or T d.name.at Blank) ≡ Some defined_name)
+    (λ d p. ap reference_in p.is ∙ (λ i. Some (reference (p.kind i) (p.refers i) (p.depth i) (p.slot i)))) (defines_of (top_level ts))
 
 tell : (ts : Trees) (T : List Row) → All (MadeIn T) (lambdas_in ts 1) → LambdasMade ts T
-tell ts T = all_map (MadeIn T) (λ l. depth_in (get_or T l.0 Blank) ≡ some l.1) (λ l m. ap depth_in m.is ∙ ap some m.depth) (lambdas_in ts 1)
+tell ts T = all_map (MadeIn T) (λ l. depth_in (get_or T l.0 Blank) ≡ Some l.1) (λ l m. ap depth_in m.is ∙ ap Some m.depth) (lambdas_in ts 1)
 
 pub defined-fresh : DefinedFresh
 defined-fresh classes rs ts a =

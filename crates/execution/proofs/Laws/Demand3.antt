@@ -1,6 +1,5 @@
 -- Demand 3: the fresh run records what the simulation needs of the facts.
-use Rattle.std.specs.Prelude.{ℕ, ◌≡◌, refl}
-use Rattle.std.proofs.Math.Option.{Option, none, some}
+use Rattle.std.specs.Prelude.{ℕ, ◌≡◌, refl, Option, None, Some}
 use Rattle.std.proofs.Common.{arith}
 use Rattle.tree.specs.Check.{Refusal}
 use Rattle.r7rs.specs.Binding.{uses}
@@ -11,9 +10,9 @@ use Rattle.lockstep.proofs.Laws.Simulation.Main.{lockstep}
 use Rattle.execution.specs.Claims.{Demand3}
 
 -- a run that refuses nothing notes no 9
-none-noted : (o : Option ℕ) (q : Option Refusal) → nine_or o q ≡ none → o ≡ none
-none-noted none q e = refl
-none-noted (some i) q e = let z : ◌≡◌ {A = ℕ} 0 1 = cc in absurd (omega arith)
+none-noted : (o : Option ℕ) (q : Option Refusal) → nine_or o q ≡ None → o ≡ None
+none-noted None q e = refl
+none-noted (Some i) q e = let z : ◌≡◌ {A = ℕ} 0 1 = cc in absurd (omega arith)
 
 pub demand3 : Demand3
 demand3 classes rs ts a p n =

@@ -1,8 +1,8 @@
 -- The claim on the uses that a fresh run counts holds: a record gets what the mentions give it, and no two names share one.
-use Rattle.std.specs.Prelude.{ℕ, ◌+◌, ◌≤◌, Bool, true, false, cond, not, ◌&&◌, ◌||◌, ◌≡◌, eqb}
+use Rattle.std.specs.Prelude.{ℕ, ◌+◌, ◌≤◌, Bool, true, false, cond, not, ◌&&◌, ◌||◌, ◌≡◌, eqb, Option, None, Some, IfSome}
+use Rattle.std.proofs.lemmas.Option.{none-some}
 use mathlib.Core.List.{List, [], ◌∷◌, ◌++◌, append_assoc}
 use Rattle.std.proofs.Math.Bool.{and-false}
-use Rattle.std.proofs.Math.Option.{Option, none, some, none-ne-some}
 use Rattle.std.proofs.Math.Path.{refl}
 use Rattle.std.proofs.Common.{ap, sym, subst, ◌∙◌, arith}
 use Rattle.tree.specs.Tree.{Ident, Trees}
@@ -27,35 +27,31 @@ use Rattle.execution.specs.Claims.{rows, UsesFresh}
 
 -- A bottom entry is a define's name
 
-abbrev Some : (Ident → Type 0) → Option Ident → Type 0
-Some P none = Unit {0}
-Some P (some d) = P d
-
-last_some : (P : Ident → Type 0) (o : Option Ident) (p : Define → Bool) (l : List Define) → Some P o → All (λ d. P d.name) l → Some P (last_or o p l)
+last_some : (P : Ident → Type 0) (o : Option Ident) (p : Define → Bool) (l : List Define) → IfSome o P → All (λ d. P d.name) l → IfSome (last_or o p l) P
 unfolding last_or
 last_some P o p [] s a = s
-last_some P o p (d ∷ l) s a = last_some P (cond (p d) (some d.name) o) p l (go (p d)) a.1
+last_some P o p (d ∷ l) s a = last_some P (cond (p d) (Some d.name) o) p l (go (p d)) a.1
   where
-    go : (q : Bool) → Some P (cond q (some d.name) o)
+    go : (q : Bool) → IfSome (cond q (Some d.name) o) P
     go true = a.0
     go false = s
 
 module _ (ts : Trees) where
-  bottom_some : (P : Ident → Type 0) → All (λ d. P d.name) (defines_of (top_level ts)) → (x : Ident) → Some P (cell ts x)
+  bottom_some : (P : Ident → Type 0) → All (λ d. P d.name) (defines_of (top_level ts)) → (x : Ident) → IfSome (cell ts x) P
   unfolding bottom_entry
-  bottom_some P a x = last_some P _ _ (defines_of (top_level ts)) (last_some P none _ (defines_of (top_level ts)) tt a) a
+  bottom_some P a x = last_some P _ _ (defines_of (top_level ts)) (last_some P None _ (defines_of (top_level ts)) tt a) a
 
   -- What one mention gives, where the name at y is of one sort
 
   -- a parameter's or let name's
-  bound-credit : (b : Binder) (m : Mention) (o : Option Binder) → ¬ (m.ident.at ≡ b.ident.at) → Some (λ d. ¬ (d.at ≡ b.ident.at)) (cell ts m.ident)
+  bound-credit : (b : Binder) (m : Mention) (o : Option Binder) → ¬ (m.ident.at ≡ b.ident.at) → IfSome (cell ts m.ident) (λ d. ¬ (d.at ≡ b.ident.at))
       → credit (cell ts) m o b.ident.at ≡ cond (is_it b o) 1 0 + cond (m.is_set && is_it b o) 1 0
-  bound-credit b m none n e = go (cell ts m.ident) e ∙ rw (and-false m.is_set) refl
+  bound-credit b m None n e = go (cell ts m.ident) e ∙ rw (and-false m.is_set) refl
     where
-      go : (c : Option Ident) → Some (λ d. ¬ (d.at ≡ b.ident.at)) c → credit_cell m.ident c b.ident.at ≡ 0
-      go none h = refl
-      go (some d) h = omega (arith, share_other d.at 1 b.ident.at (λ q. h (sym q)), share_other m.ident.at 1 b.ident.at (λ q. n (sym q)))
-  bound-credit b m (some c) n e =
+      go : (c : Option Ident) → IfSome c (λ d. ¬ (d.at ≡ b.ident.at)) → credit_cell m.ident c b.ident.at ≡ 0
+      go None h = refl
+      go (Some d) h = omega (arith, share_other d.at 1 b.ident.at (λ q. h (sym q)), share_other m.ident.at 1 b.ident.at (λ q. n (sym q)))
+  bound-credit b m (Some c) n e =
       rw (eqb_sym c.ident.at b.ident.at) (omega (arith, go (eqb b.ident.at c.ident.at) m.is_set, share_other m.ident.at 1 b.ident.at (λ q. n (sym q))))
     where
       go : (q s : Bool) → cond q (cond s 2 1) 0 ≡ cond q 1 0 + cond (s && q) 1 0
@@ -70,23 +66,23 @@ module _ (ts : Trees) where
   define-credit d m n of_none = go (cell ts m.ident)
     where
       go : (c : Option Ident) → credit_cell m.ident c d.at ≡ cond (is_ident d c) 1 0
-      go none = refl
-      go (some e) = rw (eqb_sym e.at d.at) (omega (arith, share_other m.ident.at 1 d.at (λ q. n (sym q))))
+      go None = refl
+      go (Some e) = rw (eqb_sym e.at d.at) (omega (arith, share_other m.ident.at 1 d.at (λ q. n (sym q))))
   define-credit d m n (of_some {b} h) = omega (arith, share_other b.ident.at (cond m.is_set 2 1) d.at (λ q. h (sym q)), share_other m.ident.at 1 d.at (λ q. n (sym q)))
 
   -- a mention's
-  own-credit : (y : ℕ) (m : Mention) {o : Option Binder} → Of (λ b. ¬ (b.ident.at ≡ y)) o → Some (λ d. ¬ (d.at ≡ y)) (cell ts m.ident)
+  own-credit : (y : ℕ) (m : Mention) {o : Option Binder} → Of (λ b. ¬ (b.ident.at ≡ y)) o → IfSome (cell ts m.ident) (λ d. ¬ (d.at ≡ y))
       → credit (cell ts) m o y ≡ cond (not (is_none o) || not (is_none (cell ts m.ident))) (share m.ident.at 1 y) 0
   own-credit y m of_none e = go (cell ts m.ident) e
     where
-      go : (c : Option Ident) → Some (λ d. ¬ (d.at ≡ y)) c → credit_cell m.ident c y ≡ cond (not (is_none c)) (share m.ident.at 1 y) 0
-      go none h = refl
-      go (some d) h = omega (arith, share_other d.at 1 y (λ q. h (sym q)))
+      go : (c : Option Ident) → IfSome c (λ d. ¬ (d.at ≡ y)) → credit_cell m.ident c y ≡ cond (not (is_none c)) (share m.ident.at 1 y) 0
+      go None h = refl
+      go (Some d) h = omega (arith, share_other d.at 1 y (λ q. h (sym q)))
   own-credit y m (of_some {b} h) e = omega (arith, share_other b.ident.at (cond m.is_set 2 1) y (λ q. h (sym q)))
 
   -- What all give
 
-  bound-credits : (b : Binder) → ((x : Ident) → Some (λ d. ¬ (d.at ≡ b.ident.at)) (cell ts x)) → (l : List Mention) → All (λ m. ¬ (m.ident.at ≡ b.ident.at)) l
+  bound-credits : (b : Binder) → ((x : Ident) → IfSome (cell ts x) (λ d. ¬ (d.at ≡ b.ident.at))) → (l : List Mention) → All (λ m. ¬ (m.ident.at ≡ b.ident.at)) l
       → credits_of (cell ts) l b.ident.at ≡ bound_uses b l
   unfolding count
   bound-credits b e [] a = refl
@@ -103,7 +99,7 @@ module _ (ts : Trees) where
   owns [] y = 0
   owns (m ∷ l) y = cond (has_entry ts m) (share m.ident.at 1 y) 0 + owns l y
 
-  own-credits : (y : ℕ) → ((x : Ident) → Some (λ d. ¬ (d.at ≡ y)) (cell ts x)) → (l : List Mention) → All (λ m. All (λ b. ¬ (b.ident.at ≡ y)) m.place.scope) l
+  own-credits : (y : ℕ) → ((x : Ident) → IfSome (cell ts x) (λ d. ¬ (d.at ≡ y))) → (l : List Mention) → All (λ m. All (λ b. ¬ (b.ident.at ≡ y)) m.place.scope) l
       → credits_of (cell ts) l y ≡ owns l y
   own-credits y e [] s = refl
   own-credits y e (m ∷ l) s = omega (arith, own-credit y m (find-all m.place.scope s.0 m.ident.name) (e m.ident), own-credits y e l s.1)
@@ -133,12 +129,12 @@ module _ (ts : Trees) where
 -- The rows
 
 -- one that refers is an identifier's
-used : (r : Row) {n : ℕ} {k : Reference} → reference_in r ≡ some k → Told n r → uses_in r ≡ some n
-used Blank {k = k} e t = absurd (none-ne-some k e)
-used (Variable v) e t = ap some t
-used (Function v) {k = k} e t = absurd (none-ne-some k e)
-used (CallSite v) {k = k} e t = absurd (none-ne-some k e)
-used (Let v) {k = k} e t = absurd (none-ne-some k e)
+used : (r : Row) {n : ℕ} {k : Reference} → reference_in r ≡ Some k → Told n r → uses_in r ≡ Some n
+used Blank {k = k} e t = absurd (none-some k e)
+used (Variable v) e t = ap Some t
+used (Function v) {k = k} e t = absurd (none-some k e)
+used (CallSite v) {k = k} e t = absurd (none-some k e)
+used (Let v) {k = k} e t = absurd (none-some k e)
 
 -- each mention has some before it and some after
 each : (Q : Mention → Type 0) (before l : List Mention) → ((pre post : List Mention) (m : Mention) → before ++ l ≡ pre ++ (m ∷ post) → Q m) → All Q l
@@ -158,13 +154,13 @@ module _ (classes rs : List ℕ) (ts : Trees) (a : FreshAccepts classes rs ts) (
   abbrev D : List Define
   D = defines_of (top_level ts)
 
-  counted : (y n : ℕ) {k : Reference} → reference_in (row_at y) ≡ some k → credits_of (cell ts) l y ≡ n → uses_in (row_at y) ≡ some n
+  counted : (y n : ℕ) {k : Reference} → reference_in (row_at y) ≡ Some k → credits_of (cell ts) l y ≡ n → uses_in (row_at y) ≡ Some n
   counted y n r e =
       used (row_at y) r (subst (λ (k : ℕ). Told k (row_at y)) e (fresh-told classes ts a.accepted.num a.accepted.few d (no_nine (fresh classes ts).noted a.not_refused) y))
 
   -- no define stands at y; no parameter or let name does
 
-  cells : (y : ℕ) → times define_at D y ≡ 0 → (x : Ident) → Some (λ e. ¬ (e.at ≡ y)) (cell ts x)
+  cells : (y : ℕ) → times define_at D y ≡ 0 → (x : Ident) → IfSome (cell ts x) (λ e. ¬ (e.at ≡ y))
   cells y e = bottom_some ts (λ x. ¬ (x.at ≡ y)) (times_none define_at D y e)
 
   scopes : (y : ℕ) → times binder_at B y ≡ 0 → All (λ m. All (λ b. ¬ (b.ident.at ≡ y)) m.place.scope) l
@@ -175,18 +171,18 @@ module _ (classes rs : List ℕ) (ts : Trees) (a : FreshAccepts classes rs ts) (
       let one = spots ts a.accepted.num in
       let binding = binding_fresh classes rs ts a d in
       record {
-        bound = all_zip (λ b. reference_in (row_at b.ident.at) ≡ some (fresh_binder classes ts b)) (λ b. 1 ≤ times binder_at B b.ident.at)
-            (λ b. uses_in (row_at b.ident.at) ≡ some (bound_uses b l))
+        bound = all_zip (λ b. reference_in (row_at b.ident.at) ≡ Some (fresh_binder classes ts b)) (λ b. 1 ≤ times binder_at B b.ident.at)
+            (λ b. uses_in (row_at b.ident.at) ≡ Some (bound_uses b l))
             (λ b r h. let y = b.ident.at in counted y _ r (bound-credits ts b (cells y (omega (arith, one y))) l (times_none mention_at l y (omega (arith, one y)))))
             B binding.bound (times_here binder_at B);
-        defined = all_zip (λ e. reference_in (row_at e.name.at) ≡ some defined_name) (λ e. 1 ≤ times define_at D e.name.at)
-            (λ e. uses_in (row_at e.name.at) ≡ some (count (refers_to ts e.name) l))
+        defined = all_zip (λ e. reference_in (row_at e.name.at) ≡ Some defined_name) (λ e. 1 ≤ times define_at D e.name.at)
+            (λ e. uses_in (row_at e.name.at) ≡ Some (count (refers_to ts e.name) l))
             (λ e r h.
             let y = e.name.at in
             counted y _ r (define-credits ts e.name l (times_none mention_at l y (omega (arith, one y))) (scopes y (omega (arith, one y)))))
             D (defined-fresh classes rs ts a).0 (times_here define_at D);
-        mentioned = all_zip (λ m. (k : Reference) × (reference_in (row_at m.ident.at) ≡ some k)) (λ m. credits_of (cell ts) l m.ident.at ≡ cond (has_entry ts m) 1 0)
-            (λ m. uses_in (row_at m.ident.at) ≡ some (cond (has_entry ts m) 1 0)) (λ m r e. counted m.ident.at _ r.1 e)
+        mentioned = all_zip (λ m. (k : Reference) × (reference_in (row_at m.ident.at) ≡ Some k)) (λ m. credits_of (cell ts) l m.ident.at ≡ cond (has_entry ts m) 1 0)
+            (λ m. uses_in (row_at m.ident.at) ≡ Some (cond (has_entry ts m) 1 0)) (λ m r e. counted m.ident.at _ r.1 e)
             l (each _ [] l (λ pre post m e. (_, binding.mentioned pre post m e)))
             (all_zip (λ m. 1 ≤ times mention_at l m.ident.at) (λ m. owns ts l m.ident.at ≡ cond (has_entry ts m) 1 0)
             (λ m. credits_of (cell ts) l m.ident.at ≡ cond (has_entry ts m) 1 0)

@@ -1,8 +1,7 @@
 -- What the steps of a lambda and a let keep of a state.
-use Rattle.std.specs.Prelude.{ℕ, suc, ◌+◌, Bool, cond, ◌≡◌, length, ltb}
+use Rattle.std.specs.Prelude.{ℕ, suc, ◌+◌, Bool, cond, ◌≡◌, length, ltb, Option, None, Some}
 use mathlib.Core.List.{List, [], ◌∷◌}
 use Rattle.std.proofs.Math.Bool.{true, false}
-use Rattle.std.proofs.Math.Option.{Option, none, some}
 use Rattle.std.proofs.Math.Path.{refl}
 use Rattle.std.proofs.Common.{ap, ◌∙◌}
 use Rattle.tree.specs.Check.{Refusal}
@@ -31,8 +30,8 @@ enter_sides : (x : Ident) (e : Entry) (s : State) → sides_of (enter x e s) ≡
 enter_sides x e s = ap (λ (o : Aside). record { context = o.context; captures = o.captures }) (enter_aside x e s)
 
 heap_sides : (o : Option ℕ) (x : Ident) (s : State) → sides_of (note_heap o x s) ≡ sides_of s
-heap_sides none x s = refl
-heap_sides (some n) x s = refl
+heap_sides None x s = refl
+heap_sides (Some n) x s = refl
 
 module _ (kind : IdentifierStatus) (base : ℕ) (heaps : Option ℕ) (before : List ListEntry) where
   name_sides : (b : Bool) (x : Ident) (j h : ℕ) (s : State) → sides_of (enter_name kind base heaps before b x j h s) ≡ sides_of s
@@ -66,8 +65,8 @@ outside_of s = record { sides = sides_of s; captured_top = s.facts.captured_top;
 
 last-outside : (o : Option Ident) (s : State) → outside_of (mark_last o s) ≡ outside_of s
 unfolding amend insert
-last-outside none s = refl
-last-outside (some x) s = refl
+last-outside None s = refl
+last-outside (Some x) s = refl
 
 lasts_outside : (l : List (Live Ident)) (s : State) → outside_of (mark_lasts l s) ≡ outside_of s
 unfolding mark_lasts
@@ -121,8 +120,8 @@ stored-begun i l s = either (ltb captured_most (s.facts.captured_top + length l)
 function_begun : (o : Option FunctionInformation) (n : Node) (b : Tree) (escapes : Bool) (now arguments : List ListEntry) (m : ScopeMap Capture) (s : State)
     → begun_of (function_ends o n b escapes now arguments m s) ≡ begun_of s
 unfolding make_function amend_function rewrite_captured store_arguments insert
-function_begun none n b escapes now arguments m s = stored-begun n.at (sort_by_id now) s
-function_begun (some v) n b escapes now arguments m s = refl
+function_begun None n b escapes now arguments m s = stored-begun n.at (sort_by_id now) s
+function_begun (Some v) n b escapes now arguments m s = refl
 
 pub close_lambda_begun : (n : Node) (xs : List Ident) (b : Tree) (escapes : Bool) (s : State) → begun_of (close_lambda n xs b escapes s) ≡ begun_of s
 unfolding close_lambda close_scope close_captures

@@ -1,7 +1,6 @@
 -- The tables are left in one way only.
-use Rattle.std.specs.Prelude.{ℕ, ◌≤◌, Bool, true, false, List, ◌≡◌, refl, length}
+use Rattle.std.specs.Prelude.{ℕ, ◌≤◌, Bool, true, false, List, ◌≡◌, refl, length, Option, None, Some}
 use Rattle.std.proofs.Common.{⊎_elim, sym, ◌∙◌}
-use Rattle.std.proofs.Math.Option.{Option, none, some}
 use Rattle.tree.specs.Record.{Record, numbers}
 use Rattle.tree.specs.Check.{Refusal, refusal}
 use Rattle.tree.proofs.Laws.Acceptance.{accepted as acceptance}
@@ -17,8 +16,8 @@ left_once true cs rs {t} {u} {v} p q =
     ⊎_elim (λ h. p.too_many refl h ∙ sym (q.too_many refl h)) (λ h. by_refusal h (refusal (length cs) (numbers rs)) refl) (below_or records_most (length rs))
   where
     by_refusal : length rs ≤ records_most → (o : Option Refusal) → refusal (length cs) (numbers rs) ≡ o → u ≡ v
-    by_refusal h (some r) e = p.refused refl h r e ∙ sym (q.refused refl h r e)
-    by_refusal h none e = let (ts, a) = acceptance (length cs) (numbers rs) e in p.accepted refl h ts a ∙ sym (q.accepted refl h ts a)
+    by_refusal h (Some r) e = p.refused refl h r e ∙ sym (q.refused refl h r e)
+    by_refusal h None e = let (ts, a) = acceptance (length cs) (numbers rs) e in p.accepted refl h ts a ∙ sym (q.accepted refl h ts a)
 
 pub leaves_once : (fit : Bool) (b : List ℕ) {t u v : Tables} → Leaves fit b t u → Leaves fit b t v → u ≡ v
 leaves_once fit b {t} {u} {v} p q = go (read b) refl

@@ -1,7 +1,7 @@
 -- For all bytes exactly one text is printed.
-use Rattle.std.specs.Prelude.{Bool, true, false, List, ◌≡◌, refl, ℕ, ◌≤◌, length}
+use Rattle.std.specs.Prelude.{Bool, true, false, List, ◌≡◌, refl, ℕ, ◌≤◌, length, Option, None, Some}
+use Rattle.std.proofs.lemmas.Option.{none-some}
 use Rattle.std.proofs.Common.{true≢false, ⊎_elim, ap, sym, ◌∙◌, arith}
-use Rattle.std.proofs.Math.Option.{Option, none, some, some-ne-none}
 use Rattle.tree.specs.Record.{Record, numbers}
 use Rattle.tree.specs.Check.{Refusal, refusal}
 use Rattle.tree.proofs.Laws.Acceptance.{accepted as acceptance, only, unique}
@@ -23,8 +23,8 @@ told true cs rs =
     ⊎_elim (λ h. record { text = _; is = too_many refl h }) (λ h. by_refusal h (refusal (length cs) (numbers rs)) refl) (below_or records_most (length rs))
   where
     by_refusal : length rs ≤ records_most → (o : Option Refusal) → refusal (length cs) (numbers rs) ≡ o → Text (Shows true cs rs)
-    by_refusal h (some r) e = record { text = refusal_text r; is = refused refl h e }
-    by_refusal h none e = let (ts, a) = acceptance (length cs) (numbers rs) e in record { text = fresh_text cs ts; is = accepted refl h a }
+    by_refusal h (Some r) e = record { text = refusal_text r; is = refused refl h e }
+    by_refusal h None e = let (ts, a) = acceptance (length cs) (numbers rs) e in record { text = fresh_text cs ts; is = accepted refl h a }
 
 pub printed : (fit : Bool) (b : List ℕ) → Text (Prints fit b)
 printed fit b = go (read b) refl
@@ -47,10 +47,10 @@ told_once (too_many p h) (accepted q g a) = absurd (omega arith)
 told_once (refused p h e) (unfit q) = absurd (true≢false (sym p ∙ q))
 told_once (refused p h e) (too_many q g) = absurd (omega arith)
 told_once (refused {r} p h e) (refused {r = s} q g f) = let z : r ≡ s = cc in ap refusal_text z
-told_once {cs = cs} {rs} (refused p h e) (accepted q g a) = absurd (some-ne-none _ (sym e ∙ only (length cs) (numbers rs) _ a))
+told_once {cs = cs} {rs} (refused p h e) (accepted q g a) = absurd (none-some _ (sym (sym e ∙ only (length cs) (numbers rs) _ a)))
 told_once (accepted p h a) (unfit q) = absurd (true≢false (sym p ∙ q))
 told_once (accepted p h a) (too_many q g) = absurd (omega arith)
-told_once {cs = cs} {rs} (accepted p h a) (refused q g e) = absurd (some-ne-none _ (sym e ∙ only (length cs) (numbers rs) _ a))
+told_once {cs = cs} {rs} (accepted p h a) (refused q g e) = absurd (none-some _ (sym (sym e ∙ only (length cs) (numbers rs) _ a)))
 told_once {cs = cs} (accepted p h a) (accepted q g c) = ap (fresh_text cs) (unique a c)
 
 never : {n : ℕ} {cs : List ℕ} {rs : List Record} {P : Type 0} → bad n ≡ good cs rs → P

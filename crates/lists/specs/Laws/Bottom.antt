@@ -1,6 +1,5 @@
 -- The live names of the bottom layer, which come first and give nothing, and those above it. No place of the code stands here.
-use Rattle.std.specs.Prelude.{ℕ, suc, ◌+◌, ◌-◌, ◌≤◌, ◌<◌, List, [], ◌∷◌, Bool, true, false, cond, ◌≡◌, refl, get_or, drop, ltb}
-use Rattle.std.proofs.Math.Option.{none}
+use Rattle.std.specs.Prelude.{ℕ, suc, ◌+◌, ◌-◌, ◌≤◌, ◌<◌, List, [], ◌∷◌, Bool, true, false, cond, ◌≡◌, refl, get_or, drop, ltb, None}
 use Rattle.std.proofs.Math.Path.{ap, sym}
 use Rattle.std.proofs.Common.{◌∙◌, ltb-true, ltb-false, le-ltb, lt-ltb, length-drop}
 use native.Mathlib.Omega.{arith}
@@ -84,7 +83,7 @@ unfolding captured_in map_live Sorted
 low_gives ps s d [] h o = refl
 low_gives ps s d (e ∷ l) h o =
     captured_step ps s e l
-    ∙ ap (λ (q : Bool). with_given s.scope (cond q (offered ps s.scope e.name) none) (captured_in ps s l)) (le-ltb 1 e.layer (omega (arith, o.0)))
+    ∙ ap (λ (q : Bool). with_given s.scope (cond q (offered ps s.scope e.name) None) (captured_in ps s l)) (le-ltb 1 e.layer (omega (arith, o.0)))
     ∙ low_gives ps s e.layer l (omega (arith, o.0)) o.1
 
 bottom_gives : (ps : List ℕ) (s : State) (d : ℕ) (l : List (Live Ident)) → Sorted d (map_live record_at l) → captured_in ps s (bottom_of l) ≡ []

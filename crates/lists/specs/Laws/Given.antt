@@ -1,6 +1,5 @@
 -- What live names give to the list of a lambda that ends.
-use Rattle.std.specs.Prelude.{ℕ, suc, ◌+◌, ◌≤◌, List, [], ◌∷◌, Bool, true, false, cond, not, ◌&&◌, ◌≡◌, refl, length, ltb}
-use Rattle.std.proofs.Math.Option.{Option, none, some}
+use Rattle.std.specs.Prelude.{ℕ, suc, ◌+◌, ◌≤◌, List, [], ◌∷◌, Bool, true, false, cond, not, ◌&&◌, ◌≡◌, refl, length, ltb, Option, None, Some}
 use Rattle.std.proofs.Common.{ap, ◌∙◌, arith, add-one}
 use Rattle.tree.specs.Tree.{Ident}
 use Rattle.tree.specs.Check.{member}
@@ -20,16 +19,16 @@ unfolding captured_in
 captured_step ps s e l = go (ltb 1 e.layer) (not (member e.name ps)) (binder_in (get s.scope.names e.name))
   where
     picked : (b : Ident) (q : Bool)
-        → cond q (list_entry_of b (entry_at s b.at) ∷ captured_in ps s l) (captured_in ps s l) ≡ with_given s.scope (cond q (some b) none) (captured_in ps s l)
+        → cond q (list_entry_of b (entry_at s b.at) ∷ captured_in ps s l) (captured_in ps s l) ≡ with_given s.scope (cond q (Some b) None) (captured_in ps s l)
     picked b true = refl
     picked b false = refl
 
     go : (q r : Bool) (o : Option Ident)
-        → add_captured (q && r) s o (captured_in ps s l) ≡ with_given s.scope (cond q (cond r (where_captured s.scope o) none) none) (captured_in ps s l)
+        → add_captured (q && r) s o (captured_in ps s l) ≡ with_given s.scope (cond q (cond r (where_captured s.scope o) None) None) (captured_in ps s l)
     go false r o = refl
     go true false o = refl
-    go true true none = refl
-    go true true (some b) = picked b (entry_at s b.at).captured
+    go true true None = refl
+    go true true (Some b) = picked b (entry_at s b.at).captured
 
 -- an index that has no name
 pub indexes_none : (ps : List ℕ) (c : Scope) → Indexes [] ps c
@@ -37,33 +36,33 @@ indexes_none ps c x h = absurd (omega arith)
 
 -- what is given is what the name gives, a newest binder
 
-pub given-offered : (ps : List ℕ) (c : Scope) (e : Live Ident) (b : Ident) → given ps c e ≡ some b → offered ps c e.name ≡ some b
+pub given-offered : (ps : List ℕ) (c : Scope) (e : Live Ident) (b : Ident) → given ps c e ≡ Some b → offered ps c e.name ≡ Some b
 given-offered ps c e b = go (ltb 1 e.layer)
   where
-    go : (q : Bool) → cond q (offered ps c e.name) none ≡ some b → offered ps c e.name ≡ some b
+    go : (q : Bool) → cond q (offered ps c e.name) None ≡ Some b → offered ps c e.name ≡ Some b
     go false k = absurd (let z : ◌≡◌ {A = ℕ} 0 1 = cc in omega arith)
     go true k = k
 
-pub offered-newest : (ps : List ℕ) (c : Scope) (x : ℕ) (b : Ident) → offered ps c x ≡ some b → binder_in (get c.names x) ≡ some b
+pub offered-newest : (ps : List ℕ) (c : Scope) (x : ℕ) (b : Ident) → offered ps c x ≡ Some b → binder_in (get c.names x) ≡ Some b
 offered-newest ps c x b = go (not (member x ps)) (binder_in (get c.names x))
   where
-    picked : (y : Ident) (q : Bool) → cond q (some y) none ≡ some b → some y ≡ some b
+    picked : (y : Ident) (q : Bool) → cond q (Some y) None ≡ Some b → Some y ≡ Some b
     picked y true k = k
     picked y false k = absurd (let z : ◌≡◌ {A = ℕ} 0 1 = cc in omega arith)
 
-    go : (r : Bool) (o : Option Ident) → cond r (where_captured c o) none ≡ some b → o ≡ some b
+    go : (r : Bool) (o : Option Ident) → cond r (where_captured c o) None ≡ Some b → o ≡ Some b
     go false o k = absurd (let z : ◌≡◌ {A = ℕ} 0 1 = cc in omega arith)
-    go true none k = k
-    go true (some y) k = picked y (entry_in c y.at).captured k
+    go true None k = k
+    go true (Some y) k = picked y (entry_in c y.at).captured k
 
-pub given-newest : (ps : List ℕ) (c : Scope) (e : Live Ident) (b : Ident) → given ps c e ≡ some b → binder_in (get c.names e.name) ≡ some b
+pub given-newest : (ps : List ℕ) (c : Scope) (e : Live Ident) (b : Ident) → given ps c e ≡ Some b → binder_in (get c.names e.name) ≡ Some b
 given-newest ps c e b q = offered-newest ps c e.name b (given-offered ps c e b q)
 
 -- One name more
 
 pub with_length : (c : Scope) (o : Option Ident) (l : List ListEntry) → length (with_given c o l) ≡ length l + cond (is_some (record_in o)) 1 0
-with_length c none l = omega arith
-with_length c (some b) l = omega arith
+with_length c None l = omega arith
+with_length c (Some b) l = omega arith
 
 -- a live name gives at most one entry, so there are at most as many as live names
 

@@ -1,6 +1,5 @@
 -- Both machines run: the last value and the number of moments of some scripts; and that demand 3 needs both of its premises.
-use Rattle.std.specs.Prelude.{ℕ, [], ◌∷◌, true, false, ◌≡◌, refl, replicate}
-use Rattle.std.proofs.Math.Option.{Option, none}
+use Rattle.std.specs.Prelude.{ℕ, [], ◌∷◌, true, false, ◌≡◌, refl, replicate, Option, None}
 use Rattle.tree.specs.Tree.{Tree, Trees, ident, const, letin, define, lambda, sequence, call, nil, cons, begins, ands, whens}
 use Rattle.tree.specs.Check.{Refusal}
 use Rattle.r7rs.specs.Machine.{next, ended, stopped, outside}
@@ -72,12 +71,12 @@ failed = one (call (nd 0) (lambda (nd 1) (x 2 0 ∷ []) (sequence (ands (bare 3)
 
 -- `shared`: a set! of a parameter that an inner lambda mentions
 examples : (seen 2 unshared 40 ∷ seen 3 lets 40 ∷ seen 1 tested 40 ∷ seen 1 failed 40 ∷ seen 2 shared 40 ∷ seen 1 inner 40 ∷ []) ≡ (
-    record { refused = none; moments = 12; by_slots = constant 10; plainly = constant 10 }
-    ∷ record { refused = none; moments = 15; by_slots = constant 11; plainly = constant 11 }
-    ∷ record { refused = none; moments = 12; by_slots = constant 9; plainly = constant 9 }
-    ∷ record { refused = none; moments = 8; by_slots = falsity 0; plainly = falsity 0 }
-    ∷ record { refused = none; moments = 15; by_slots = constant 14; plainly = constant 11 }
-    ∷ record { refused = none; moments = 11; by_slots = constant 9; plainly = constant 11 }
+    record { refused = None; moments = 12; by_slots = constant 10; plainly = constant 10 }
+    ∷ record { refused = None; moments = 15; by_slots = constant 11; plainly = constant 11 }
+    ∷ record { refused = None; moments = 12; by_slots = constant 9; plainly = constant 9 }
+    ∷ record { refused = None; moments = 8; by_slots = falsity 0; plainly = falsity 0 }
+    ∷ record { refused = None; moments = 15; by_slots = constant 14; plainly = constant 11 }
+    ∷ record { refused = None; moments = 11; by_slots = constant 9; plainly = constant 11 }
     ∷ [])
 unfolding Define.◌⊕◌ Define.top_of Define.top_level Tree.flats ScopeMap.has_in ScopeMap.remove_in ScopeMap.layer_in ScopeMap.below_layer ScopeMap.get_in Machines.run plain Lambda.enter_name Lambda.enter_names Lambda.open_captures Lambda.open_scope Lambda.enter_parameters Lambda.open_lambda Lambda.mark_lasts Lambda.close_scope Lambda.close_captures Lambda.end_parameters Lambda.make_function Lambda.close_lambda Lambda.open_layer Lambda.close_layer Lambda.open_let Lambda.leave_names Lambda.close_let Lists.captured_in Lists.captured_vars Lists.insert_by_id Lists.sort_by_id Lists.store_captured Lists.store_arguments Lists.number_row Lists.amend_list Read.enter Read.define_fact Read.enter_define Read.enter_top_level_value Read.rule_of Read.use_in Read.read Read.mutate Pass.no_facts Pass.start Pass.run fresh State.insert State.amend State.put_entry Visit.mark_arguments Visit.close_call Visit.clear_context Visit.enter_children Visit.visit Visit.visit_arguments Visit.visit_children Visit.visit_top Visit.visit_tops Facts.row_of_id Facts.home slots Steps.give First.first
 examples = refl

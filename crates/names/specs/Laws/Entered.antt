@@ -1,6 +1,5 @@
 -- What a name that enters leaves as it was, so that the pass is what it was, but for what the name changed.
-use Rattle.std.specs.Prelude.{ℕ, List, Bool, true, false, ◌&&◌, ◌≡◌, refl, length, ltb}
-use Rattle.std.proofs.Math.Option.{Option}
+use Rattle.std.specs.Prelude.{ℕ, List, Bool, true, false, ◌&&◌, ◌≡◌, refl, length, ltb, Option}
 use Rattle.std.proofs.Common.{ap, sym, ◌∙◌}
 use Rattle.tree.specs.Tree.{Ident}
 use Rattle.scope_map.specs.ScopeMap.{ScopeMap, define, has_at_top}

@@ -1,7 +1,6 @@
 -- Document 01, "Scripts to try (* proved)": each starred script with what the document says of it, and that the definitions say so.
-use Rattle.std.specs.Prelude.{ℕ, suc, Bool, true, false, ◌≡◌, refl, length, replicate}
+use Rattle.std.specs.Prelude.{ℕ, suc, Bool, true, false, ◌≡◌, refl, length, replicate, Option, None, Some}
 use mathlib.Core.List.{List, [], ◌∷◌, map, head-eq_of_cons-eq, tail-eq_of_cons-eq}
-use Rattle.std.proofs.Math.Option.{Option, none, some}
 use Rattle.std.proofs.Common.{ap}
 use Rattle.table.specs.Layout.{layout}
 use Rattle.tree.specs.Record.{numbers, records}
@@ -69,40 +68,40 @@ records_of s = numbers (flats s.tree)
 -- What the definitions say instead
 
 abbrev call_in : Row → Option CallKind
-call_in Blank = none
-call_in (Variable v) = none
-call_in (Function v) = none
-call_in (CallSite v) = some v.kind
-call_in (Let v) = none
+call_in Blank = None
+call_in (Variable v) = None
+call_in (Function v) = None
+call_in (CallSite v) = Some v.kind
+call_in (Let v) = None
 
 abbrev variable_in : Row → Option SemanticInformation
-variable_in Blank = none
-variable_in (Variable v) = some v
-variable_in (Function v) = none
-variable_in (CallSite v) = none
-variable_in (Let v) = none
+variable_in Blank = None
+variable_in (Variable v) = Some v
+variable_in (Function v) = None
+variable_in (CallSite v) = None
+variable_in (Let v) = None
 
 abbrev kind_in : Option SemanticInformation → Option IdentifierStatus
-kind_in none = none
-kind_in (some v) = some v.kind
+kind_in None = None
+kind_in (Some v) = Some v.kind
 
 -- a number of an identifier's fact, NONE without a fact; a mark of it
 abbrev number_in : (SemanticInformation → ℕ) → Option SemanticInformation → ℕ
-number_in f none = NONE
-number_in f (some v) = f v
+number_in f None = NONE
+number_in f (Some v) = f v
 
 abbrev mark_in : (SemanticInformation → Bool) → Option SemanticInformation → Bool
-mark_in f none = false
-mark_in f (some v) = f v
+mark_in f None = false
+mark_in f (Some v) = f v
 
 abbrev escapes_in : Option FunctionInformation → Bool
-escapes_in none = false
-escapes_in (some v) = v.escapes
+escapes_in None = false
+escapes_in (Some v) = v.escapes
 
 -- the ids in a list of a lambda's
 abbrev ids_in : (FunctionInformation → List ListEntry) → Option FunctionInformation → List ℕ
-ids_in f none = []
-ids_in f (some v) = map list_entry_id (f v)
+ids_in f None = []
+ids_in f (Some v) = map list_entry_id (f v)
 
 abbrev variable_at : State → ℕ → Option SemanticInformation
 variable_at a i = variable_in (row_at a i)
@@ -157,7 +156,7 @@ abbrev pub computed : Script → Answer
 computed s = computed_as (classes s) s
 
 abbrev pub expected : Script → Answer
-expected s = record { numbered = true; checked = none; fresh = s.fresh; settled = s.settled; says = s.says }
+expected s = record { numbered = true; checked = None; fresh = s.fresh; settled = s.settled; says = s.says }
 
 -- Writing trees: what has an id has its record's number plus 1; an if, a begin, a define and a set! have none
 
@@ -187,7 +186,7 @@ abbrev pub only : Tree → Trees
 only t = cons t nil
 
 abbrev pub refused : ℕ → ℕ → Option Refusal
-refused n i = some (record { number = n; at = i })
+refused n i = Some (record { number = n; at = i })
 
 -- The scripts in the document's order, each under the document's words. Names are numbered as they come.
 
@@ -196,14 +195,14 @@ abbrev pub sample : Script
 sample = record {
   names = 2;
   tree = only (define (bare 0) (ident_of 1 1 0) (lambda (node_of 2 2) (ident_of 3 3 1 ∷ []) (call (node_of 4 4) (ident (ident_of 5 5 0)) (only (ident (ident_of 6 6 1))))));
-  fresh = none;
-  settled = none;
+  fresh = None;
+  settled = None;
   says = [];
 }
 
 -- "No records: the last line alone, all 0.": the line is there too
 abbrev pub no_records : Script
-no_records = record { names = 0; tree = nil; fresh = none; settled = none; says = [] }
+no_records = record { names = 0; tree = nil; fresh = None; settled = None; says = [] }
 
 abbrev pub scripts : List Script
 scripts =
@@ -213,9 +212,9 @@ scripts =
     ∷ record {
       names = 2;
       tree = only (call (at 0) (reads 1 0) (only (reads 2 1)));
-      fresh = none;
-      settled = none;
-      says = call_at 0 (some Normal) ∷ kind_at 1 (some Free) ∷ kind_at 2 (some Free) ∷ [];
+      fresh = None;
+      settled = None;
+      says = call_at 0 (Some Normal) ∷ kind_at 1 (Some Free) ∷ kind_at 2 (Some Free) ∷ [];
     }
     -- "(lambda (c) (if (p c) (q c) (r c))): Normal, TailCall, TailCall."
     ∷ record {
@@ -224,32 +223,32 @@ scripts =
           (call (at 3) (reads 4 1) (only (reads 5 0)))
           (call (at 6) (reads 7 2) (only (reads 8 0)))
           (call (at 9) (reads 10 3) (only (reads 11 0)))));
-      fresh = none;
-      settled = none;
-      says = call_at 3 (some Normal) ∷ call_at 6 (some TailCall) ∷ call_at 9 (some TailCall) ∷ [];
+      fresh = None;
+      settled = None;
+      says = call_at 3 (Some Normal) ∷ call_at 6 (Some TailCall) ∷ call_at 9 (Some TailCall) ∷ [];
     }
     -- "(lambda (p) (g 7 (let ((y p)) y))): y's slot 2."
     ∷ record {
       names = 3;
       tree = only (lambda (at 0) (named 1 0 ∷ []) (call (at 2) (reads 3 1) (cons (number 4) (only (letin (at 5) (named 6 2 ∷ []) (only (reads 7 0)) (reads 8 2))))));
-      fresh = none;
-      settled = none;
+      fresh = None;
+      settled = None;
       says = slot_at 8 2 ∷ [];
     }
     -- "(lambda (x) (lambda () x)): Captured, slot 0, depth 3."
     ∷ record {
       names = 1;
       tree = only (lambda (at 0) (named 1 0 ∷ []) (lambda (at 2) [] (reads 3 0)));
-      fresh = none;
-      settled = none;
-      says = kind_at 3 (some Captured) ∷ slot_at 3 0 ∷ depth_at 3 3 ∷ [];
+      fresh = None;
+      settled = None;
+      says = kind_at 3 (Some Captured) ∷ slot_at 3 0 ∷ depth_at 3 3 ∷ [];
     }
     -- "(lambda (x) (set! x 1)): x has 2 uses."
     ∷ record {
       names = 1;
       tree = only (lambda (at 0) (named 1 0 ∷ []) (set! (bare 2) (named 3 0) (number 4)));
-      fresh = none;
-      settled = none;
+      fresh = None;
+      settled = None;
       says = uses_at 1 2 ∷ [];
     }
     -- "(lambda (x) (let ((x 1)) x)): 9 at 3."
@@ -265,7 +264,7 @@ scripts =
       names = 1;
       tree = only (lambda (at 0) (named 1 0 ∷ []) (lambda (at 2) [] (sequence (begins (bare 3))
           (cons (lambda (at 4) [] (reads 5 0)) (only (set! (bare 6) (named 7 0) (number 8)))))));
-      fresh = none;
+      fresh = None;
       settled = refused 12 5;
       says = [];
     }
@@ -273,7 +272,7 @@ scripts =
     ∷ record {
       names = 1;
       tree = only (letin (at 0) (named 1 0 ∷ []) (only (number 2)) (lambda (at 3) [] (set! (bare 4) (named 5 0) (number 6))));
-      fresh = none;
+      fresh = None;
       settled = refused 11 1;
       says = [];
     }

@@ -1,9 +1,8 @@
 -- A fresh visit goes into the body of a let or a lambda, and out of it.
-use Rattle.std.specs.Prelude.{ℕ, suc, ◌+◌, ◌-◌, ◌≤◌, ◌<◌, Bool, cond, ◌≡◌, length, eqb, ltb}
+use Rattle.std.specs.Prelude.{ℕ, suc, ◌+◌, ◌-◌, ◌≤◌, ◌<◌, Bool, cond, ◌≡◌, length, eqb, ltb, Option, None}
 use mathlib.Core.List.{List, [], ◌∷◌, reverse_aux}
 use Rattle.std.proofs.Math.Bool.{true, false}
 use Rattle.std.proofs.Common.{true≢false, sym, ◌∙◌, arith}
-use Rattle.std.proofs.Math.Option.{Option, none}
 use Rattle.std.proofs.Math.Path.{refl, ap, subst}
 use borrow.Author.Tests.{eqb-true, eqb-false, lt-ltb}
 use Rattle.tree.specs.Tree.{Ident, Node, Tree, NumNames}
@@ -27,10 +26,10 @@ use Rattle.pass_laws.specs.Laws.Enters.{in_scope, Entered, enter-all}
 
 -- Into a body
 
-abbrev pub None : ℕ → Type 0
-None x = ⊥
+abbrev pub Nowhere : ℕ → Type 0
+Nowhere x = ⊥
 
-pub no_part : {own : ℕ → Type 0} → Parts own None own
+pub no_part : {own : ℕ → Type 0} → Parts own Nowhere own
 no_part = record { written = λ x o. absurd o; kept = λ x o. o; apart = λ x o n. n }
 
 -- the same at another height
@@ -63,7 +62,7 @@ two_deep d true e h = omega arith
 two_deep d false e h = let q : ¬ (d ≡ 1) = eqb-false d 1 e in omega arith
 
 module _ {own : ℕ → Type 0} {bottom : List (Live Ident)} {before : List Use} {p : Place} {s : State} where
-  open_layers : (n : Node) (k : ℕ) → Finds own bottom before p s → Finds own bottom before (lambda_body n k p) (open_scope (open_captures none s))
+  open_layers : (n : Node) (k : ℕ) → Finds own bottom before p s → Finds own bottom before (lambda_body n k p) (open_scope (open_captures None s))
   unfolding open_scope open_captures
   open_layers n k f =
       record {
@@ -96,7 +95,7 @@ module _ {own : ℕ → Type 0} {bottom : List (Live Ident)} {before : List Use}
   -- a fresh let and a fresh lambda find no fact of their own
   module _ (classes : List ℕ) {left : ℕ → Type 0} (n : Node) (k : ℕ) (xs : List Ident) (m : NumNames k xs) (o : Covers own k (k + length xs)) (i : own n.at)
       (l : (y : ℕ) → left y → own y) (a : (y : ℕ) → left y → k ≤ y → y < k + length xs → ⊥) (f : Finds own bottom before p s) where
-    pub into_let : (height : ℕ) → height ≡ p.site.height → (function : Option Node) → (open_let n xs height function s).noted.nine ≡ none
+    pub into_let : (height : ℕ) → height ≡ p.site.height → (function : Option Node) → (open_let n xs height function s).noted.nine ≡ None
         → Entered classes (let_body (length xs) p) bottom before left (let_names xs p) p.scope k (length xs) (open_let n xs height function s)
     unfolding open_let
     into_let height e function =
@@ -107,14 +106,14 @@ module _ {own : ℕ → Type 0} {bottom : List (Live Ident)} {before : List Use}
         let fresh : let_arguments t (row_at t n.at) ≡ [] = ap (let_arguments t) (open_row (at_bottom s) s n.at ∙ f.tables.blank n.at i) in
         rw (e, fresh) (enter-all LetVar p.site.height heaps true (let_body (length xs) p) (two_deep p.site.layer (eqb p.site.layer 1) refl f.one) classes k xs 0 0 m o l a refl opened)
 
-    pub into_lambda : (open_lambda n xs s).noted.nine ≡ none
+    pub into_lambda : (open_lambda n xs s).noted.nine ≡ None
         → Entered classes (lambda_body n (length xs) p) bottom before left (parameters n xs p) p.scope k (length xs) (open_lambda n xs s)
     unfolding open_lambda enter_parameters
     into_lambda =
-        subst (λ (v : Option FunctionInformation). (enter_parameters v xs (open_scope (open_captures v s))).noted.nine ≡ none
+        subst (λ (v : Option FunctionInformation). (enter_parameters v xs (open_scope (open_captures v s))).noted.nine ≡ None
         → Entered classes (lambda_body n (length xs) p) bottom before left (parameters n xs p) p.scope k (length xs) (enter_parameters v xs (open_scope (open_captures v s))))
         (sym (ap function_in (f.tables.blank n.at i)))
-        (enter-all Local 0 none false (lambda_body n (length xs) p) (omega (arith, f.one)) classes k xs 0 0 m o l a refl (open_layers n (length xs) f))
+        (enter-all Local 0 None false (lambda_body n (length xs) p) (omega (arith, f.one)) classes k xs 0 0 m o l a refl (open_layers n (length xs) f))
 
 -- Out of a body: entries stay, and captures but for their layer
 
@@ -166,7 +165,7 @@ module _ {own mid left : ℕ → Type 0} {bottom : List (Live Ident)} {before af
       subst (λ (E : List Entry). All (Stands left E after) p.scope) (sym e)
       (all_map (λ b k. record { held = k.held; apart = λ l. k.apart (parts.kept b.ident.at l) }) p.scope (all_rest _ bs p.scope g.stands))
 
-  pub let_left : (b : Bool) (height : ℕ) (function : Option Node) → b ≡ at_bottom s → (open_let n xs height function s).noted.nine ≡ none
+  pub let_left : (b : Bool) (height : ℕ) (function : Option Node) → b ≡ at_bottom s → (open_let n xs height function s).noted.nine ≡ None
       → names t ≡ names (open_let n xs height function s) → Finds left bottom after p (close_let b n xs height function t)
   let_left b height function bottom e same =
       let en = rw (← bottom) at (open_let_lem n xs height function s (layered f).one e) in
@@ -181,7 +180,7 @@ module _ {own mid left : ℕ → Type 0} {bottom : List (Live Ident)} {before af
         stands = stands_around _ a.entries;
       }
 
-  pub lambda_left : (b : Tree) (escapes : Bool) → (open_lambda n xs s).noted.nine ≡ none → names t ≡ names (open_lambda n xs s) → Finds left bottom after p (close_lambda n xs b escapes t)
+  pub lambda_left : (b : Tree) (escapes : Bool) → (open_lambda n xs s).noted.nine ≡ None → names t ≡ names (open_lambda n xs s) → Finds left bottom after p (close_lambda n xs b escapes t)
   unfolding close_scope close_captures
   lambda_left b escapes e same =
       let en = open_lambda_lem n xs s (layered f).one e in

@@ -1,10 +1,9 @@
 -- The bottom layer that each tree at top level is visited with holds the bottom entries of R7RS's side: the last value define before, else the
 -- last lambda define.
-use Rattle.std.specs.Prelude.{ℕ, ◌+◌, ◌≤◌, ◌<◌, Bool, not, ◌&&◌, ◌||◌, ◌≡◌}
+use Rattle.std.specs.Prelude.{ℕ, ◌+◌, ◌≤◌, ◌<◌, Bool, not, ◌&&◌, ◌||◌, ◌≡◌, Option, None, Some}
 use mathlib.Core.List.{List, [], ◌∷◌, ◌++◌}
 use Rattle.std.proofs.Math.Bool.{true, false, cond, and-true, and-false}
 use Rattle.std.proofs.Common.{true≢false, sym, subst, ◌∙◌, arith, eqb-true, eq-eqb, lt-ltb, le-ltb}
-use Rattle.std.proofs.Math.Option.{Option, none, some}
 use Rattle.std.proofs.Math.Path.{refl, ap}
 use Rattle.std.proofs.lemmas.Bool.{eqb-false}
 use Rattle.std.proofs.Math.Dec.{eqb}
@@ -36,11 +35,11 @@ AtBottom e = e.layer ≡ 1
 
 -- A name is defined
 
-get-cons : (e : Live Ident) (l : List (Live Ident)) (x : ℕ) → newest_in (e ∷ l) x ≡ cond (eqb e.name x) (some e.value) (newest_in l x)
+get-cons : (e : Live Ident) (l : List (Live Ident)) (x : ℕ) → newest_in (e ∷ l) x ≡ cond (eqb e.name x) (Some e.value) (newest_in l x)
 unfolding get_in
 get-cons e l x = go (eqb e.name x)
   where
-    go : (b : Bool) → binder_in (cond b (some e) (get_in l x)) ≡ cond b (some e.value) (newest_in l x)
+    go : (b : Bool) → binder_in (cond b (Some e) (get_in l x)) ≡ cond b (Some e.value) (newest_in l x)
     go true = refl
     go false = refl
 
@@ -57,32 +56,32 @@ cond_else false a h = h refl
 module _ (d : Ident) (x : ℕ) where
   -- the entry e of the name d, and of another name
 
-  same_name : (e : Live Ident) (l : List (Live Ident)) → e.name ≡ d.name → newest_in (live_at 1 d ∷ l) x ≡ cond (eqb d.name x) (some d) (newest_in (e ∷ l) x)
-  same_name e l q = get-cons (live_at 1 d) l x ∙ cond_else (eqb d.name x) (some d) (λ n. sym (get-cons e l x ∙ rw (q, n)))
+  same_name : (e : Live Ident) (l : List (Live Ident)) → e.name ≡ d.name → newest_in (live_at 1 d ∷ l) x ≡ cond (eqb d.name x) (Some d) (newest_in (e ∷ l) x)
+  same_name e l q = get-cons (live_at 1 d) l x ∙ cond_else (eqb d.name x) (Some d) (λ n. sym (get-cons e l x ∙ rw (q, n)))
 
-  other_name : (e : Live Ident) (l m : List (Live Ident)) → ¬ (e.name ≡ d.name) → newest_in m x ≡ cond (eqb d.name x) (some d) (newest_in l x)
-      → newest_in (e ∷ m) x ≡ cond (eqb d.name x) (some d) (newest_in (e ∷ l) x)
+  other_name : (e : Live Ident) (l m : List (Live Ident)) → ¬ (e.name ≡ d.name) → newest_in m x ≡ cond (eqb d.name x) (Some d) (newest_in l x)
+      → newest_in (e ∷ m) x ≡ cond (eqb d.name x) (Some d) (newest_in (e ∷ l) x)
   other_name e l m q r =
-      get-cons e m x ∙ ap (cond (eqb e.name x) (some e.value)) r
+      get-cons e m x ∙ ap (cond (eqb e.name x) (Some e.value)) r
       ∙ cond_swap (eqb e.name x) (eqb d.name x) _ _ _ (λ u v. q (eqb-true e.name x u ∙ sym (eqb-true d.name x v)))
-      ∙ ap (cond (eqb d.name x) (some d)) (sym (get-cons e l x))
+      ∙ ap (cond (eqb d.name x) (Some d)) (sym (get-cons e l x))
 
   get-replaced : (l : List (Live Ident)) → All AtBottom l → has_in 1 d.name l ≡ true
-      → newest_in (replace_in 1 d.name d l) x ≡ cond (eqb d.name x) (some d) (newest_in l x)
+      → newest_in (replace_in 1 d.name d l) x ≡ cond (eqb d.name x) (Some d) (newest_in l x)
   unfolding has_in replace_in
   get-replaced [] a h = absurd (true≢false (sym h))
   get-replaced (e ∷ l) a h = go (eqb e.name d.name) refl (rw (eq-eqb e.layer 1 a.0) at h) (λ g. get-replaced l a.1 g)
     where
       go : (b : Bool) → eqb e.name d.name ≡ b → eqb e.name d.name || has_in 1 d.name l ≡ true
-          → (has_in 1 d.name l ≡ true → newest_in (replace_in 1 d.name d l) x ≡ cond (eqb d.name x) (some d) (newest_in l x))
-          → newest_in (replace_in 1 d.name d (e ∷ l)) x ≡ cond (eqb d.name x) (some d) (newest_in (e ∷ l) x)
+          → (has_in 1 d.name l ≡ true → newest_in (replace_in 1 d.name d l) x ≡ cond (eqb d.name x) (Some d) (newest_in l x))
+          → newest_in (replace_in 1 d.name d (e ∷ l)) x ≡ cond (eqb d.name x) (Some d) (newest_in (e ∷ l) x)
       go true q g f = rw (eq-eqb e.layer 1 a.0, q) (same_name e l (eqb-true e.name d.name q))
       go false q g f = rw (eq-eqb e.layer 1 a.0, q) (other_name e l _ (eqb-false e.name d.name q) (f (rw q at g)))
 
-  get-defined : (l : List (Live Ident)) → All AtBottom l → newest_in (defined_in d l) x ≡ cond (eqb d.name x) (some d) (newest_in l x)
+  get-defined : (l : List (Live Ident)) → All AtBottom l → newest_in (defined_in d l) x ≡ cond (eqb d.name x) (Some d) (newest_in l x)
   get-defined l a = go (has_in 1 d.name l) refl
     where
-      go : (b : Bool) → has_in 1 d.name l ≡ b → newest_in (cond b (replace_in 1 d.name d l) (live_at 1 d ∷ l)) x ≡ cond (eqb d.name x) (some d)
+      go : (b : Bool) → has_in 1 d.name l ≡ b → newest_in (cond b (replace_in 1 d.name d l) (live_at 1 d ∷ l)) x ≡ cond (eqb d.name x) (Some d)
           (newest_in l x)
       go true q = get-replaced l a q
       go false q = get-cons (live_at 1 d) l x
@@ -92,11 +91,11 @@ module _ (d : Ident) (x : ℕ) where
 last-append : (o : Option Ident) (p : Define → Bool) (l r : List Define) → last_or o p (l ++ r) ≡ last_or (last_or o p l) p r
 unfolding last_or
 last-append o p [] r = refl
-last-append o p (d ∷ l) r = last-append (cond (p d) (some d.name) o) p l r
+last-append o p (d ∷ l) r = last-append (cond (p d) (Some d.name) o) p l r
 
 -- a define that enters if q holds
 get_if : (q : Bool) (d : Ident) (l : List (Live Ident)) (x : ℕ) → All AtBottom l
-    → newest_in (cond q (defined_in d l) l) x ≡ cond (q && eqb d.name x) (some d) (newest_in l x)
+    → newest_in (cond q (defined_in d l) l) x ≡ cond (q && eqb d.name x) (Some d) (newest_in l x)
 get_if true d l x a = get-defined d x l a
 get_if false d l x a = refl
 
@@ -146,7 +145,7 @@ get_values (d ∷ ds) l x r a b =
     let counts : is_value_of x r d ≡ not d.is_lambda && eqb d.name.name x = rw (lt-ltb d.at r b.0, and-true (eqb d.name.name x)) in
     let entered = ap (λ (k : List (Live Ident)). newest_in k x) (swap_if d.is_lambda d.name l) ∙ get_if (not d.is_lambda) d.name l x a in
     get_values ds _ x r (value_bottom d.is_lambda d.name l a) b.1
-    ∙ ap (λ (o : Option Ident). last_or o (is_value_of x r) ds) (entered ∙ ap (λ (q : Bool). cond q (some d.name) (newest_in l x)) (sym counts))
+    ∙ ap (λ (o : Option Ident). last_or o (is_value_of x r) ds) (entered ∙ ap (λ (q : Bool). cond q (Some d.name) (newest_in l x)) (sym counts))
 
 values_bottom : (ds : List Define) (l : List (Live Ident)) → All AtBottom l → All AtBottom (values_in ds l)
 values_bottom [] l a = a
@@ -251,7 +250,7 @@ script_cells ts n =
     (λ x r l. ap (λ (o : Option Ident). last_or o (is_value_of x r) (defines_of us)) (sym (get-entered us [] x tt)))
 
 -- what the rows of a fresh run say, along the whole walk
-pub fresh_says : (classes : List ℕ) (ts : Trees) → Nums 0 ts → sizes ts ≤ rows_most → inner_defines ts ≡ [] → (fresh classes ts).noted.nine ≡ none
+pub fresh_says : (classes : List ℕ) (ts : Trees) → Nums 0 ts → sizes ts ≤ rows_most → inner_defines ts ≡ [] → (fresh classes ts).noted.nine ≡ None
     → Says classes (fresh classes ts).facts.rows (cell ts) [] (events ts)
 unfolding events
 fresh_says classes ts n h d e =

@@ -1,6 +1,5 @@
 -- Functions by cases that do one thing, or in all but one case nothing: what holds of both holds of them.
-use Rattle.std.specs.Prelude.{ℕ, List, Bool, true, false, cond, ◌≡◌, refl}
-use Rattle.std.proofs.Math.Option.{Option, some}
+use Rattle.std.specs.Prelude.{ℕ, List, Bool, true, false, cond, ◌≡◌, refl, Option, Some}
 use Rattle.tree.specs.Tree.{Ident, Node, Tree, ident, const, if, letin, define, lambda, sequence, call, set! }
 use Rattle.semantic.specs.Information.{NONE}
 use Rattle.semantic.specs.Rows.{Row, Blank, Variable, Function, CallSite, Let, ListEntry}
@@ -23,11 +22,11 @@ by_let P (CallSite v) n l height function s m o = o
 by_let P (Let v) n l height function s m o = o
 
 -- an argument that is an identifier is marked, if at all
-pub by_argument : (P : State → State → Type 0) → ((s : State) → P s s) → ((x : Ident) (s : State) → P s (mark_last (some x) s)) → (t : Tree) (s : State)
+pub by_argument : (P : State → State → Type 0) → ((s : State) → P s s) → ((x : Ident) (s : State) → P s (mark_last (Some x) s)) → (t : Tree) (s : State)
     → P s (mark_argument t s)
 by_argument P o m (ident x) s = go (same_ident (last_use_of s (newest s x.name)) x)
   where
-    go : (b : Bool) → P s (cond b (mark_last (some x) s) s)
+    go : (b : Bool) → P s (cond b (mark_last (Some x) s) s)
     go true = m x s
     go false = o s
 by_argument P o m (const n q) s = o s

@@ -1,6 +1,5 @@
 -- The walk as a sequence of small changes of the state: no step does more than these. What holds of each of them holds of every visit.
-use Rattle.std.specs.Prelude.{ℕ, ◌-◌, ◌≤◌, List, Bool, true, false, cond, ◌≡◌, refl, length, get_or}
-use Rattle.std.proofs.Math.Option.{Option, none, some}
+use Rattle.std.specs.Prelude.{ℕ, ◌-◌, ◌≤◌, List, Bool, true, false, cond, ◌≡◌, refl, length, get_or, Option, None, Some}
 use Rattle.std.proofs.Common.{ap, ◌∙◌, arith, lt-ltb, length-set}
 use Rattle.scope_map.specs.ScopeMap.{ScopeMap, pop_layer}
 use Rattle.tree.specs.Tree.{Ident}
@@ -15,16 +14,16 @@ use Rattle.pass_laws.specs.Laws.Rows.{key, Marks, row_other, key-amended}
 
 -- a refusal that only a second run meets
 abbrev pub Second : Option Refusal → Type 0
-Second o = (r : Refusal) → o ≡ some r → (11 ≤ r.number) × (r.number ≤ 12)
+Second o = (r : Refusal) → o ≡ Some r → (11 ≤ r.number) × (r.number ≤ 12)
 
 -- what was noted stays noted
 pub record Later (m n : Noted) : Type 0 where
-  pub nine : n.nine ≡ none → m.nine ≡ none
-  pub ten : n.ten ≡ none → m.ten ≡ none
-  pub second : n.second ≡ none → m.second ≡ none
-  pub first_nine : (i : ℕ) → m.nine ≡ some i → n.nine ≡ some i
-  pub first_ten : (i : ℕ) → m.ten ≡ some i → n.ten ≡ some i
-  pub first_second : (r : Refusal) → m.second ≡ some r → n.second ≡ some r
+  pub nine : n.nine ≡ None → m.nine ≡ None
+  pub ten : n.ten ≡ None → m.ten ≡ None
+  pub second : n.second ≡ None → m.second ≡ None
+  pub first_nine : (i : ℕ) → m.nine ≡ Some i → n.nine ≡ Some i
+  pub first_ten : (i : ℕ) → m.ten ≡ Some i → n.ten ≡ Some i
+  pub first_second : (r : Refusal) → m.second ≡ Some r → n.second ≡ Some r
   pub numbers : Second m.second → Second n.second
 
 -- and no 9 is noted anew unless names change
@@ -44,7 +43,7 @@ lasting_entry e = record {
   captured = false;
   mutated = false;
   usage_count = 0;
-  last_used = none;
+  last_used = None;
   stack_offset = e.stack_offset;
   heap_offset = e.heap_offset;
   depth = e.depth;

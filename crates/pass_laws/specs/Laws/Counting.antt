@@ -1,8 +1,7 @@
 -- The uses that a fresh visit counts, form by form: a name read or set, names that enter, a lambda, a let and a call at its end.
 use Prim.Native.Nat.{ℕ, suc, ◌+◌, ◌≤◌, ◌<◌}
 use mathlib.Core.List.{List, [], ◌∷◌, reverse_aux}
-use Rattle.std.specs.Prelude.{Bool, true, false, cond, ◌&&◌, ◌≡◌, length, get_or, ltb}
-use Rattle.std.proofs.Math.Option.{Option, none, some}
+use Rattle.std.specs.Prelude.{Bool, true, false, cond, ◌&&◌, ◌≡◌, length, get_or, ltb, Option, None, Some}
 use Rattle.std.proofs.Math.Path.{refl, ap, subst}
 use Rattle.std.proofs.Common.{sym, ◌∙◌, arith}
 use Rattle.tree.specs.Tree.{Ident, Node, Tree, Trees, ident, const, if, letin, define, lambda, sequence, call, set!, nil, cons, NumNames}
@@ -102,8 +101,8 @@ module _ {own left : ℕ → Type 0} {bottom : List (Live Ident)} {before : List
   pub lambda_counts : Counts left n (open_lambda m xs s)
   unfolding open_lambda enter_parameters open_captures open_scope
   lambda_counts =
-      let v : function_in (row_at s m.at) ≡ none = ap function_in (f.tables.blank m.at i) in
-      rw v (names-count Local 0 none k xs 0 0 num o l a (counts_quietly (λ y z. z) c (untouched_rows refl refl)))
+      let v : function_in (row_at s m.at) ≡ None = ap function_in (f.tables.blank m.at i) in
+      rw v (names-count Local 0 None k xs 0 0 num o l a (counts_quietly (λ y z. z) c (untouched_rows refl refl)))
 
 quietly_either : {s t u : State} (b : Bool) → Quietly s t → Quietly s u → Quietly s (cond b t u)
 quietly_either true c d = c
@@ -112,8 +111,8 @@ quietly_either false c d = d
 -- Out of one: last uses are marked
 
 last_quietly : (o : Option Ident) (s : State) → Quietly s (mark_last o s)
-last_quietly none s = untouched_rows refl refl
-last_quietly (some x) s = mark_quietly mark_last_usage (λ v. refl) x.at s
+last_quietly None s = untouched_rows refl refl
+last_quietly (Some x) s = mark_quietly mark_last_usage (λ v. refl) x.at s
 
 leave_quietly : (xs : List Ident) (s : State) → Quietly s (leave_names xs s)
 unfolding leave_names
@@ -142,7 +141,7 @@ let_quietly b n xs height function s =
 -- a call
 
 argument_quietly : (t : Tree) (s : State) → Quietly s (mark_argument t s)
-argument_quietly (ident x) s = quietly_either (same_ident (last_use_of s (newest s x.name)) x) (last_quietly (some x) s) (untouched_rows refl refl)
+argument_quietly (ident x) s = quietly_either (same_ident (last_use_of s (newest s x.name)) x) (last_quietly (Some x) s) (untouched_rows refl refl)
 argument_quietly (const n q) s = untouched_rows refl refl
 argument_quietly (if n a b c) s = untouched_rows refl refl
 argument_quietly (letin n xs es b) s = untouched_rows refl refl
@@ -227,9 +226,9 @@ store_quietly i l s = quietly_either (ltb captured_most (s.facts.captured_top + 
 function_quietly : (f : Option FunctionInformation) (n : Node) (b : Tree) (escapes : Bool) (now arguments : List ListEntry) (m : ScopeMap Capture) (s : State)
     → Quietly s (function_ends f n b escapes now arguments m s)
 unfolding make_function amend_function store_arguments rewrite_captured
-function_quietly none n b escapes now arguments m s =
+function_quietly None n b escapes now arguments m s =
     quietly_then (quietly_then (store_quietly n.at _ s) (untouched_rows refl refl)) (insert_quietly n.at _ _ (λ k. tt))
-function_quietly (some v) n b escapes now arguments m s = quietly_then (untouched_rows refl refl) (insert_quietly n.at _ _ (λ k. tt))
+function_quietly (Some v) n b escapes now arguments m s = quietly_then (untouched_rows refl refl) (insert_quietly n.at _ _ (λ k. tt))
 
 pub left_counts : {own left : ℕ → Type 0} {n : ℕ → ℕ} (m : Node) (xs : List Ident) (b : Tree) (escapes : Bool) (s : State) → ((y : ℕ) → left y → own y) → Deep s.scope.entries xs
     → Counts own n s → Counts left n (close_lambda m xs b escapes s)
@@ -250,8 +249,8 @@ module _ (classes : List ℕ) {own left : ℕ → Type 0} {n : ℕ → ℕ} {s :
       new_counts x top_level_entry (define_fact classes k a x b s) parts o refl (marked (is_builtin classes (core b)) mark_builtin (λ v. refl) _ ∙ marked (is_required classes (core b)) mark_required (λ v. refl) _) c
 
 shadow_quietly : (classes : List ℕ) (o : Option Ident) (s : State) → Quietly s (shadow classes o s)
-shadow_quietly classes none s = untouched_rows refl refl
-shadow_quietly classes (some b) s = mark_quietly (shadow_if_builtin classes) (λ v. marked v.builtin mark_shadowed (λ u. refl) v) b.at s
+shadow_quietly classes None s = untouched_rows refl refl
+shadow_quietly classes (Some b) s = mark_quietly (shadow_if_builtin classes) (λ v. marked v.builtin mark_shadowed (λ u. refl) v) b.at s
 
 pub value_counts : (classes : List ℕ) {own left : ℕ → Type 0} {n : ℕ → ℕ} {s : State} (x : Ident) (b : Tree) → Parts own (Only x.at) left → own x.at → Counts own n s
     → Counts left n (enter_top_level_value classes x b s)

@@ -1,8 +1,8 @@
 -- How many uses the rows of a fresh run have counted so far: those that the mentions before give to each record. A mention gives one to its own
 -- record where it has an entry, and one to its binder's or its define's; a set! gives its binder two.
-use Rattle.std.specs.Prelude.{ℕ, suc, ◌+◌, ◌≤◌, ◌<◌, List, [], ◌∷◌, ◌++◌, Bool, cond, ◌&&◌, ◌≡◌, length, get_or, set, eqb}
+use Rattle.std.specs.Prelude.{ℕ, suc, ◌+◌, ◌≤◌, ◌<◌, List, [], ◌∷◌, ◌++◌, Bool, cond, ◌&&◌, ◌≡◌, length, get_or, set, eqb, Option, None, Some}
+use Rattle.std.proofs.lemmas.Option.{same_Some, none-some}
 use Rattle.std.proofs.Math.Bool.{true, false}
-use Rattle.std.proofs.Math.Option.{Option, none, some, some-injective, none-ne-some}
 use Rattle.std.proofs.Math.Path.{refl, ap, sym, subst}
 use Rattle.std.proofs.Common.{◌∙◌, arith, eq-eqb, ne_eqb, length-set, get_or-set_same, get_or-set_other}
 use Rattle.std.proofs.Math.Decide.{ℕ_discrete, dec_lt}
@@ -35,14 +35,14 @@ share_other i n y h = rw (ne_eqb i y (λ e. h (sym e)))
 
 -- an identifier that no parameter or let name binds, with its bottom entry
 abbrev pub credit_cell : Ident → Option Ident → ℕ → ℕ
-credit_cell x none y = 0
-credit_cell x (some d) y = share d.at 1 y + share x.at 1 y
+credit_cell x None y = 0
+credit_cell x (Some d) y = share d.at 1 y + share x.at 1 y
 
 -- `cell` tells an identifier's bottom entry, where it has one
 module _ (cell : Ident → Option Ident) where
   abbrev pub credit : Mention → Option Binder → ℕ → ℕ
-  credit m none y = credit_cell m.ident (cell m.ident) y
-  credit m (some b) y = share b.ident.at (cond m.is_set 2 1) y + share m.ident.at 1 y
+  credit m None y = credit_cell m.ident (cell m.ident) y
+  credit m (Some b) y = share b.ident.at (cond m.is_set 2 1) y + share m.ident.at 1 y
 
   abbrev pub credits_of : List Mention → ℕ → ℕ
   credits_of [] y = 0
@@ -69,8 +69,8 @@ credits-cell c d (enters b sc ∷ l) e y = credits-cell c d l e y
 credits-cell c d (mentions m ∷ l) e y = omega (arith, go (meant m), credits-cell c d l e.1 y)
   where
     go : (o : Option Binder) → credit c m o y ≡ credit d m o y
-    go none = ap (λ (q : Option Ident). credit_cell m.ident q y) e.0
-    go (some b) = refl
+    go None = ap (λ (q : Option Ident). credit_cell m.ident q y) e.0
+    go (Some b) = refl
 credits-cell c d (ends i xs sc ∷ l) e y = credits-cell c d l e y
 
 -- What the rows tell
@@ -185,8 +185,8 @@ module _ (E : List Entry) (i : ℕ) (e : Entry) where
 
 -- what the entries tell before: those of a binder are one ahead of the rows where the read is a set!'s
 abbrev pub Ahead : Bool → (ℕ → ℕ) → (ℕ → ℕ) → Option Binder → Type 0
-Ahead q n h none = (y : ℕ) → h y ≡ n y
-Ahead q n h (some b) = (h b.ident.at ≡ n b.ident.at + cond q 1 0) × ((y : ℕ) → ¬ (y ≡ b.ident.at) → h y ≡ n y)
+Ahead q n h None = (y : ℕ) → h y ≡ n y
+Ahead q n h (Some b) = (h b.ident.at ≡ n b.ident.at + cond q 1 0) × ((y : ℕ) → ¬ (y ≡ b.ident.at) → h y ≡ n y)
 
 module _ {own left : ℕ → Type 0} {n h : ℕ → ℕ} {s : State} (x : Ident) (parts : Parts own (Only x.at) left) (o : own x.at) (c : CountsBy own n h s) where
   -- through the entry of the visited record i, which gets k
@@ -229,9 +229,9 @@ module _ {own left : ℕ → Type 0} {n h : ℕ → ℕ} {s : State} (x : Ident)
       go false = refl
 
 -- an entry of the bottom has depth 1
-global_depth : {own : ℕ → Type 0} {E : List Entry} {q : Option (Live Ident)} (d : Ident) → Got (Global own E) q → binder_in q ≡ some d → (entry_in E d.at).depth ≡ 1
-global_depth d got_none e = absurd (none-ne-some d e)
-global_depth {E = E} d (got_some {e = l} g) e = ap (λ (b : Ident). (entry_in E b.at).depth) (sym (some-injective l.value d e)) ∙ g.depth
+global_depth : {own : ℕ → Type 0} {E : List Entry} {q : Option (Live Ident)} (d : Ident) → Got (Global own E) q → binder_in q ≡ Some d → (entry_in E d.at).depth ≡ 1
+global_depth d got_none e = absurd (none-some d e)
+global_depth {E = E} d (got_some {e = l} g) e = ap (λ (b : Ident). (entry_in E b.at).depth) (sym (same_Some l.value d e)) ∙ g.depth
 
 -- a mark that is made or not
 pub marked : (q : Bool) (f : SemanticInformation → SemanticInformation) → ((v : SemanticInformation) → (f v).usage_count ≡ v.usage_count) → (v : SemanticInformation)
@@ -246,8 +246,8 @@ module _ (classes : List ℕ) {own left : ℕ → Type 0} {bottom : List (Live I
 
   -- a name of the body or of one around it: its row takes the entry's uses
   bound_counts : (b : Binder) (e : Entry) (v : SemanticInformation) → Stands own s.scope.entries before b → 2 ≤ b.home.layer → e.usage_count ≡ suc (entry_at s b.ident.at).usage_count
-      → v.usage_count ≡ 1 → Ahead is_set n h (some b)
-      → Counts left (λ y. n y + credit (cell_of bottom) mention (some b) y)
+      → v.usage_count ≡ 1 → Ahead is_set n h (Some b)
+      → Counts left (λ y. n y + credit (cell_of bottom) mention (Some b) y)
       (insert x.at (Variable v) (amend (with_usage_count e.usage_count) b.ident.at (put_entry b.ident.at e s)))
   bound_counts b e v k two u one a =
       let i = b.ident.at in
@@ -281,16 +281,16 @@ module _ (classes : List ℕ) {own left : ℕ → Type 0} {bottom : List (Live I
 
 -- what the entries tell then
 abbrev pub held_by : Option Binder → (ℕ → ℕ) → ℕ → ℕ
-held_by none n y = n y
-held_by (some b) n y = n y + share b.ident.at 1 y
+held_by None n y = n y
+held_by (Some b) n y = n y + share b.ident.at 1 y
 
 pub ahead : (n : ℕ → ℕ) (o : Option Binder) → Ahead true n (held_by o n) o
-ahead n none = λ y. refl
-ahead n (some b) = (omega (arith, share_same b.ident.at 1), λ y g. omega (arith, share_other b.ident.at 1 y g))
+ahead n None = λ y. refl
+ahead n (Some b) = (omega (arith, share_same b.ident.at 1), λ y g. omega (arith, share_other b.ident.at 1 y g))
 
 pub level : (n : ℕ → ℕ) (o : Option Binder) → Ahead false n n o
-level n none = λ y. refl
-level n (some b) = (omega arith, λ y g. refl)
+level n None = λ y. refl
+level n (Some b) = (omega arith, λ y g. refl)
 
 module _ {own : ℕ → Type 0} {bottom : List (Live Ident)} {before : List Use} {p : Place} {n : ℕ → ℕ} {s : State} (x : ℕ) (f : Finds own bottom before p s) (c : Counts own n s) where
   put_counts : (i : ℕ) (e : Entry) (h : ℕ → ℕ) → (own i → ⊥) → (2 ≤ e.depth → e.usage_count ≡ h i) → ((y : ℕ) → ¬ (y ≡ i) → h y ≡ n y)
@@ -310,7 +310,7 @@ module _ {own : ℕ → Type 0} {bottom : List (Live Ident)} {before : List Use}
   sets_counts of_none (got_some {e} g) = put_counts e.value.at _ n g.apart (λ l. absurd (omega (arith, g.depth))) (λ y d. refl)
   sets_counts (of_some {b} (a, k)) g =
       let i = b.ident.at in
-      put_counts i _ (held_by (some b) n) k.apart (λ l. omega (arith, c.entries i (omega (arith, a.above, k.held.depth)), share_same i 1))
+      put_counts i _ (held_by (Some b) n) k.apart (λ l. omega (arith, c.entries i (omega (arith, a.above, k.held.depth)), share_same i 1))
       (λ y d. omega (arith, share_other i 1 y d))
 
   pub mutate_counts : CountsBy own n (held_by (find p.scope x) n) (mutate x s)

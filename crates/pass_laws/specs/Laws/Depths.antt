@@ -1,6 +1,6 @@
 -- A lambda's fact tells the layer that it is made at, after one run and after two, inner defines or not.
-use Rattle.std.specs.Prelude.{ℕ, suc, ◌+◌, ◌≤◌, ◌<◌, List, ◌++◌, Bool, true, false, ◌≡◌, length, get_or}
-use Rattle.std.proofs.Math.Option.{Option, none, some, some-ne-none, some-injective}
+use Rattle.std.specs.Prelude.{ℕ, suc, ◌+◌, ◌≤◌, ◌<◌, List, ◌++◌, Bool, true, false, ◌≡◌, length, get_or, Option, None, Some}
+use Rattle.std.proofs.lemmas.Option.{none-some, same_Some}
 use Rattle.std.proofs.Math.Path.{refl, ap, sym, subst}
 use Rattle.std.proofs.Common.{◌∙◌, lt-ltb}
 use native.Mathlib.Omega.{arith}
@@ -46,7 +46,7 @@ function_key (Let v) = refl
 
 -- the rows R of the run before have no lambda's fact there, or one that tells the depth
 abbrev pub Open : List Row → ℕ × ℕ → Type 0
-Open R p = (v : FunctionInformation) → function_in (get_or R p.0 Blank) ≡ some v → v.depth ≡ p.1
+Open R p = (v : FunctionInformation) → function_in (get_or R p.0 Blank) ≡ Some v → v.depth ≡ p.1
 
 -- the rows T have one that tells it
 abbrev pub MadeIn : List Row → ℕ × ℕ → Type 0
@@ -61,13 +61,13 @@ left-depth n xs b escapes s d e h =
     keeps_depth (leave_changes {own = Any} n xs b escapes s tt) (omega arith) ∙ closed
 
 ends_made : (o : Option FunctionInformation) (n : Node) (b : Tree) (escapes : Bool) (now arguments : List ListEntry) (m : ScopeMap Capture) (s : State) (d : ℕ)
-    → ((v : FunctionInformation) → o ≡ some v → v.depth ≡ d) → depth (function_ends o n b escapes now arguments m s) ≡ d
+    → ((v : FunctionInformation) → o ≡ Some v → v.depth ≡ d) → depth (function_ends o n b escapes now arguments m s) ≡ d
     → n.at < length (function_ends o n b escapes now arguments m s).facts.rows → Made (row_at (function_ends o n b escapes now arguments m s) n.at) d
 unfolding amend_function
-ends_made none n b escapes now arguments m s d f e l =
-    let r = made none n b escapes now arguments m s refl l in
+ends_made None n b escapes now arguments m s d f e l =
+    let r = made None n b escapes now arguments m s refl l in
     record { fact = r.fact; is = r.is; depth = r.depth ∙ e }
-ends_made (some v) n b escapes now arguments m s d f e l = record { fact = _; is = row_put n.at _ _ l; depth = f v refl }
+ends_made (Some v) n b escapes now arguments m s d f e l = record { fact = _; is = row_put n.at _ _ l; depth = f v refl }
 
 -- N records have rows, and the state is at the depth d
 record At (N d : ℕ) (s : State) : Type 0 where
@@ -358,11 +358,11 @@ module _ (classes : List ℕ) (ts : Trees) (n : Nums 0 ts) (h : sizes ts ≤ row
   unfolding fresh no_facts
   fresh_makes =
       run_makes no_facts (length-replicate rows_most Blank)
-      (all_of (Open no_facts.rows) (λ p v q. absurd (some-ne-none v (sym q ∙ ap function_in (blank-rows rows_most p.0)))) (lambdas_in ts 1))
+      (all_of (Open no_facts.rows) (λ p v q. absurd (none-some v (sym (sym q ∙ ap function_in (blank-rows rows_most p.0))))) (lambdas_in ts 1))
 
   pub settled_makes : All (MadeIn (settled classes ts).facts.rows) (lambdas_in ts 1)
   unfolding settled fresh no_facts start
   settled_makes =
       let T = (fresh classes ts).facts.rows in
       run_makes (fresh classes ts).facts ((keeps_lengths (ran classes ts no_facts)).rows ∙ length-replicate rows_most Blank)
-      (all_map (MadeIn T) (Open T) (λ p m v q. ap (λ (w : FunctionInformation). w.depth) (some-injective v m.fact (sym q ∙ ap function_in m.is)) ∙ m.depth) (lambdas_in ts 1) fresh_makes)
+      (all_map (MadeIn T) (Open T) (λ p m v q. ap (λ (w : FunctionInformation). w.depth) (same_Some v m.fact (sym q ∙ ap function_in m.is)) ∙ m.depth) (lambdas_in ts 1) fresh_makes)

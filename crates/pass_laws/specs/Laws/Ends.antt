@@ -1,7 +1,7 @@
 -- The rows that a lambda and a call leave on a fresh run.
-use Rattle.std.specs.Prelude.{ℕ, ◌<◌, List, Bool, true, false, ◌&&◌, ◌≡◌, refl, length, ltb}
+use Rattle.std.specs.Prelude.{ℕ, ◌<◌, List, Bool, true, false, ◌&&◌, ◌≡◌, refl, length, ltb, Option, None, Some}
+use Rattle.std.proofs.lemmas.Option.{none-some}
 use Rattle.std.proofs.Common.{true≢false, ap, sym, ◌∙◌, arith}
-use Rattle.std.proofs.Math.Option.{Option, none, some, some-ne-none}
 use Rattle.tree.specs.Tree.{Ident, Node, Tree, Trees}
 use Rattle.tree.specs.Core.{core, cores, is_constant}
 use Rattle.scope_map.specs.ScopeMap.{ScopeMap}
@@ -26,16 +26,16 @@ pub record Made (r : Row) (d : ℕ) : Type 0 where
   pub is : r ≡ Function fact
   pub depth : fact.depth ≡ d
 
-pub made : (o : Option FunctionInformation) (n : Node) (b : Tree) (escapes : Bool) (now arguments : List ListEntry) (m : ScopeMap Capture) (s : State) → o ≡ none
+pub made : (o : Option FunctionInformation) (n : Node) (b : Tree) (escapes : Bool) (now arguments : List ListEntry) (m : ScopeMap Capture) (s : State) → o ≡ None
     → n.at < length (function_ends o n b escapes now arguments m s).facts.rows
     → Made (row_at (function_ends o n b escapes now arguments m s) n.at) (depth (function_ends o n b escapes now arguments m s))
 unfolding make_function
-made (some v) n b escapes now arguments m s e l = absurd (some-ne-none v e)
-made none n b escapes now arguments m s e l =
+made (Some v) n b escapes now arguments m s e l = absurd (none-some v (sym e))
+made None n b escapes now arguments m s e l =
     record {
       fact = _;
       is = row_put n.at _ _ l;
-      depth = ap (λ (k : Scope). k.names.depth) (sym (quiet (function_changes {own = Any} none n b escapes now arguments m s tt)).scope);
+      depth = ap (λ (k : Scope). k.names.depth) (sym (quiet (function_changes {own = Any} None n b escapes now arguments m s tt)).scope);
     }
 
 pub lambda_row : (n : Node) (xs : List Ident) (b : Tree) (escapes : Bool) (s : State) → row_at s n.at ≡ Blank → n.at < length s.facts.rows

@@ -1,9 +1,8 @@
 -- Names enter on a fresh run: each has its entry and its row, and what is left.
 use Prim.Native.Nat.{ℕ, suc, ◌+◌, ◌≤◌, ◌<◌}
 use mathlib.Core.List.{List, [], ◌∷◌, reverse_aux}
-use Rattle.std.specs.Prelude.{Bool, cond, ◌&&◌, ◌≡◌, length, ltb}
+use Rattle.std.specs.Prelude.{Bool, cond, ◌&&◌, ◌≡◌, length, ltb, Option, None}
 use Rattle.std.proofs.Math.Bool.{true, false}
-use Rattle.std.proofs.Math.Option.{Option, none}
 use Rattle.std.proofs.Math.Path.{refl, ap, subst}
 use Rattle.std.proofs.Common.{sym, ◌∙◌, arith, ltb-true, get_or-set_same}
 use Rattle.std.proofs.Math.ListN.{set, length-set}
@@ -88,7 +87,7 @@ module _ (kind : IdentifierStatus) (base : ℕ) (heaps : Option ℕ) (is_let : B
         }
 
     name_finds : {left : ℕ → Type 0} (x : Ident) (j h : ℕ) → Parts own (Only x.at) left → own x.at → Finds own bottom before (in_scope p sc) s
-        → (enter_name kind base heaps [] false x j h s).noted.nine ≡ none → Finds left bottom before (in_scope p (binder_of j x ∷ sc)) (enter_name kind base heaps [] false x j h s)
+        → (enter_name kind base heaps [] false x j h s).noted.nine ≡ None → Finds left bottom before (in_scope p (binder_of j x ∷ sc)) (enter_name kind base heaps [] false x j h s)
     unfolding enter_name insert
     name_finds {left} x j h parts o f n =
         let e = local_entry (base + j) (depth s) in
@@ -123,7 +122,7 @@ module _ (kind : IdentifierStatus) (base : ℕ) (heaps : Option ℕ) (is_let : B
 
   pub enter-all : {own left : ℕ → Type 0} {bottom : List (Live Ident)} {before : List Use} {sc : List Binder} {s : State} (classes : List ℕ) (k : ℕ) (xs : List Ident) (j h : ℕ)
       → NumNames k xs → Covers own k (k + length xs) → ((y : ℕ) → left y → own y) → ((y : ℕ) → left y → k ≤ y → y < k + length xs → ⊥) → kind ≡ cond is_let LetVar Local
-      → Finds own bottom before (in_scope p sc) s → (enter_names kind base heaps [] xs j h s).noted.nine ≡ none
+      → Finds own bottom before (in_scope p sc) s → (enter_names kind base heaps [] xs j h s).noted.nine ≡ None
       → Entered classes p bottom before left (binders is_let base p j xs) sc k (length xs) (enter_names kind base heaps [] xs j h s)
   unfolding enter_names NumNames binders entering
   enter-all classes k [] j h m o l a e f n = record { finds = fewer l f; says = λ T ag. tt }

@@ -1,7 +1,6 @@
 -- What a fresh visit finds at a place of R7RS's walk: the names in scope are live above those of the bottom layer, each with its entry, and its own
 -- records have no fact yet.
-use Rattle.std.specs.Prelude.{ℕ, ◌≤◌, ◌<◌, List, [], ◌∷◌, Bool, true, false, cond, ◌≡◌, refl, length, get_or, eqb, ltb}
-use Rattle.std.proofs.Math.Option.{Option, none, some}
+use Rattle.std.specs.Prelude.{ℕ, ◌≤◌, ◌<◌, List, [], ◌∷◌, Bool, true, false, cond, ◌≡◌, refl, length, get_or, eqb, ltb, Option, None, Some}
 use Rattle.std.proofs.Common.{ap, sym, subst, ◌∙◌, arith}
 use Rattle.tree.specs.Tree.{Ident}
 use Rattle.tree.specs.Accepted.{All}
@@ -83,8 +82,8 @@ all_zip P Q (a ∷ l) p q = ((p.0, q.0), all_zip P Q l p.1 q.1)
 
 -- a live name that the search finds: of the scope, or of the bottom
 abbrev pub live_in : Option Binder → Option (Live Ident) → Option (Live Ident)
-live_in none o = o
-live_in (some b) o = some (live_at b.home.layer b.ident)
+live_in None o = o
+live_in (Some b) o = Some (live_at b.home.layer b.ident)
 
 pub get_live : (sc : List Binder) (bottom : List (Live Ident)) (x : ℕ) → get_in (lives_of sc bottom) x ≡ live_in (find sc x) (get_in bottom x)
 unfolding get_in
@@ -92,34 +91,34 @@ get_live [] bottom x = refl
 get_live (b ∷ sc) bottom x = go (eqb b.ident.name x) (get_live sc bottom x)
   where
     go : (q : Bool) → get_in (lives_of sc bottom) x ≡ live_in (find sc x) (get_in bottom x)
-        → cond q (some (live_at b.home.layer b.ident)) (get_in (lives_of sc bottom) x) ≡ live_in (cond q (some b) (find sc x)) (get_in bottom x)
+        → cond q (Some (live_at b.home.layer b.ident)) (get_in (lives_of sc bottom) x) ≡ live_in (cond q (Some b) (find sc x)) (get_in bottom x)
     go true e = refl
     go false e = e
 
 -- what holds of each holds of the one that is found
 
 pub data Of (P : Binder → Type 0) : Option Binder → Type 0 where
-  of_none : Of P none
-  of_some : {b : Binder} → P b → Of P (some b)
+  of_none : Of P None
+  of_some : {b : Binder} → P b → Of P (Some b)
 
 pub find-all : {P : Binder → Type 0} (sc : List Binder) → All P sc → (x : ℕ) → Of P (find sc x)
 find-all [] a x = of_none
 find-all {P} (b ∷ sc) a x = go (eqb b.ident.name x) (find-all sc a.1 x)
   where
-    go : (q : Bool) → Of P (find sc x) → Of P (cond q (some b) (find sc x))
+    go : (q : Bool) → Of P (find sc x) → Of P (cond q (Some b) (find sc x))
     go true o = of_some a.0
     go false o = o
 
 pub data Got (P : Live Ident → Type 0) : Option (Live Ident) → Type 0 where
-  got_none : Got P none
-  got_some : {e : Live Ident} → P e → Got P (some e)
+  got_none : Got P None
+  got_some : {e : Live Ident} → P e → Got P (Some e)
 
 pub get-all : {P : Live Ident → Type 0} (l : List (Live Ident)) → All P l → (x : ℕ) → Got P (get_in l x)
 unfolding get_in
 get-all [] a x = got_none
 get-all {P} (e ∷ l) a x = go (eqb e.name x) (get-all l a.1 x)
   where
-    go : (q : Bool) → Got P (get_in l x) → Got P (cond q (some e) (get_in l x))
+    go : (q : Bool) → Got P (get_in l x) → Got P (cond q (Some e) (get_in l x))
     go true g = got_some a.0
     go false g = g
 

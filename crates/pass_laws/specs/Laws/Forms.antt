@@ -1,8 +1,7 @@
 -- The parts of a fresh visit, form by form: a name read or set, names that enter, a lambda at its end, a let.
-use Rattle.std.specs.Prelude.{ℕ, ◌+◌, ◌≤◌, ◌<◌, Bool, ◌≡◌, get_or}
+use Rattle.std.specs.Prelude.{ℕ, ◌+◌, ◌≤◌, ◌<◌, Bool, ◌≡◌, get_or, Option, None}
 use mathlib.Core.List.{List, [], ◌∷◌, ◌++◌, append-nil, reverse_aux}
 use Rattle.std.proofs.Math.Bool.{true}
-use Rattle.std.proofs.Math.Option.{Option, none}
 use Rattle.std.proofs.Common.{ap, subst, ◌∙◌, arith}
 use Rattle.std.proofs.Math.Path.{sym}
 use Rattle.std.proofs.Math.ListN.{length}
@@ -146,7 +145,7 @@ module _ (classes : List ℕ) (T : List Row) (P : Presumption) (bottom : List (L
         → Done classes T P bottom AfterInitials before p (walk_arguments es p) initials_at body_at s (Args T P (ctx_of p.scope) p.site.layer p.site.height es) (λ n. Counts own n z)
         → Moves (Off initials_at body_at) s (open_let m xs height function t) → ((n : ℕ → ℕ) → Counts AfterInitials n s → Counts AfterNames n (open_let m xs height function t))
         → Finds AfterInitials bottom used p t → opened ≡ at_bottom t
-        → (open_let m xs height function t).noted.nine ≡ none
+        → (open_let m xs height function t).noted.nine ≡ None
         → Done classes T P bottom AfterNames used body naming names_at initials_at (open_let m xs height function t) (Noted T body.site.layer xs) (λ n. Counts AfterNames n (open_let m xs height function t))
         → ((own : ℕ → Type 0) → Covers own body_at end → Changes own (open_let m xs height function t) u)
         → Done classes T P bottom AfterBody (used ++ uses_in naming) body (walk c body) body_at end u (Rec T P (ctx_of body.scope) body.site.layer body.site.height b c) (λ n. Counts AfterNames n (open_let m xs height function t))

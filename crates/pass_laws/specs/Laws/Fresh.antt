@@ -1,7 +1,6 @@
 -- A fresh visit of a tree with no define in it: its rows say what R7RS has of each name, and have the static meaning.
-use Rattle.std.specs.Prelude.{ℕ, suc, ◌+◌, ◌≤◌, Bool, true, false, ◌≡◌, refl, length, get_or, eqb}
+use Rattle.std.specs.Prelude.{ℕ, suc, ◌+◌, ◌≤◌, Bool, true, false, ◌≡◌, refl, length, get_or, eqb, None}
 use mathlib.Core.List.{List, [], ◌++◌, append-nil, cons-ne-nil}
-use Rattle.std.proofs.Math.Option.{none}
 use Rattle.std.proofs.Common.{ap, sym, subst, ◌∙◌, add-one, arith}
 use Rattle.tree.specs.Tree.{Ident, Tree, Trees, ident, const, if, letin, define, lambda, sequence, call, set!, nil, cons, many, size, sizes, Num, Nums, Node, begins, ands, whens}
 use Rattle.tree.specs.Define.{defines, defines_in}
@@ -47,7 +46,7 @@ module _ (classes : List ℕ) (T : List Row) (P : Presumption) (bottom : List (L
     unfolding visit walk defines Num size
 
     pub visits : (i : ℕ) (t : Tree) → Num i t → defines t ≡ [] → (f : Flags) (b : Bool) → f.tail ≡ b → {own : ℕ → Type 0} {before : List Use} {p : Place} {s : State} → f.height ≡ p.site.height
-        → Covers own i (i + size t) → Finds own bottom before p s → (visit classes t f s).noted.nine ≡ none
+        → Covers own i (i + size t) → Finds own bottom before p s → (visit classes t f s).noted.nine ≡ None
         → Done classes T P bottom (Minus own i (i + size t)) before p (walk t p) i (i + size t) (visit classes t f s) (RecAt p b t) (λ n. Counts own n s)
     visits i (ident x) n d f b t h o g e = reads classes T P bottom i x n o g
     visits i (const m q) n d f b t {before = before} h o g e =
@@ -146,7 +145,7 @@ module _ (classes : List ℕ) (T : List Row) (P : Presumption) (bottom : List (L
         (λ z. r_lambda z.1.1.is z.1.1.depth z.0
         (subst (λ (Γ : Ctx). Rec T P Γ (suc p.site.layer) (length xs) true c) (enter_ctx false 0 q 0 xs 0 (omega arith) p.scope) z.1.0))
     visits i (sequence (begins m) es) n d f b t {own} {before} {p} {s} h o g e =
-        subst (λ (u : State). (visit_children classes es (in_begin f) u).noted.nine ≡ none
+        subst (λ (u : State). (visit_children classes es (in_begin f) u).noted.nine ≡ None
         → Done classes T P bottom (Minus own i (i + size (sequence (begins m) es))) before p (walk_all es p) i (i + size (sequence (begins m) es)) (visit_children classes es (in_begin f) u) (RecAt p b (sequence (begins m) es)) (λ n. Counts own n s))
         (sym (none-entered classes es s d))
         (λ e. closed i (i + size (sequence (begins m) es)) (omega arith) (omega arith) (λ x z. (z.0, λ l u. z.1 (omega arith) (omega arith)))
@@ -198,7 +197,7 @@ module _ (classes : List ℕ) (T : List Row) (P : Presumption) (bottom : List (L
         (λ z. r_set z.0 z.1.is z.1.means)
 
     pub visits_in : (i : ℕ) (ts : Trees) → Nums i ts → defines_in ts ≡ [] → (f : Flags) → f.tail ≡ false → {own : ℕ → Type 0} {before : List Use} {p : Place} {s : State} → f.height ≡ p.site.height
-        → Covers own i (i + sizes ts) → Finds own bottom before p s → (visit_arguments classes ts f s).noted.nine ≡ none
+        → Covers own i (i + sizes ts) → Finds own bottom before p s → (visit_arguments classes ts f s).noted.nine ≡ None
         → Done classes T P bottom (Minus own i (i + sizes ts)) before p (walk_arguments ts p) i (i + sizes ts) (visit_arguments classes ts f s)
         (Args T P (ctx_of p.scope) p.site.layer p.site.height ts) (λ n. Counts own n s)
     visits_in i nil n d f t {before = before} h o g e =
@@ -226,7 +225,7 @@ module _ (classes : List ℕ) (T : List Row) (P : Presumption) (bottom : List (L
         (λ z ag. a_cons z.0 (subst (λ (k : ℕ). Args T P (ctx_of p.scope) p.site.layer k ts) (add-one p.site.height) z.1))
 
     visits_tested : (i : ℕ) (q : Bool) (m : Node) (ts : Trees) → Nums i ts → defines_in ts ≡ [] → (f : Flags) (b : Bool) → f.tail ≡ b → {own : ℕ → Type 0} {before : List Use} {p : Place} {s : State} → f.height ≡ p.site.height
-        → Covers own i (i + sizes ts) → Finds own bottom before p s → (visit_tested classes ts f s).noted.nine ≡ none
+        → Covers own i (i + sizes ts) → Finds own bottom before p s → (visit_tested classes ts f s).noted.nine ≡ None
         → Done classes T P bottom (Minus own i (i + sizes ts)) before p (walk_all ts p) i (i + sizes ts) (visit_tested classes ts f s)
         (RecAt p b (sequence (whens q m) ts)) (λ n. Counts own n s)
     visits_tested i q m nil n d f b t {before = before} h o g e =
@@ -241,7 +240,7 @@ module _ (classes : List ℕ) (T : List Row) (P : Presumption) (bottom : List (L
         let k = i + size c in
         let j = k + sizes ts in
         let d₂ = none_right (defines c) (defines_in ts) d in
-        subst (λ (u : State). (visit_children classes ts (in_begin f) u).noted.nine ≡ none
+        subst (λ (u : State). (visit_children classes ts (in_begin f) u).noted.nine ≡ None
         → Done classes T P bottom (Minus own i (i + sizes (cons c ts))) before p (walk_all (cons c ts) p) i (i + sizes (cons c ts)) (visit_children classes ts (in_begin f) u) (RecAt p b (sequence (whens q m) (cons c ts))) (λ n. Counts own n s))
         (sym (none-entered classes ts s₁ d₂))
         (λ e.
@@ -256,7 +255,7 @@ module _ (classes : List ℕ) (T : List Row) (P : Presumption) (bottom : List (L
         (λ z. r_when z.0 z.1)) e
 
     pub visits_all : (i : ℕ) (ts : Trees) → Nums i ts → defines_in ts ≡ [] → (f : Flags) (b : Bool) → f.tail ≡ b → {own : ℕ → Type 0} {before : List Use} {p : Place} {s : State} → f.height ≡ p.site.height
-        → Covers own i (i + sizes ts) → Finds own bottom before p s → (visit_children classes ts f s).noted.nine ≡ none
+        → Covers own i (i + sizes ts) → Finds own bottom before p s → (visit_children classes ts f s).noted.nine ≡ None
         → Done classes T P bottom (Minus own i (i + sizes ts)) before p (walk_all ts p) i (i + sizes ts) (visit_children classes ts f s)
         (Seq T P (ctx_of p.scope) p.site.layer p.site.height b ts) (λ n. Counts own n s)
     visits_all i nil n d f b t {before = before} h o g e =

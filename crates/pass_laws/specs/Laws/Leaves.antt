@@ -1,9 +1,9 @@
 -- The live names when names enter a layer above the bottom with no refusal noted, and when they leave it.
 use Prim.Native.Nat.{ℕ, zero, suc, ◌-◌, ◌≤◌, ◌<◌}
 use mathlib.Core.List.{List, [], ◌∷◌}
-use Rattle.std.specs.Prelude.{Bool, cond, ◌≡◌, eqb}
+use Rattle.std.specs.Prelude.{Bool, cond, ◌≡◌, eqb, Option, None, Some}
+use Rattle.std.proofs.lemmas.Option.{none-some}
 use Rattle.std.proofs.Math.Bool.{true, false}
-use Rattle.std.proofs.Math.Option.{Option, none, some, some-ne-none}
 use Rattle.std.proofs.Math.Path.{refl, ap}
 use Rattle.std.proofs.Common.{sym, subst, ◌∙◌, arith, lt-ltb}
 use Rattle.std.proofs.lemmas.Bool.{eqb-false}
@@ -40,17 +40,17 @@ quiet_names c = ap (λ (k : Scope). k.names) (quiet c).scope
 
 -- Names enter
 
-pub not_noted : (o : Option ℕ) (i : ℕ) → or_kept o i ≡ none → ⊥
-not_noted none i e = some-ne-none i e
-not_noted (some a) i e = some-ne-none a e
+pub not_noted : (o : Option ℕ) (i : ℕ) → or_kept o i ≡ None → ⊥
+not_noted None i e = none-some i (sym e)
+not_noted (Some a) i e = none-some a (sym e)
 
 -- one name enters above the bottom, and no refusal is noted: it was not live there
 pub record EntersOne (x : Ident) (s t : State) : Type 0 where
-  pub before : s.noted.nine ≡ none
+  pub before : s.noted.nine ≡ None
   pub anew : has_in (depth s) x.name (names s).live ≡ false
   pub after : names t ≡ in_layer (depth s) (live_at (depth s) x ∷ (names s).live)
 
-pub enter_one : (x : Ident) (e : Entry) (s : State) → 1 < depth s → (enter x e s).noted.nine ≡ none → EntersOne x s (enter x e s)
+pub enter_one : (x : Ident) (e : Entry) (s : State) → 1 < depth s → (enter x e s).noted.nine ≡ None → EntersOne x s (enter x e s)
 unfolding enter put_entry
 enter_one x e s h n = go (has_at_top (names s) x.name) refl
   where
@@ -59,7 +59,7 @@ enter_one x e s h n = go (has_at_top (names s) x.name) refl
     go false q = record { before = rw (lt-ltb 1 (depth s) h, q) at n; anew = q; after = rw q }
 
 pub record EntersAll (xs : List Ident) (s t : State) : Type 0 where
-  pub before : s.noted.nine ≡ none
+  pub before : s.noted.nine ≡ None
   pub anew : Anew (depth s) xs (names s).live
   pub after : names t ≡ in_layer (depth s) (entered_in (depth s) xs (names s).live)
 
@@ -73,15 +73,15 @@ enters_more {xs = xs} o a =
 
 -- a note of refusal 11 before it is no matter
 heap_names : (o : Option ℕ) (x : Ident) (s : State) → names (note_heap o x s) ≡ names s
-heap_names none x s = refl
-heap_names (some k) x s = refl
+heap_names None x s = refl
+heap_names (Some k) x s = refl
 
-enter_heap : (o : Option ℕ) (x : Ident) (e : Entry) (s : State) → 1 < depth s → (enter x e (note_heap o x s)).noted.nine ≡ none
+enter_heap : (o : Option ℕ) (x : Ident) (e : Entry) (s : State) → 1 < depth s → (enter x e (note_heap o x s)).noted.nine ≡ None
     → EntersOne x s (enter x e (note_heap o x s))
-enter_heap none x e s h n =
+enter_heap None x e s h n =
     let r = enter_one x e (note_second 11 x.at s) h n in
     record { before = r.before; anew = r.anew; after = r.after }
-enter_heap (some k) x e s h n = enter_one x e s h n
+enter_heap (Some k) x e s h n = enter_one x e s h n
 
 -- nor is its fact
 with_fact : {x : Ident} {s t : State} (i : ℕ) (r : Row) → EntersOne x s t → EntersOne x s (insert i r t)
@@ -89,7 +89,7 @@ unfolding insert
 with_fact i r o = record { before = o.before; anew = o.anew; after = o.after }
 
 module _ (kind : IdentifierStatus) (base : ℕ) (heaps : Option ℕ) (before : List ListEntry) where
-  pub enter_name_lem : (b : Bool) (x : Ident) (j h : ℕ) (s : State) → 1 < depth s → (enter_name kind base heaps before b x j h s).noted.nine ≡ none
+  pub enter_name_lem : (b : Bool) (x : Ident) (j h : ℕ) (s : State) → 1 < depth s → (enter_name kind base heaps before b x j h s).noted.nine ≡ None
       → EntersOne x s (enter_name kind base heaps before b x j h s)
   unfolding enter_name insert
   enter_name_lem true x j h s l n = with_fact x.at _ (enter_heap heaps x _ s l n)
@@ -100,7 +100,7 @@ module _ (kind : IdentifierStatus) (base : ℕ) (heaps : Option ℕ) (before : L
   name_depth true x j h s = ap (λ (m : ScopeMap Ident). m.depth) (heap_names heaps x s)
   name_depth false x j h s = refl
 
-  pub enter-names : (xs : List Ident) (j h : ℕ) (s : State) → 1 < depth s → (enter_names kind base heaps before xs j h s).noted.nine ≡ none
+  pub enter-names : (xs : List Ident) (j h : ℕ) (s : State) → 1 < depth s → (enter_names kind base heaps before xs j h s).noted.nine ≡ None
       → EntersAll xs s (enter_names kind base heaps before xs j h s)
   unfolding enter_names
   enter-names [] j h s l n = record { before = n; anew = tt; after = refl }
@@ -149,7 +149,7 @@ close_let_lem b n xs height function m s l a e =
 
 -- a let at its names
 pub record LetEnters (xs : List Ident) (b : Bool) (s t : State) : Type 0 where
-  pub before : s.noted.nine ≡ none
+  pub before : s.noted.nine ≡ None
   pub anew : Anew (opened_to b (names s)) xs (names s).live
   pub after : names t ≡ in_layer (opened_to b (names s)) (entered_in (opened_to b (names s)) xs (names s).live)
 
@@ -164,7 +164,7 @@ unfolding open_layer open_scope
 above true s e h = omega arith
 above false s e h = let q : ¬ (depth s ≡ 1) = eqb-false (depth s) 1 e in omega arith
 
-pub open_let_lem : (n : Node) (xs : List Ident) (height : ℕ) (function : Option Node) (s : State) → 1 ≤ depth s → (open_let n xs height function s).noted.nine ≡ none
+pub open_let_lem : (n : Node) (xs : List Ident) (height : ℕ) (function : Option Node) (s : State) → 1 ≤ depth s → (open_let n xs height function s).noted.nine ≡ None
     → LetEnters xs (at_bottom s) s (open_let n xs height function s)
 unfolding open_let
 open_let_lem n xs height function s h e =
@@ -172,14 +172,14 @@ open_let_lem n xs height function s h e =
 
 -- Lambda
 
-enter-parameters : (o : Option FunctionInformation) (xs : List Ident) (s : State) → 1 < depth s → (enter_parameters o xs s).noted.nine ≡ none
+enter-parameters : (o : Option FunctionInformation) (xs : List Ident) (s : State) → 1 < depth s → (enter_parameters o xs s).noted.nine ≡ None
     → EntersAll xs s (enter_parameters o xs s)
 unfolding enter_parameters
-enter-parameters none xs s h e = enter-names _ _ _ _ xs 0 0 s h e
-enter-parameters (some v) xs s h e = enter-names _ _ _ _ xs 0 0 s h e
+enter-parameters None xs s h e = enter-names _ _ _ _ xs 0 0 s h e
+enter-parameters (Some v) xs s h e = enter-names _ _ _ _ xs 0 0 s h e
 
 pub record LambdaEnters (xs : List Ident) (s t : State) : Type 0 where
-  pub before : s.noted.nine ≡ none
+  pub before : s.noted.nine ≡ None
   pub anew : Anew (suc (depth s)) xs (names s).live
   pub after : names t ≡ in_layer (suc (depth s)) (entered_in (suc (depth s)) xs (names s).live)
 
@@ -204,14 +204,14 @@ module _ (which : Bool) (numbered : ℕ → Option ScopeInfo → ScopeInfo → S
 
 pub captures_beside : (o : Option FunctionInformation) (s : State) → Beside s (open_captures o s)
 unfolding open_captures number_list
-captures_beside none s = record { scope = refl; noted = refl }
-captures_beside (some v) s =
+captures_beside None s = record { scope = refl; noted = refl }
+captures_beside (Some v) s =
     let l = v.captured_vars in
     let p = numbered_beside false numbered_capture l.length l.first 0 _ in
     let q = numbered_beside true numbered_heap l.length l.first 0 _ in
     record { scope = q.scope ∙ p.scope; noted = q.noted ∙ p.noted }
 
-open_layers : (o : Option FunctionInformation) (xs : List Ident) (s t : State) → Beside s t → 1 ≤ depth s → (enter_parameters o xs (open_scope t)).noted.nine ≡ none
+open_layers : (o : Option FunctionInformation) (xs : List Ident) (s t : State) → Beside s t → 1 ≤ depth s → (enter_parameters o xs (open_scope t)).noted.nine ≡ None
     → LambdaEnters xs s (enter_parameters o xs (open_scope t))
 unfolding open_scope
 open_layers o xs s t p h e =
@@ -223,7 +223,7 @@ open_layers o xs s t p h e =
       after = r.after ∙ ap (λ (c : Scope). in_layer (suc c.names.depth) (entered_in (suc c.names.depth) xs c.names.live)) p.scope;
     }
 
-pub open_lambda_lem : (n : Node) (xs : List Ident) (s : State) → 1 ≤ depth s → (open_lambda n xs s).noted.nine ≡ none → LambdaEnters xs s (open_lambda n xs s)
+pub open_lambda_lem : (n : Node) (xs : List Ident) (s : State) → 1 ≤ depth s → (open_lambda n xs s).noted.nine ≡ None → LambdaEnters xs s (open_lambda n xs s)
 unfolding open_lambda
 open_lambda_lem n xs s h e =
     let o = function_in (row_at s n.at) in

@@ -1,7 +1,6 @@
 -- A visit of a tree with no define in it gives the live names back as they were, unless a refusal 9 is noted.
-use Rattle.std.specs.Prelude.{ℕ, suc, ◌≤◌, Bool, true, false, cond, ◌&&◌, ◌≡◌, length, eqb}
+use Rattle.std.specs.Prelude.{ℕ, suc, ◌≤◌, Bool, true, false, cond, ◌&&◌, ◌≡◌, length, eqb, Option, None, Some}
 use mathlib.Core.List.{List, [], ◌∷◌, ◌++◌, cons-ne-nil}
-use Rattle.std.proofs.Math.Option.{Option, none, some}
 use Rattle.std.proofs.Math.Path.{refl}
 use Rattle.std.proofs.Common.{ap, sym, subst, ◌∙◌, arith}
 use Rattle.tree.specs.Tree.{Ident, Node, Tree, Trees, ident, const, if, letin, define, lambda, sequence, call, set!, nil, cons, many, begins, ands, whens}
@@ -60,7 +59,7 @@ module _ (classes : List ℕ) where
 -- from s on to t the names are restored
 pub record Restores (s t : State) : Type 0 where
   pub changes : Changes Any s t
-  pub restored : Layered (names s) → t.noted.nine ≡ none → names t ≡ names s
+  pub restored : Layered (names s) → t.noted.nine ≡ None → names t ≡ names s
 
 -- h: s has a bottom layer
 pub then : {s t u : State} (h : 1 ≤ depth s) → Restores s t → (1 ≤ depth t → Restores t u) → Restores s u
@@ -97,8 +96,8 @@ read_restores classes x s = record { changes = read_changes classes x s tt; rest
 
 set-names : (o : Option Ident) (s : State) → names (mutate_at o s) ≡ names s
 unfolding insert amend put_entry
-set-names none s = refl
-set-names (some b) s = refl
+set-names None s = refl
+set-names (Some b) s = refl
 
 pub mutate_restores : (x : ℕ) (s : State) → Restores s (mutate x s)
 unfolding mutate
@@ -136,7 +135,7 @@ unfolding close_layer close_scope
 close_noted true s = refl
 close_noted false s = refl
 
-let_noted : (b : Bool) (n : Node) (xs : List Ident) (height : ℕ) (function : Option Node) (s : State) → (close_let b n xs height function s).noted.nine ≡ none → s.noted.nine ≡ none
+let_noted : (b : Bool) (n : Node) (xs : List Ident) (height : ℕ) (function : Option Node) (s : State) → (close_let b n xs height function s).noted.nine ≡ None → s.noted.nine ≡ None
 unfolding close_let
 let_noted b n xs height function s e =
     let c = leaving_changes {own = Any} xs s ⨾ make_changes (row_at s n.at) n (entered xs s) height function (leave_names xs s) tt in

@@ -1,7 +1,6 @@
 -- Changes that may also open or close a layer: into a body, out of it, and from any place of a walk to any later one.
-use Rattle.std.specs.Prelude.{ℕ, List, Bool, ◌≡◌, refl}
+use Rattle.std.specs.Prelude.{ℕ, List, Bool, ◌≡◌, refl, Option}
 use Rattle.std.proofs.Math.Bool.{true, false}
-use Rattle.std.proofs.Math.Option.{Option}
 use Rattle.std.proofs.Common.{◌∙◌}
 use Rattle.tree.specs.Tree.{Ident, Node, Tree}
 use Rattle.tree.specs.Accepted.{All}

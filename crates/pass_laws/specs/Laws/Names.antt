@@ -1,6 +1,6 @@
 -- What a read, a set! and an entering name change.
-use Rattle.std.specs.Prelude.{ℕ, ◌≤◌, List, Bool, true, false, ◌&&◌, ◌≡◌, refl, eqb, ltb}
-use Rattle.std.proofs.Math.Option.{Option, none, some, some-injective, none-ne-some}
+use Rattle.std.specs.Prelude.{ℕ, ◌≤◌, List, Bool, true, false, ◌&&◌, ◌≡◌, refl, eqb, ltb, Option, None, Some}
+use Rattle.std.proofs.lemmas.Option.{same_Some, none-some}
 use Rattle.std.proofs.Common.{ap, ◌∙◌, arith}
 use Rattle.tree.specs.Tree.{Ident, Tree}
 use Rattle.tree.specs.Check.{Refusal}
@@ -31,13 +31,13 @@ set-used p q r = record { captured = λ h. p ∙ h; mutated = λ h. q; kept = r 
 
 -- Refusals
 
-kept_none : {A : Type 0} (o : Option A) (a : A) → or_kept o a ≡ none → o ≡ none
-kept_none none a e = refl
-kept_none (some b) a e = e
+kept_none : {A : Type 0} (o : Option A) (a : A) → or_kept o a ≡ None → o ≡ None
+kept_none None a e = refl
+kept_none (Some b) a e = e
 
-kept_first : {A : Type 0} (o : Option A) (a b : A) → o ≡ some b → or_kept o a ≡ some b
-kept_first none a b e = absurd (none-ne-some b e)
-kept_first (some c) a b e = e
+kept_first : {A : Type 0} (o : Option A) (a b : A) → o ≡ Some b → or_kept o a ≡ Some b
+kept_first None a b e = absurd (none-some b e)
+kept_first (Some c) a b e = e
 
 nine_later : (i : ℕ) (n : Noted) → Later n (record { nine = or_kept n.nine i; ten = n.ten; second = n.second })
 nine_later i n = record { nine = kept_none n.nine i; ten = λ e. e; second = λ e. e; first_nine = kept_first n.nine i; first_ten = λ j e. e; first_second = λ r e. e; numbers = λ h. h }
@@ -46,8 +46,8 @@ ten_later : (i : ℕ) (n : Noted) → Later n (record { nine = n.nine; ten = or_
 ten_later i n = record { nine = λ e. e; ten = kept_none n.ten i; second = λ e. e; first_nine = λ j e. e; first_ten = kept_first n.ten i; first_second = λ r e. e; numbers = λ h. h }
 
 kept_second : (o : Option Refusal) (k i : ℕ) → (11 ≤ k) × (k ≤ 12) → Second o → Second (or_kept o (record { number = k; at = i }))
-kept_second none k i b h r e = let q : k ≡ r.number = ap (λ (p : Refusal). p.number) (some-injective _ _ e) in (omega (arith, q, b.0), omega (arith, q, b.1))
-kept_second (some a) k i b h r e = h r e
+kept_second None k i b h r e = let q : k ≡ r.number = ap (λ (p : Refusal). p.number) (same_Some _ _ e) in (omega (arith, q, b.0), omega (arith, q, b.1))
+kept_second (Some a) k i b h r e = h r e
 
 second_later : (k i : ℕ) (n : Noted) → (11 ≤ k) × (k ≤ 12) → Later n (record { nine = n.nine; ten = n.ten; second = or_kept n.second (record { number = k; at = i }) })
 second_later k i n b = record { nine = λ e. e; ten = λ e. e; second = kept_none n.second _; first_nine = λ j e. e; first_ten = λ j e. e; first_second = kept_first n.second _; numbers = kept_second n.second k i b }
@@ -78,8 +78,8 @@ module _ {free : Type 0} {own sites : ℕ → Type 0} where
   unfound_changes classes x s o = row x.at _ o (used_site _ (row_at s x.at))
 
   pub shadow_changes : (classes : List ℕ) (o : Option Ident) (s : State) → CallSteps free own sites s (shadow classes o s)
-  shadow_changes classes none s = same
-  shadow_changes classes (some b) s = mark (shadow_if_builtin classes) b.at (λ v. marked_if v.builtin v)
+  shadow_changes classes None s = same
+  shadow_changes classes (Some b) s = mark (shadow_if_builtin classes) b.at (λ v. marked_if v.builtin v)
 
 module _ {own sites : ℕ → Type 0} where
   pub nine_changes : (i : ℕ) (s : State) → CallChanges own sites s (note_nine i s)
@@ -103,8 +103,8 @@ module _ {own sites : ℕ → Type 0} where
   -- and set
 
   pub set_changes : (o : Option Ident) (s : State) → CallChanges own sites s (mutate_at o s)
-  set_changes none s = same
-  set_changes (some b) s = used tt b.at _ (set-used refl refl refl) ⨾ mark mark_set b.at (λ v. refl)
+  set_changes None s = same
+  set_changes (Some b) s = used tt b.at _ (set-used refl refl refl) ⨾ mark mark_set b.at (λ v. refl)
 
   pub mutate_changes : (x : ℕ) (s : State) → CallChanges own sites s (mutate x s)
   unfolding mutate

@@ -1,7 +1,7 @@
 -- The numbers of refusals: 1 to 8 and 16 of the checks, 9 and 10 of a fresh run, 11 and 12 of a second one. So 0 is free to say that nothing is refused.
-use Rattle.std.specs.Prelude.{ℕ, ◌≤◌, Bool, true, false, ◌||◌, List, [], ◌∷◌, ◌++◌, ◌≡◌, refl, length, eqb}
+use Rattle.std.specs.Prelude.{ℕ, ◌≤◌, Bool, true, false, ◌||◌, List, [], ◌∷◌, ◌++◌, ◌≡◌, refl, length, eqb, Option, None, Some}
+use Rattle.std.proofs.lemmas.Option.{same_Some, none-some}
 use Rattle.std.proofs.Common.{true≢false, ap, sym, ◌∙◌, arith}
-use Rattle.std.proofs.Math.Option.{Option, none, some, some-injective, none-ne-some}
 use Rattle.std.proofs.Math.Decide.{ℕ_discrete}
 use Rattle.tree.specs.Tree.{Trees}
 use Rattle.tree.specs.Define.{top_level}
@@ -27,18 +27,18 @@ of_second = 11 ∷ 12 ∷ []
 
 -- the refusal, if any, has one of these numbers
 pub record Among (l : List ℕ) (o : Option Refusal) : Type 0 where
-  pub is : (r : Refusal) → o ≡ some r → member r.number l ≡ true
+  pub is : (r : Refusal) → o ≡ Some r → member r.number l ≡ true
 
-among_none : {l : List ℕ} → Among l none
-among_none = record { is = λ r e. absurd (none-ne-some r e) }
+among_none : {l : List ℕ} → Among l None
+among_none = record { is = λ r e. absurd (none-some r e) }
 
-among_some : {l : List ℕ} (r : Refusal) → member r.number l ≡ true → Among l (some r)
+among_some : {l : List ℕ} (r : Refusal) → member r.number l ≡ true → Among l (Some r)
 among_some {l} r h =
-    record { is = λ q e. ap (λ (n : ℕ). member n l) (sym (ap (λ (p : Refusal). p.number) (some-injective r q e))) ∙ h }
+    record { is = λ q e. ap (λ (n : ℕ). member n l) (sym (ap (λ (p : Refusal). p.number) (same_Some r q e))) ∙ h }
 
 or-else : {l : List ℕ} (n : ℕ) (o : Option ℕ) {p : Option Refusal} → member n l ≡ true → Among l p → Among l (or_else n o p)
-or-else n none h k = k
-or-else n (some i) h k = among_some (record { number = n; at = i }) h
+or-else n None h k = k
+or-else n (Some i) h k = among_some (record { number = n; at = i }) h
 
 or_right : (a : Bool) {b : Bool} → b ≡ true → (a || b) ≡ true
 or_right true e = refl
@@ -79,12 +79,12 @@ pub first-numbers : (n : Noted) → Among of_fresh (refused_first n)
 first-numbers n = nine n.nine n.ten
   where
     ten : (t : Option ℕ) → Among of_fresh (ten_at t)
-    ten none = among_none
-    ten (some i) = among_some (record { number = 10; at = i }) refl
+    ten None = among_none
+    ten (Some i) = among_some (record { number = 10; at = i }) refl
 
     nine : (o t : Option ℕ) → Among of_fresh (nine_or o (ten_at t))
-    nine none t = ten t
-    nine (some i) t = among_some (record { number = 9; at = i }) refl
+    nine None t = ten t
+    nine (Some i) t = among_some (record { number = 9; at = i }) refl
 
 -- 11 or 12
 eleven_on : (n : ℕ) → 11 ≤ n → n ≤ 12 → member n of_second ≡ true
@@ -101,27 +101,27 @@ run-numbers classes ts f =
     let c = children_changes {own = Any} classes Global us (start f) (trees_any us) in
     let one : 1 ≤ depth (enter_children classes Global us (start f)) = stays c (omega arith) in
     let later = keeps_noted (c ⨾ tops_visited {own = Any} classes us (enter_children classes Global us (start f)) (trees_any us) one) in
-    record { is = λ r e. let n = later.numbers (λ q k. absurd (none-ne-some q k)) r e in eleven_on r.number n.0 n.1 }
+    record { is = λ r e. let n = later.numbers (λ q k. absurd (none-some q k)) r e in eleven_on r.number n.0 n.1 }
 
 either_numbers : {a b : List ℕ} (o p : Option Refusal) → Among a o → Among b p → Among (a ++ b) (or_second o p)
-either_numbers {a} none p h k = among_right a k
-either_numbers {b = b} (some r) p h k = among_left b h
+either_numbers {a} None p h k = among_right a k
+either_numbers {b = b} (Some r) p h k = among_left b h
 
 outcome-numbers : {l : List ℕ} (o : Option Refusal) (f : Facts) → Among l o → Among l (outcome o f).refused
-outcome-numbers none f h = h
-outcome-numbers (some r) f h = h
+outcome-numbers None f h = h
+outcome-numbers (Some r) f h = h
 
 module _ {outcome_of : List ℕ → Trees → Outcome} {classes rs : List ℕ} {t : Tables} {o : Outcome} {l : List ℕ} where
   answers_numbers : Answers outcome_of classes rs t o → ((ts : Trees) → Among l (outcome_of classes ts).refused) → Among (of_checks ++ l) o.refused
   answers_numbers x h = record { is = λ r e. by_checks r e (fitting rs t) refl (refusal (length classes) rs) refl }
     where
-      said : (r : Refusal) → o.refused ≡ some r → {u : Outcome} → o ≡ u → u.refused ≡ some r
+      said : (r : Refusal) → o.refused ≡ Some r → {u : Outcome} → o ≡ u → u.refused ≡ Some r
       said r e q = sym (ap (λ (p : Outcome). p.refused) q) ∙ e
 
-      by_checks : (r : Refusal) → o.refused ≡ some r → (fits : Bool) → fitting rs t ≡ fits → (q : Option Refusal) → refusal (length classes) rs ≡ q → member r.number (of_checks ++ l) ≡ true
+      by_checks : (r : Refusal) → o.refused ≡ Some r → (fits : Bool) → fitting rs t ≡ fits → (q : Option Refusal) → refusal (length classes) rs ≡ q → member r.number (of_checks ++ l) ≡ true
       by_checks r e false f q k = (among_some {l = of_checks ++ l} (record { number = 1; at = 0 }) refl).is r (said r e (x.unfit f))
-      by_checks r e true f (some q) k = member-left r.number of_checks l ((checks-numbers (length classes) rs).is r (k ∙ said r e (x.unsound f q k)))
-      by_checks r e true f none k =
+      by_checks r e true f (Some q) k = member-left r.number of_checks l ((checks-numbers (length classes) rs).is r (k ∙ said r e (x.unsound f q k)))
+      by_checks r e true f None k =
           let (ts, a) = accepted (length classes) rs k in member_right r.number of_checks l ((h ts).is r (said r e (x.sound f ts a)))
 
 module _ {classes rs : List ℕ} {t : Tables} {o : Outcome} where

@@ -1,8 +1,7 @@
 -- A relation between states that the small steps preserve: the steps made of them preserve it too.
-use Rattle.std.specs.Prelude.{ℕ, suc, Bool, cond, ◌&&◌, eqb}
+use Rattle.std.specs.Prelude.{ℕ, suc, Bool, cond, ◌&&◌, eqb, Option, None, Some}
 use mathlib.Core.List.{List, [], ◌∷◌}
 use Rattle.std.proofs.Math.Bool.{true, false}
-use Rattle.std.proofs.Math.Option.{Option, none, some}
 use Rattle.std.proofs.Math.Dec.{ltb}
 use Rattle.tree.specs.Tree.{Ident, Node, Tree, Trees, nil, cons}
 use Rattle.tree.specs.Core.{core, cores}
@@ -47,8 +46,8 @@ module _ {reads enters : Type 0} {R : State → State → Type 0} (K : Preserves
   -- Marks
 
   pub last_preserves : (o : Option Ident) (s : State) → R s (mark_last o s)
-  last_preserves none s = K.same s
-  last_preserves (some x) s = K.mark _ x.at s
+  last_preserves None s = K.same s
+  last_preserves (Some x) s = K.mark _ x.at s
 
   pub lasts_preserves : (l : List (Live Ident)) (s : State) → R s (mark_lasts l s)
   unfolding mark_lasts
@@ -61,15 +60,15 @@ module _ {reads enters : Type 0} {R : State → State → Type 0} (K : Preserves
   ended_preserves (x ∷ xs) s = K.join (K.mark _ x.at s) (ended_preserves xs _)
 
   pub shadow_preserves : (classes : List ℕ) (o : Option Ident) (s : State) → R s (shadow classes o s)
-  shadow_preserves classes none s = K.same s
-  shadow_preserves classes (some b) s = K.mark _ b.at s
+  shadow_preserves classes None s = K.same s
+  shadow_preserves classes (Some b) s = K.mark _ b.at s
 
   -- A call, and a set!
 
   arguments_preserves : (ts : Trees) (s : State) → R s (mark_arguments ts s)
   unfolding mark_arguments
   arguments_preserves nil s = K.same s
-  arguments_preserves (cons t ts) s = K.join (by_argument R K.same (λ x s. last_preserves (some x) s) t s) (arguments_preserves ts _)
+  arguments_preserves (cons t ts) s = K.join (by_argument R K.same (λ x s. last_preserves (Some x) s) t s) (arguments_preserves ts _)
 
   tail_preserves : (b : Bool) (ts : Trees) (s : State) → R s (mark_if_tail b ts s)
   tail_preserves true ts s = arguments_preserves ts s
@@ -86,8 +85,8 @@ module _ {reads enters : Type 0} {R : State → State → Type 0} (K : Preserves
   clear_preserves x s = either (is_self s x) (K.context NONE s) (K.same s)
 
   pub set_preserves : (o : Option Ident) (s : State) → R s (mutate_at o s)
-  set_preserves none s = K.same s
-  set_preserves (some b) s = K.join (K.entry b.at _ s) (K.mark _ b.at _)
+  set_preserves None s = K.same s
+  set_preserves (Some b) s = K.join (K.entry b.at _ s) (K.mark _ b.at _)
 
   pub mutate_preserves : (x : ℕ) (s : State) → R s (mutate x s)
   unfolding mutate
@@ -183,8 +182,8 @@ module _ {reads : Type 0} {R : State → State → Type 0} (K : Preserves reads 
 -- Parameters and let names
 module _ {R : State → State → Type 0} (K : Preserves (Unit {0}) (Unit {0}) R) where
   heap_preserves : (o : Option ℕ) (x : Ident) (s : State) → R s (note_heap o x s)
-  heap_preserves none x s = K.second tt 11 x.at s
-  heap_preserves (some n) x s = K.same s
+  heap_preserves None x s = K.second tt 11 x.at s
+  heap_preserves (Some n) x s = K.same s
 
   module _ (kind : IdentifierStatus) (base : ℕ) (heaps : Option ℕ) (before : List ListEntry) where
     pub name_preserves : (b : Bool) (x : Ident) (j h : ℕ) (s : State) → R s (enter_name kind base heaps before b x j h s)
@@ -199,8 +198,8 @@ module _ {R : State → State → Type 0} (K : Preserves (Unit {0}) (Unit {0}) R
 
   pub parameters_preserves : (f : Option FunctionInformation) (xs : List Ident) (s : State) → R s (enter_parameters f xs s)
   unfolding enter_parameters
-  parameters_preserves none xs s = names_preserves _ _ _ _ xs 0 0 s
-  parameters_preserves (some v) xs s = names_preserves _ _ _ _ xs 0 0 s
+  parameters_preserves None xs s = names_preserves _ _ _ _ xs 0 0 s
+  parameters_preserves (Some v) xs s = names_preserves _ _ _ _ xs 0 0 s
 
   pub open_let_preserves : (n : Node) (xs : List Ident) (height : ℕ) (function : Option Node) (s : State) → R s (open_let n xs height function s)
   unfolding open_let

@@ -1,12 +1,11 @@
 -- What the static meaning presumes: of a use, nothing; or, where no name is set that an inner lambda mentions, whether its name is set anywhere.
-use Rattle.std.specs.Prelude.{ℕ, List, [], ◌∷◌, Bool, true, false, ◌&&◌, ◌||◌, ◌≡◌, refl, eqb}
+use Rattle.std.specs.Prelude.{ℕ, List, [], ◌∷◌, Bool, true, false, ◌&&◌, ◌||◌, ◌≡◌, refl, eqb, Option, None, Some}
 use mathlib.Core.List.Memᴰ
 use mathlib.Core.List.Memᴰ.{head as here}
 use mathlib.Core.List.Memᴰ.{tail as there}
 use mathlib.Core.List.{Memᴰ as Member}
 use Rattle.std.proofs.Common.{true≢false, ap, sym, ◌∙◌, eqb-true, eq-eqb}
 use Rattle.std.proofs.Math.Bool.{or-true}
-use Rattle.std.proofs.Math.Option.{Option, none, some}
 use Rattle.r7rs.specs.Binding.{Binder, Mention, Event, enters, mentions, ends, meant, Use, use_of}
 use Rattle.pass_laws.specs.Static.{Presumption}
 use Rattle.pass_laws.specs.Laws.Says.{uses_in, is_set_use, any_use, is_set_in, Presumed, Presumes}
@@ -60,8 +59,8 @@ module _ (U : List Use) (no : Unshared U) where
   is_set_lem u m s = any-member (is_set_use u.binder) m (rw (s, eq-eqb u.binder u.binder refl))
 
   presumed : (m : Mention) (o : Option Binder) → ((u : Use) → Member u (use_of m o) → Member u U) → Presumed (unshared U) m o
-  presumed m none w = tt
-  presumed m (some b) w =
+  presumed m None w = tt
+  presumed m (Some b) w =
       let u = w _ (here refl) in
       record {
         ReadInside = λ s i. never_set _ u i;

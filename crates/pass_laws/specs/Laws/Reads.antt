@@ -1,8 +1,7 @@
 -- A name is read or set on a fresh run: which rule decides, what the row says, and what is left.
-use Rattle.std.specs.Prelude.{ℕ, Bool, cond, ◌&&◌, ◌||◌, ◌≡◌, length, get_or, set, eqb, ltb}
+use Rattle.std.specs.Prelude.{ℕ, Bool, cond, ◌&&◌, ◌||◌, ◌≡◌, length, get_or, set, eqb, ltb, Option, None, Some}
 use mathlib.Core.List.{List, ◌++◌, append-nil}
 use Rattle.std.proofs.Math.Bool.{true, false, or-false, or-true}
-use Rattle.std.proofs.Math.Option.{Option, none, some}
 use Rattle.std.proofs.Math.Path.{refl, ap, sym, subst}
 use Rattle.std.proofs.Common.{◌∙◌, arith}
 use borrow.Author.Tests.{eq-eqb, ne_eqb}
@@ -31,16 +30,16 @@ use Rattle.pass_laws.specs.Laws.Onward.{Parts, onward, calmly, UsedAt, one_use, 
 -- Which rule decides
 
 pub data Reads (own : ℕ → Type 0) (E : List Entry) (before : List Use) (p : Place) (bottom : List (Live Ident)) (x : ℕ) : Option Binder → Rule → Type 0 where
-  reads_none : binder_in (get_in bottom x) ≡ none → Reads own E before p bottom x none no_entry
-  reads_global : {d : Ident} → binder_in (get_in bottom x) ≡ some d → (own d.at → ⊥) → Reads own E before p bottom x none (depth_one d)
-  reads-own : {b : Binder} → Stands own E before b → ltb (length b.around) (length p.around) ≡ false → Reads own E before p bottom x (some b) (current_layer b.ident)
-  reads_outer : {b : Binder} → Stands own E before b → ltb (length b.around) (length p.around) ≡ true → Reads own E before p bottom x (some b) (home_slot b.ident)
+  reads_none : binder_in (get_in bottom x) ≡ None → Reads own E before p bottom x None no_entry
+  reads_global : {d : Ident} → binder_in (get_in bottom x) ≡ Some d → (own d.at → ⊥) → Reads own E before p bottom x None (depth_one d)
+  reads-own : {b : Binder} → Stands own E before b → ltb (length b.around) (length p.around) ≡ false → Reads own E before p bottom x (Some b) (current_layer b.ident)
+  reads_outer : {b : Binder} → Stands own E before b → ltb (length b.around) (length p.around) ≡ true → Reads own E before p bottom x (Some b) (home_slot b.ident)
 
 module _ {own : ℕ → Type 0} {bottom : List (Live Ident)} {before : List Use} {p : Place} {s : State} (f : Finds own bottom before p s) where
   -- the rule for an entry, which is that of a name in scope
   rule_bound : (x : ℕ) (b : Binder) (d : ℕ) (i : Bool) → Around p.site.layer p.around b → Stands own s.scope.entries before b → d ≡ b.home.layer
       → ltb (length b.around) (length p.around) ≡ i
-      → Reads own s.scope.entries before p bottom x (some b)
+      → Reads own s.scope.entries before p bottom x (Some b)
       (cond (eqb d 1) (depth_one b.ident) (cond (eqb d (depth s)) (current_layer b.ident) (capture_rule b.ident (get s.captures x))))
   unfolding get_in
   rule_bound x b d true a k h i =
@@ -49,8 +48,8 @@ module _ {own : ℕ → Type 0} {bottom : List (Live Ident)} {before : List Use}
 
   rule_for : (x : ℕ) {o : Option Binder} → Of (λ b. Around p.site.layer p.around b × Stands own s.scope.entries before b) o → (q : Option (Live Ident)) → get_in bottom x ≡ q
       → Got (Global own s.scope.entries) q → Reads own s.scope.entries before p bottom x o (entry_rule s x (binder_in (live_in o q)))
-  rule_for x of_none none e g = reads_none (ap binder_in e)
-  rule_for x of_none (some l) e (got_some g) = rw (eq-eqb _ 1 g.depth) (reads_global (ap binder_in e) g.apart)
+  rule_for x of_none None e g = reads_none (ap binder_in e)
+  rule_for x of_none (Some l) e (got_some g) = rw (eq-eqb _ 1 g.depth) (reads_global (ap binder_in e) g.apart)
   rule_for x (of_some {b} (a, k)) q e g = rule_bound x b _ (ltb (length b.around) (length p.around)) a k k.held.depth refl
 
   pub rules : (x : ℕ) → Reads own s.scope.entries before p bottom x (find p.scope x) (rule_of s x)

@@ -1,7 +1,6 @@
 -- From what the rows say, event by event, to the static meaning of references.
-use Rattle.std.specs.Prelude.{ℕ, suc, ◌+◌, Bool, true, false, cond, ◌&&◌, ◌||◌, ◌≡◌, refl, get_or, eqb}
+use Rattle.std.specs.Prelude.{ℕ, suc, ◌+◌, Bool, true, false, cond, ◌&&◌, ◌||◌, ◌≡◌, refl, get_or, eqb, Option, None, Some}
 use mathlib.Core.List.{List, [], ◌∷◌, reverse_aux}
-use Rattle.std.proofs.Math.Option.{Option, none, some}
 use Rattle.std.proofs.Common.{ap, sym, ◌∙◌, arith}
 use Rattle.tree.specs.Tree.{Ident}
 use Rattle.semantic.specs.Rows.{Row, Blank, Variable}
@@ -27,14 +26,14 @@ ctx_of [] = []
 ctx_of (b ∷ sc) = bound_of b ∷ ctx_of sc
 
 abbrev pub bound_in : Option Binder → Option Bound
-bound_in none = none
-bound_in (some b) = some (bound_of b)
+bound_in None = None
+bound_in (Some b) = Some (bound_of b)
 
 pub find_ctx : (sc : List Binder) (x : ℕ) → bound_in (r7rs.find sc x) ≡ lookup (ctx_of sc) x
 find_ctx [] x = refl
 find_ctx (b ∷ sc) x = go (eqb b.ident.name x) (find_ctx sc x)
   where
-    go : (q : Bool) → bound_in (r7rs.find sc x) ≡ lookup (ctx_of sc) x → bound_in (cond q (some b) (r7rs.find sc x)) ≡ cond q (some (bound_of b)) (lookup (ctx_of sc) x)
+    go : (q : Bool) → bound_in (r7rs.find sc x) ≡ lookup (ctx_of sc) x → bound_in (cond q (Some b) (r7rs.find sc x)) ≡ cond q (Some (bound_of b)) (lookup (ctx_of sc) x)
     go true e = refl
     go false e = e
 
@@ -73,15 +72,15 @@ refers b t = record { depth = t.depth; refers = t.refers; slot = t.slot }
 
 module _ (classes : List ℕ) (T : List Row) (cell : Ident → Option Ident) where
   cell_fact : (x : Ident) (layer : ℕ) (o : Option Ident) → SaysCell classes T cell x layer o → Fact T x.at (λ v. is_cell v.kind ≡ true)
-  cell_fact x layer none t = record { fact = t.fact; is = t.is; means = ap is_cell t.kind ∙ cell_kind (is_prelude classes x.name) }
-  cell_fact x layer (some d) t = record { fact = t.fact; is = t.is; means = ap is_cell t.kind }
+  cell_fact x layer None t = record { fact = t.fact; is = t.is; means = ap is_cell t.kind ∙ cell_kind (is_prelude classes x.name) }
+  cell_fact x layer (Some d) t = record { fact = t.fact; is = t.is; means = ap is_cell t.kind }
 
   module _ (P : Presumption) (before : List Use) (x : Ident) (p : Place) where
-    ref-bound : (b : Binder) → SaysOf classes T cell before (read_at x p) (some b) → Around p.site.layer p.around b → Presumed P (read_at x p) (some b)
-        → Fact T x.at (λ v. Ref T P p.site.layer v (some (bound_of b)))
+    ref-bound : (b : Binder) → SaysOf classes T cell before (read_at x p) (Some b) → Around p.site.layer p.around b → Presumed P (read_at x p) (Some b)
+        → Fact T x.at (λ v. Ref T P p.site.layer v (Some (bound_of b)))
     ref-bound b t a u = record { fact = t.fact; is = t.is; means = go (is_inner (read_at x p) b) refl }
       where
-        go : (i : Bool) → is_inner (read_at x p) b ≡ i → Ref T P p.site.layer t.fact (some (bound_of b))
+        go : (i : Bool) → is_inner (read_at x p) b ≡ i → Ref T P p.site.layer t.fact (Some (bound_of b))
         go true i = ref_outer (t.kind ∙ outer_kind before (read_at x p) b i) (refers b t) a.above (a.outer i) (u.ReadInside refl i)
         go false i = ref-own (ap is_own t.kind ∙ own_kind before (read_at x p) b i) (refers b t) (a.own i)
 
@@ -92,11 +91,11 @@ module _ (classes : List ℕ) (T : List Row) (cell : Ident → Option Ident) whe
         record { fact = c.fact; is = c.is; means = ref-cell c.means }
     ref_of t (of_some {b} a) u = ref-bound b t a u
 
-    aim_bound : (b : Binder) → SaysOf classes T cell before (set_at x p) (some b) → Around p.site.layer p.around b → Presumed P (set_at x p) (some b)
-        → Fact T x.at (λ v. Aim T P p.site.layer v (some (bound_of b)))
+    aim_bound : (b : Binder) → SaysOf classes T cell before (set_at x p) (Some b) → Around p.site.layer p.around b → Presumed P (set_at x p) (Some b)
+        → Fact T x.at (λ v. Aim T P p.site.layer v (Some (bound_of b)))
     aim_bound b t a u = record { fact = t.fact; is = t.is; means = go (is_inner (set_at x p) b) refl }
       where
-        go : (i : Bool) → is_inner (set_at x p) b ≡ i → Aim T P p.site.layer t.fact (some (bound_of b))
+        go : (i : Bool) → is_inner (set_at x p) b ≡ i → Aim T P p.site.layer t.fact (Some (bound_of b))
         go true i = aim_outer (t.kind ∙ outer_kind before (set_at x p) b i) (refers b t) a.above (a.outer i) (u.SetInside refl i)
         go false i = aim_own (ap is_own t.kind ∙ own_kind before (set_at x p) b i) (refers b t) (a.own i) (u.SetOwn refl i)
 

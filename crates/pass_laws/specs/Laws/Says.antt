@@ -1,7 +1,6 @@
 -- What the rows of a fresh run say of each name, event by event of R7RS's walk over a tree without inner define.
-use Rattle.std.specs.Prelude.{ℕ, List, [], ◌∷◌, ◌++◌, Bool, true, false, cond, ◌&&◌, ◌||◌, ◌≡◌, refl, get_or, eqb}
+use Rattle.std.specs.Prelude.{ℕ, List, [], ◌∷◌, ◌++◌, Bool, true, false, cond, ◌&&◌, ◌||◌, ◌≡◌, refl, get_or, eqb, Option, None, Some}
 use Rattle.std.proofs.Common.{append_assoc, append-nil, ap, sym, subst, ◌∙◌}
-use Rattle.std.proofs.Math.Option.{Option, none, some}
 use Rattle.tree.specs.Tree.{Ident}
 use Rattle.scope_map.specs.ScopeMap.{Live, get_in}
 use Rattle.semantic.specs.Information.{NONE}
@@ -106,12 +105,12 @@ cell_of bottom x = binder_in (get_in bottom x.name)
 module _ (classes : List ℕ) (T : List Row) (cell : Ident → Option Ident) where
   -- the bottom entry of the name, if it has one
   abbrev pub SaysCell : Ident → ℕ → Option Ident → Type 0
-  SaysCell x layer (some d) = Tells T x.at Global d.id 1 NONE
-  SaysCell x layer none = Tells T x.at (cond (is_prelude classes x.name) Global Free) NONE layer NONE
+  SaysCell x layer (Some d) = Tells T x.at Global d.id 1 NONE
+  SaysCell x layer None = Tells T x.at (cond (is_prelude classes x.name) Global Free) NONE layer NONE
 
   abbrev pub SaysOf : List Use → Mention → Option Binder → Type 0
-  SaysOf before m none = SaysCell m.ident m.place.site.layer (cell m.ident)
-  SaysOf before m (some b) = Tells T m.ident.at (kind_of before m b) b.ident.id m.place.site.layer b.home.slot
+  SaysOf before m None = SaysCell m.ident m.place.site.layer (cell m.ident)
+  SaysOf before m (Some b) = Tells T m.ident.at (kind_of before m b) b.ident.id m.place.site.layer b.home.slot
 
   -- along the walk
   abbrev pub Says : List Use → List Event → Type 0
@@ -135,8 +134,8 @@ says_cell classes T c d before (enters b sc ∷ l) e p = (p.0, says_cell classes
 says_cell classes T c d before (mentions m ∷ l) e p = (go (meant m) p.0, says_cell classes T c d (before ++ use_of m (meant m)) l e.1 p.1)
   where
     go : (o : Option Binder) → SaysOf classes T c before m o → SaysOf classes T d before m o
-    go none q = subst (SaysCell classes T c m.ident m.place.site.layer) e.0 q
-    go (some b) q = q
+    go None q = subst (SaysCell classes T c m.ident m.place.site.layer) e.0 q
+    go (Some b) q = q
 says_cell classes T c d before (ends i xs sc ∷ l) e p = says_cell classes T c d before l e p
 
 -- What is presumed of a use
@@ -148,8 +147,8 @@ module _ (P : Presumption) where
     pub SetInside : m.is_set ≡ true → is_inner m b ≡ true → P.SetInside b.ident
 
   abbrev pub Presumed : Mention → Option Binder → Type 0
-  Presumed m none = Unit {0}
-  Presumed m (some b) = PresumedOf m b
+  Presumed m None = Unit {0}
+  Presumed m (Some b) = PresumedOf m b
 
   -- along the walk
   abbrev pub Presumes : List Event → Type 0

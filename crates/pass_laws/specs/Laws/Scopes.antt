@@ -1,9 +1,8 @@
 -- What the beginning and the end of a lambda and of a let change.
 use Prim.Native.Nat.{ℕ, zero, suc, ◌+◌, ◌-◌, ◌≤◌}
 use mathlib.Core.List.{List, [], ◌∷◌, ◌++◌}
-use Rattle.std.specs.Prelude.{Bool, cond, ◌≡◌, eqb}
+use Rattle.std.specs.Prelude.{Bool, cond, ◌≡◌, eqb, Option, None, Some}
 use Rattle.std.proofs.Math.Bool.{true, false}
-use Rattle.std.proofs.Math.Option.{Option, none, some}
 use Rattle.std.proofs.Math.Path.{refl}
 use Rattle.std.proofs.Common.{ap, ◌∙◌, arith, eqb-true}
 use Rattle.std.proofs.Math.ListN.{length, replicate, length-set}
@@ -52,8 +51,8 @@ module _ {free : Type 0} {own sites : ℕ → Type 0} where
   -- Lambda
 
   pub last_changes : (o : Option Ident) (s : State) → CallSteps free own sites s (mark_last o s)
-  last_changes none s = same
-  last_changes (some x) s = mark mark_last_usage x.at (λ v. refl)
+  last_changes None s = same
+  last_changes (Some x) s = mark mark_last_usage x.at (λ v. refl)
 
   pub lasts_changes : (l : List (Live Ident)) (s : State) → CallSteps free own sites s (mark_lasts l s)
   unfolding mark_lasts
@@ -68,8 +67,8 @@ module _ {free : Type 0} {own sites : ℕ → Type 0} where
   pub function_changes : (f : Option FunctionInformation) (n : Node) (b : Tree) (escapes : Bool) (now arguments : List ListEntry) (m : ScopeMap Capture) (s : State)
       → own n.at → CallSteps free own sites s (function_ends f n b escapes now arguments m s)
   unfolding make_function amend_function
-  function_changes none n b escapes now arguments m s o = captured_changes n.at _ s ⨾ arguments_changes arguments _ ⨾ row n.at _ o (λ e. refl)
-  function_changes (some v) n b escapes now arguments m s o = rewrite_changes v.captured_vars _ s ⨾ row n.at _ o (λ e. refl)
+  function_changes None n b escapes now arguments m s o = captured_changes n.at _ s ⨾ arguments_changes arguments _ ⨾ row n.at _ o (λ e. refl)
+  function_changes (Some v) n b escapes now arguments m s o = rewrite_changes v.captured_vars _ s ⨾ row n.at _ o (λ e. refl)
 
   -- at its end, past the scope and the captures
   pub lambda_ends : (n : Node) (xs : List Ident) (b : Tree) (escapes : Bool) (s : State) → own n.at → CallSteps free own sites (close_captures (close_scope s)) (close_lambda n xs b escapes s)
@@ -89,8 +88,8 @@ module _ {free : Type 0} {own sites : ℕ → Type 0} where
   -- Names enter
 
   heap_changes : (o : Option ℕ) (x : Ident) (s : State) → CallSteps free own sites s (note_heap o x s)
-  heap_changes none x s = second_changes 11 x.at s (omega arith, omega arith)
-  heap_changes (some n) x s = same
+  heap_changes None x s = second_changes 11 x.at s (omega arith, omega arith)
+  heap_changes (Some n) x s = same
 
 module _ {own sites : ℕ → Type 0} where
   module _ (kind : IdentifierStatus) (base : ℕ) (heaps : Option ℕ) (before : List ListEntry) where
@@ -120,13 +119,13 @@ module _ {own sites : ℕ → Type 0} where
 
   pub open_changes : (f : Option FunctionInformation) (s : State) → CallChanges own sites s (open_captures f s)
   unfolding open_captures
-  open_changes none s = captures tt _
-  open_changes (some v) s = captures tt _ ⨾ list_changes v.captured_vars _ ⨾ context _
+  open_changes None s = captures tt _
+  open_changes (Some v) s = captures tt _ ⨾ list_changes v.captured_vars _ ⨾ context _
 
   pub parameters_changes : (f : Option FunctionInformation) (xs : List Ident) (s : State) → All (λ x. own x.at) xs → CallChanges own sites s (enter_parameters f xs s)
   unfolding enter_parameters
-  parameters_changes none xs s o = names_changes _ _ _ _ xs 0 0 s o
-  parameters_changes (some v) xs s o = names_changes _ _ _ _ xs 0 0 s o
+  parameters_changes None xs s o = names_changes _ _ _ _ xs 0 0 s o
+  parameters_changes (Some v) xs s o = names_changes _ _ _ _ xs 0 0 s o
 
   pub leave_changes : (n : Node) (xs : List Ident) (b : Tree) (escapes : Bool) (s : State) → own n.at → CallChanges own sites (close_scope s) (close_lambda n xs b escapes s)
   unfolding close_captures

@@ -1,9 +1,8 @@
 -- A fresh run over a whole script with no inner define.
 use Prim.Native.Nat.{ℕ, ◌+◌, ◌≤◌, ◌<◌}
-use Rattle.std.specs.Prelude.{List, [], ◌++◌, Bool, cond, ◌≡◌}
+use Rattle.std.specs.Prelude.{List, [], ◌++◌, Bool, cond, ◌≡◌, None}
 use Rattle.std.proofs.Common.{append_assoc, append-nil, true≢false, ap, ap₂, sym, ◌∙◌}
 use Rattle.std.proofs.Math.Bool.{true, false}
-use Rattle.std.proofs.Math.Option.{none}
 use Rattle.std.proofs.Math.Path.{refl, subst}
 use native.Mathlib.Omega.{arith}
 use Rattle.std.proofs.lemmas.List.{length-replicate, get_or-replicate}
@@ -64,7 +63,7 @@ SaysTops classes T before bottom (cons t ts) =
 module _ (classes : List ℕ) (T : List Row) (P : Presumption) where
   module _ {own : ℕ → Type 0} {bottom : List (Live Ident)} {before : List Use} {s : State} (f : Finds own bottom before top s) where
     top-define : (k : ℕ) (n : Node) (x : Ident) (b : Tree) (q : Bool) → is_lambda b ≡ q → Num k (define n x b) → defines b ≡ []
-        → ((y : ℕ) → k ≤ y → y < k + size (define n x b) → SparedBy (define n x b) y → own y) → (visit_top_define classes q x b s).noted.nine ≡ none
+        → ((y : ℕ) → k ≤ y → y < k + size (define n x b) → SparedBy (define n x b) y → own y) → (visit_top_define classes q x b s).noted.nine ≡ None
         → Done classes T P (cond q bottom (defined_in x bottom)) (Minus own k (k + size (define n x b))) before top (walk b top) k (k + size (define n x b)) (visit_top_define classes q x b s)
         (Rec T P [] 1 0 false (define n x b)) (λ n. Counts own n s)
     unfolding Num size
@@ -84,7 +83,7 @@ module _ (classes : List ℕ) (T : List Row) (P : Presumption) where
         (λ y z. ((z.0, λ q. z.1 (omega arith) (omega arith)), λ u v. z.1 (omega arith) (omega arith)))
         (given {C = λ n. Counts own n s} (λ g c. value_counts classes x b parts here c) B) (λ g. r_define g)
 
-    pub visit_top_lem : (k : ℕ) (t : Tree) → Num k t → below t ≡ [] → ((y : ℕ) → k ≤ y → y < k + size t → SparedBy t y → own y) → (visit_top classes t s).noted.nine ≡ none
+    pub visit_top_lem : (k : ℕ) (t : Tree) → Num k t → below t ≡ [] → ((y : ℕ) → k ≤ y → y < k + size t → SparedBy t y → own y) → (visit_top classes t s).noted.nine ≡ None
         → Done classes T P (bottom_for t bottom) (Minus own k (k + size t)) before top (walk t top) k (k + size t) (visit_top classes t s) (Rec T P [] 1 0 false t) (λ n. Counts own n s)
     unfolding visit_top visit below defines walk
     visit_top_lem k (ident x) n d o e = visits classes T P bottom k (ident x) n d top_flags false refl refl (λ y l u. o y l u tt) f e
@@ -103,7 +102,7 @@ module _ (classes : List ℕ) (T : List Row) (P : Presumption) where
     pub means : Presumes P (walk_all ts top) → Top T P ts
 
   pub visit_tops_lem : (i j : ℕ) (ts : Trees) → Spread i j ts → below_all ts ≡ [] → {before : List Use} {bottom : List (Live Ident)} {s : State} → Finds (Left i j ts) bottom before top s
-      → (visit_tops classes ts s).noted.nine ≡ none → Agree i j T (visit_tops classes ts s) → Script before bottom ts
+      → (visit_tops classes ts s).noted.nine ≡ None → Agree i j T (visit_tops classes ts s) → Script before bottom ts
   unfolding visit_tops below_all walk
   visit_tops_lem i j nil p d f e ag = record { says = tt; means = λ u. top-nil }
   visit_tops_lem i j (cons t ts) p d {s = s} f e ag =
@@ -224,7 +223,7 @@ start_finds n h =
     }
 
 module _ (classes : List ℕ) (P : Presumption) (ts : Trees) where
-  pub fresh_script : Nums 0 ts → sizes ts ≤ rows_most → inner_defines ts ≡ [] → (fresh classes ts).noted.nine ≡ none
+  pub fresh_script : Nums 0 ts → sizes ts ≤ rows_most → inner_defines ts ≡ [] → (fresh classes ts).noted.nine ≡ None
       → Script classes (fresh classes ts).facts.rows P [] (entered_all (top_level ts) []) (top_level ts)
   unfolding fresh run inner_defines
   fresh_script n h d e =

@@ -1,8 +1,7 @@
 -- A name is set on a fresh run: its entry is mutated, then it is read.
-use Rattle.std.specs.Prelude.{ℕ, Bool, true, false, ◌&&◌, ◌||◌, ◌≡◌, set, eqb}
+use Rattle.std.specs.Prelude.{ℕ, Bool, true, false, ◌&&◌, ◌||◌, ◌≡◌, set, eqb, Option, None, Some}
 use mathlib.Core.List.{List, [], ◌∷◌, ◌++◌, append-nil}
 use Rattle.std.proofs.Math.Bool.{or-false, or-true}
-use Rattle.std.proofs.Math.Option.{Option, none, some}
 use Rattle.std.proofs.Math.Path.{refl, subst}
 use Rattle.std.proofs.Common.{ap, sym, ◌∙◌, arith, eq-eqb}
 use Rattle.tree.specs.Tree.{Ident}
@@ -25,13 +24,13 @@ set_at x p = record { ident = x; is_set = true; place = p }
 
 -- the part of the use that mutates
 abbrev pub mutation : Ident → Option Binder → List Use
-mutation x none = []
-mutation x (some b) = record { at = x.at; binder = b.ident.at; is_inner = false; is_set = true } ∷ []
+mutation x None = []
+mutation x (Some b) = record { at = x.at; binder = b.ident.at; is_inner = false; is_set = true } ∷ []
 
-abbrev None : ℕ → Type 0
-None x = ⊥
+abbrev Nowhere : ℕ → Type 0
+Nowhere x = ⊥
 
-no_part : {own : ℕ → Type 0} → Parts own None own
+no_part : {own : ℕ → Type 0} → Parts own Nowhere own
 no_part = record { written = λ x o. absurd o; kept = λ x o. o; apart = λ x o n. n }
 
 module _ {own : ℕ → Type 0} {bottom : List (Live Ident)} {before : List Use} {p : Place} {s : State} (x : Ident) (f : Finds own bottom before p s) where
@@ -51,11 +50,11 @@ module _ {own : ℕ → Type 0} {bottom : List (Live Ident)} {before : List Use}
   unfolding insert amend put_entry
   sets of_none got_none = rw append-nil f
   sets of_none (got_some {e} g) =
-      rw append-nil (onward no_part f before (by (set_changes (some e.value) s)) refl f.captures f.unused (other_stands e _ g))
+      rw append-nil (onward no_part f before (by (set_changes (Some e.value) s)) refl f.captures f.unused (other_stands e _ g))
   sets (of_some {b} (a, k)) g =
       used_finds b.ident.at _ no_part f k.apart (one_use before _)
       (record { captured = kept_flag refl; mutated = raised_flag (entry_at s b.ident.at).mutated refl; kept = refl })
-      (set_changes (some b.ident) s) refl refl refl
+      (set_changes (Some b.ident) s) refl refl refl
 
   pub mutate_finds : Finds own bottom (before ++ mutation x (find p.scope x.name)) p (mutate x.name s)
   unfolding mutate
@@ -81,27 +80,27 @@ same_uses {p = p} c m f =
 module _ (x : Ident) (p : Place) (before : List Use) where
   two_uses : {own : ℕ → Type 0} {bottom : List (Live Ident)} {s : State} (o : Option Binder) → Finds own bottom ((before ++ mutation x o) ++ use_of (read_at x p) o) p s
       → Finds own bottom (before ++ use_of (set_at x p) o) p s
-  two_uses none f = rw (append-nil (before ++ [])) at f
-  two_uses (some b) f =
+  two_uses None f = rw (append-nil (before ++ [])) at f
+  two_uses (Some b) f =
       let mutates = one_use before (record { at = x.at; binder = b.ident.at; is_inner = false; is_set = true }) in
-      let reads = one_use (before ++ mutation x (some b)) (record { at = x.at; binder = b.ident.at; is_inner = is_inner (read_at x p) b; is_set = false }) in
+      let reads = one_use (before ++ mutation x (Some b)) (record { at = x.at; binder = b.ident.at; is_inner = is_inner (read_at x p) b; is_set = false }) in
       let sets_it = one_use before (record { at = x.at; binder = b.ident.at; is_inner = is_inner (read_at x p) b; is_set = true }) in
       same_uses
       (λ c. reads.captured c ∙ ap (λ (q : Bool). q || (is_inner (read_at x p) b && eqb b.ident.at c)) (mutates.captured c ∙ or-false (used_inside c before)) ∙ sym (sets_it.captured c))
       (λ c. reads.mutated c ∙ or-false _ ∙ mutates.mutated c ∙ sym (sets_it.mutated c)) f
 
-  set_kind : (b : Binder) → kind_of (before ++ mutation x (some b)) (read_at x p) b ≡ kind_of before (set_at x p) b
+  set_kind : (b : Binder) → kind_of (before ++ mutation x (Some b)) (read_at x p) b ≡ kind_of before (set_at x p) b
   set_kind b =
       let u = one_use before (record { at = x.at; binder = b.ident.at; is_inner = false; is_set = true }) in
-      let c : used_inside b.ident.at (before ++ mutation x (some b)) ≡ used_inside b.ident.at before = u.captured b.ident.at ∙ or-false _ in
-      let m : is_set_in b.ident.at (before ++ mutation x (some b)) ≡ true =
+      let c : used_inside b.ident.at (before ++ mutation x (Some b)) ≡ used_inside b.ident.at before = u.captured b.ident.at ∙ or-false _ in
+      let m : is_set_in b.ident.at (before ++ mutation x (Some b)) ≡ true =
       u.mutated b.ident.at ∙ ap (λ (q : Bool). is_set_in b.ident.at before || q) (eq-eqb b.ident.at b.ident.at refl) ∙ or-true (is_set_in b.ident.at before) in
       rw (c, m)
 
   set_says : (classes : List ℕ) (T : List Row) (cell : Ident → Option Ident) (o : Option Binder) → SaysOf classes T cell (before ++ mutation x o) (read_at x p) o
       → SaysOf classes T cell before (set_at x p) o
-  set_says classes T cell none e = e
-  set_says classes T cell (some b) e = subst (λ (k : IdentifierStatus). Tells T x.at k b.ident.id p.site.layer b.home.slot) (set_kind b) e
+  set_says classes T cell None e = e
+  set_says classes T cell (Some b) e = subst (λ (k : IdentifierStatus). Tells T x.at k b.ident.id p.site.layer b.home.slot) (set_kind b) e
 
 -- the target of a set!, after its expression
 module _ (classes : List ℕ) {own left : ℕ → Type 0} {bottom : List (Live Ident)} {before : List Use} {p : Place} {s : State} (x : Ident)

@@ -1,6 +1,5 @@
 -- A fresh run over a script with no inner define: each row that is an identifier's has counted the uses that R7RS's walk gives to its record.
-use Rattle.std.specs.Prelude.{ℕ, zero, suc, ◌+◌, ◌≤◌, ◌<◌, List, [], ◌≡◌, refl, get_or, replicate}
-use Rattle.std.proofs.Math.Option.{none}
+use Rattle.std.specs.Prelude.{ℕ, zero, suc, ◌+◌, ◌≤◌, ◌<◌, List, [], ◌≡◌, refl, get_or, replicate, None}
 use Rattle.std.proofs.Common.{ap, subst, arith}
 use Rattle.tree.specs.Tree.{Ident, Trees, nil, cons, size, sizes, Nums}
 use Rattle.tree.specs.Define.{below, below_all, top_level, inner_defines}
@@ -21,7 +20,7 @@ use Rattle.pass_laws.specs.Laws.Live.{none_left, none_right}
 use Rattle.pass_laws.specs.Laws.Says.{cell_of}
 use Rattle.pass_laws.specs.Laws.Finds.{Finds, layered}
 use Rattle.pass_laws.specs.Laws.Onward.{fewer}
-use Rattle.pass_laws.specs.Laws.Bodies.{None}
+use Rattle.pass_laws.specs.Laws.Bodies.{Nowhere}
 use Rattle.pass_laws.specs.Laws.Globals.{Spared, spared_past, enter_tops, enter-all}
 use Rattle.pass_laws.specs.Laws.Counts.{credits, credits-append, credits-cell, Told, Counts, counts_as, counts_fewer}
 use Rattle.pass_laws.specs.Laws.Counting.{define_counts}
@@ -41,8 +40,8 @@ enter_counts classes {n = n} i j ts p o l a c =
 -- The visits
 
 count_tops : (classes : List ℕ) (ts : Trees) (i j : ℕ) (us : Trees) → Spread i j us → below_all us ≡ [] → {before : List Use} {bottom : List (Live Ident)} {n : ℕ → ℕ} {s : State}
-    → CellsTops ts bottom us → Finds (Left i j us) bottom before top s → Counts (Left i j us) n s → (visit_tops classes us s).noted.nine ≡ none
-    → Counts None (λ y. n y + credits (cell ts) (walk_all us top) y) (visit_tops classes us s)
+    → CellsTops ts bottom us → Finds (Left i j us) bottom before top s → Counts (Left i j us) n s → (visit_tops classes us s).noted.nine ≡ None
+    → Counts Nowhere (λ y. n y + credits (cell ts) (walk_all us top) y) (visit_tops classes us s)
 unfolding visit_tops below_all walk
 count_tops classes ts i j nil p d q f c e = counts_as (λ y. omega arith) (counts_fewer (λ y z. absurd z) c)
 count_tops classes ts i j (cons t us) p d {bottom = bottom} {n} {s} q f c e =
@@ -84,7 +83,7 @@ start_counts n =
       unused = λ y l. refl;
     }
 
-pub fresh-told : (classes : List ℕ) (ts : Trees) → Nums 0 ts → sizes ts ≤ rows_most → inner_defines ts ≡ [] → (fresh classes ts).noted.nine ≡ none
+pub fresh-told : (classes : List ℕ) (ts : Trees) → Nums 0 ts → sizes ts ≤ rows_most → inner_defines ts ≡ [] → (fresh classes ts).noted.nine ≡ None
     → (y : ℕ) → Told (credits (cell ts) (events ts) y) (row_at (fresh classes ts) y)
 unfolding fresh run inner_defines events
 fresh-told classes ts n h d e y =

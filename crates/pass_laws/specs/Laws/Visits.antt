@@ -1,6 +1,5 @@
 -- Which facts a visit writes: those of its own identifiers, binders, lambdas, lets and calls.
-use Rattle.std.specs.Prelude.{ℕ, ◌≤◌, List, Bool, true, false, ◌&&◌, ◌≡◌, length, eqb}
-use Rattle.std.proofs.Math.Option.{some}
+use Rattle.std.specs.Prelude.{ℕ, ◌≤◌, List, Bool, true, false, ◌&&◌, ◌≡◌, length, eqb, Some}
 use Rattle.std.proofs.Common.{ap, sym, arith}
 use Rattle.std.proofs.Math.Dec.{ltb}
 use Rattle.tree.specs.Tree.{Ident, Node, Tree, Trees, ident, const, if, letin, define, lambda, sequence, call, set!, nil, cons, many, begins, ands, whens}
@@ -53,7 +52,7 @@ module _ {free : Type 0} {own sites : ℕ → Type 0} where
   pub marks_changes : (ts : Trees) (s : State) → CallSteps free own sites s (mark_arguments ts s)
   unfolding mark_arguments
   marks_changes nil s = same
-  marks_changes (cons t ts) s = by_argument (CallSteps free own sites) (λ s. same) (λ x s. last_changes (some x) s) t s ⨾ marks_changes ts _
+  marks_changes (cons t ts) s = by_argument (CallSteps free own sites) (λ s. same) (λ x s. last_changes (Some x) s) t s ⨾ marks_changes ts _
 
   pub tail_changes : (b : Bool) (ts : Trees) (s : State) → CallSteps free own sites s (mark_if_tail b ts s)
   tail_changes true ts s = marks_changes ts s

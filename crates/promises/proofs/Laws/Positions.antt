@@ -1,7 +1,6 @@
 -- Records that differ only in their positions are answered alike: from what the operations ensure, and that positions are carried.
-use Rattle.std.specs.Prelude.{ℕ, ◌%◌, List, [], ◌∷◌, ◌++◌, map, Bool, true, false, ◌≡◌, refl, length, replicate, eqb}
+use Rattle.std.specs.Prelude.{ℕ, ◌%◌, List, [], ◌∷◌, ◌++◌, map, Bool, true, false, ◌≡◌, refl, length, replicate, eqb, Option, None, Some}
 use Rattle.std.proofs.Common.{true≢false, ap, sym, ◌∙◌, eqb-true}
-use Rattle.std.proofs.Math.Option.{Option, none, some}
 use Rattle.table.specs.Layout.{layout}
 use Rattle.table.specs.Laws.Layout.{zeros-layout}
 use Rattle.tree.specs.Record.{width}
@@ -18,7 +17,7 @@ use Rattle.execution.proofs.Laws.Carried.{positions_carried}
 use Rattle.promises.specs.Promises.{bare_records, Alike, FreshPositions, SettledPositions}
 use Rattle.promises.proofs.Laws.Records.{same_refusal, same_trees}
 
-refused_alike : (r : Refusal) → Alike (record { refused = some r; tables = zeros }) (record { refused = some r; tables = zeros })
+refused_alike : (r : Refusal) → Alike (record { refused = Some r; tables = zeros }) (record { refused = Some r; tables = zeros })
 unfolding zeros put_row
 refused_alike r =
     let z = sym (zeros-layout row_width put_row row_long Blank refl rows_most) in
@@ -39,7 +38,7 @@ laid_alike : {A : Type 0} (put : A → List ℕ) (l m : List A) → map put l �
 laid_alike put l m e = listed put l ∙ ap (layout (λ (x : List ℕ). x)) e ∙ sym (listed put m)
 
 -- what a run leaves
-left_alike : (s u : State) → Same s u → Alike (record { refused = none; tables = tables_of s.facts }) (record { refused = none; tables = tables_of u.facts })
+left_alike : (s u : State) → Same s u → Alike (record { refused = None; tables = tables_of s.facts }) (record { refused = None; tables = tables_of u.facts })
 unfolding tables_of
 left_alike s u x = record {
   refused = refl;
@@ -52,8 +51,8 @@ outcome_alike : (q r : Option Refusal) (s u : State) → q ≡ r → Same s u �
 outcome_alike q r s u e x = rw e (by_refusal r)
   where
     by_refusal : (p : Option Refusal) → Alike (outcome p s.facts) (outcome p u.facts)
-    by_refusal (some p) = refused_alike p
-    by_refusal none = left_alike s u x
+    by_refusal (Some p) = refused_alike p
+    by_refusal None = left_alike s u x
 
 abbrev refused : State → State → Option Refusal
 refused s u = or_second (refused_first s.noted) u.noted.second
@@ -94,8 +93,8 @@ answers_alike {f} {classes} {rs} {qs} {t} {u} {o} {p} runs g k h x y = by_checks
     same = same_refusal N rs qs (whole rs t g) (whole qs u k) h
 
     by_checks : (c : Option Refusal) → refusal N rs ≡ c → Alike o p
-    by_checks (some r) e = rw (x.unsound g r e, y.unsound k r (sym same ∙ e)) (refused_alike r)
-    by_checks none e =
+    by_checks (Some r) e = rw (x.unsound g r e, y.unsound k r (sym same ∙ e)) (refused_alike r)
+    by_checks None e =
         let (ts, a) = accepted N rs e in
         let (us, b) = accepted N qs (sym same ∙ e) in
         rw (x.sound g ts a, y.sound k us b) (runs ts us (same_trees a b h))

@@ -1,8 +1,7 @@
 -- Records that differ only in their positions are refused alike by the checks 1 to 8 and 16, or are those of trees that differ only there.
-use Rattle.std.specs.Prelude.{ℕ, ◌+◌, ◌%◌, Bool, true, false, ◌&&◌, ◌||◌, ◌≡◌, length}
+use Rattle.std.specs.Prelude.{ℕ, ◌+◌, ◌%◌, Bool, true, false, ◌&&◌, ◌||◌, ◌≡◌, length, Option, None, Some}
 use mathlib.Core.List.{List, [], ◌∷◌, map, map-append}
 use Rattle.std.proofs.Math.Bool.{not}
-use Rattle.std.proofs.Math.Option.{Option, none, some}
 use Rattle.std.proofs.Math.Path.{refl, ap}
 use Rattle.std.proofs.Common.{sym, ◌∙◌}
 use Rattle.std.proofs.lemmas.List.{length-map}
@@ -34,8 +33,8 @@ unfolding fits
 bare-fits N r = go (form_of r.form)
   where
     go : (o : Option Form) → fits_as N (bare_record r) o ≡ fits_as N r o
-    go none = refl
-    go (some f) = refl
+    go None = refl
+    go (Some f) = refl
 
 abbrev bare_placed : Placed → Placed
 bare_placed p = record { of = bare_record p.of; nesting = p.nesting; is_name = p.is_name }

@@ -1,6 +1,5 @@
 -- Which of the refusals 9 to 12 an operation answers: from what it ensures, and the claims of the definition.
-use Rattle.std.specs.Prelude.{ℕ, List, [], ◌≡◌, refl, length}
-use Rattle.std.proofs.Math.Option.{Option, none, some}
+use Rattle.std.specs.Prelude.{ℕ, List, [], ◌≡◌, refl, length, Option, None, Some}
 use Rattle.std.proofs.Common.{ap, ◌∙◌}
 use Rattle.tree.specs.Tree.{Trees}
 use Rattle.tree.specs.Define.{inner_defines}
@@ -16,19 +15,19 @@ use Rattle.execution.proofs.Laws.Exact.Second.{second_exact}
 use Rattle.promises.specs.Promises.{FreshRefuses, SettledRefuses}
 
 -- 9 goes before 10: what holds of 10 and of the rest is asked where nothing before is refused
-first_is : (n : Noted) (i j : Option ℕ) → n.nine ≡ i → (i ≡ none → n.ten ≡ j) → refused_first n ≡ or_else 9 i (or_else 10 j none)
-first_is n (some i) j e f = rw e
-first_is n none (some j) e f = rw (e, f refl)
-first_is n none none e f = rw (e, f refl)
+first_is : (n : Noted) (i j : Option ℕ) → n.nine ≡ i → (i ≡ None → n.ten ≡ j) → refused_first n ≡ or_else 9 i (or_else 10 j None)
+first_is n (Some i) j e f = rw e
+first_is n None (Some j) e f = rw (e, f refl)
+first_is n None None e f = rw (e, f refl)
 
-then_is : (i j : Option ℕ) (q o r : Option Refusal) → q ≡ or_else 9 i (or_else 10 j none) → (q ≡ none → o ≡ r) → or_second q o ≡ or_else 9 i (or_else 10 j r)
-then_is (some i) j q o r e f = rw e
-then_is none (some j) q o r e f = rw e
-then_is none none q o r e f = rw e (f e)
+then_is : (i j : Option ℕ) (q o r : Option Refusal) → q ≡ or_else 9 i (or_else 10 j None) → (q ≡ None → o ≡ r) → or_second q o ≡ or_else 9 i (or_else 10 j r)
+then_is (Some i) j q o r e f = rw e
+then_is None (Some j) q o r e f = rw e
+then_is None None q o r e f = rw e (f e)
 
 refused_is : (q : Option Refusal) (f : Facts) → (outcome q f).refused ≡ q
-refused_is none f = refl
-refused_is (some r) f = refl
+refused_is None f = refl
+refused_is (Some r) f = refl
 
 fresh_is : (classes rs : List ℕ) (ts : Trees) → Accepted (length classes) rs ts → inner_defines ts ≡ []
     → refused_first (fresh classes ts).noted ≡ fresh_refusal ts

@@ -1,6 +1,5 @@
 -- Runs of and, when and unless on the plain machine, moment by moment. Document 02, order 7; R7RS 4.2.1.
-use Rattle.std.specs.Prelude.{ℕ, zero, suc, List, [], ◌∷◌, ◌++◌, true, false, ◌≡◌, refl}
-use Rattle.std.proofs.Math.Option.{Option, none, some}
+use Rattle.std.specs.Prelude.{ℕ, zero, suc, List, [], ◌∷◌, ◌++◌, true, false, ◌≡◌, refl, Option, None, Some}
 use Rattle.tree.specs.Tree.{Tree, Trees, ident, const, if, lambda, sequence, call, nil, cons, ands, whens}
 use Rattle.r7rs.specs.Machine.{at, Moment, start, entered, read, pushed, next, ended, stopped, outside}
 use Rattle.r7rs.specs.Plain.{PVal, POut}
@@ -22,8 +21,8 @@ made (read i) = reads i
 made (pushed i w n es) = push i
 
 abbrev in_hand : Option PVal → Option Last
-in_hand none = none
-in_hand (some v) = some (value_p v)
+in_hand None = None
+in_hand (Some v) = Some (value_p v)
 
 -- the moment that a run is at, and the value then in hand
 abbrev shown : POut → List (Made × Option Last)
@@ -63,16 +62,16 @@ unless i es = sequence (whens false (bare i)) es
 
 -- a moment with nothing in hand; with the constant of this id; with #f; with the procedure of the lambda at record j
 abbrev bar : Made → Made × Option Last
-bar m = (m, none)
+bar m = (m, None)
 
 abbrev has : Made → ℕ → Made × Option Last
-has m c = (m, some (constant c))
+has m c = (m, Some (constant c))
 
 abbrev not : Made → ℕ → Made × Option Last
-not m c = (m, some (falsity c))
+not m c = (m, Some (falsity c))
 
 abbrev proc : Made → ℕ → Made × Option Last
-proc m j = (m, some (procedure j))
+proc m j = (m, Some (procedure j))
 
 record Case : Type 0 where
   pub tree : Tree

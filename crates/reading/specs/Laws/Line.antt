@@ -1,7 +1,6 @@
 -- A line has numbers exactly if it is the printed line of numbers below 2^32.
-use Rattle.std.specs.Prelude.{ℕ, ◌+◌, ◌^◌, ◌≤◌, ◌<◌, List, [], ◌∷◌, ◌++◌, ◌≡◌, refl, length}
+use Rattle.std.specs.Prelude.{ℕ, ◌+◌, ◌^◌, ◌≤◌, ◌<◌, List, [], ◌∷◌, ◌++◌, ◌≡◌, refl, length, Option, None, Some}
 use Rattle.std.proofs.Common.{append_assoc, ap, sym, ◌∙◌, arith, length-append}
-use Rattle.std.proofs.Math.Option.{Option, none, some}
 use Rattle.printing.specs.Numeral.{numeral}
 use Rattle.printing.specs.Laws.Numeral.{numeral-length}
 use Rattle.printing.specs.Text.{LF, line, numbers}
@@ -30,41 +29,41 @@ pub record Prints (ms : List (List ℕ)) (ns l : List ℕ) : Type 0 where
 
 -- One field
 
-pub field_sound : (m l : List ℕ) (n : Numbered) → field_at m l ≡ some n → (l ≡ m ++ (numeral n.value ++ n.rest)) × (n.value < 2 ^ 32)
+pub field_sound : (m l : List ℕ) (n : Numbered) → field_at m l ≡ Some n → (l ≡ m ++ (numeral n.value ++ n.rest)) × (n.value < 2 ^ 32)
 unfolding field_at
 field_sound m l n e = go (after m l) refl
   where
     go : (o : Option (List ℕ)) → after m l ≡ o → (l ≡ m ++ (numeral n.value ++ n.rest)) × (n.value < 2 ^ 32)
-    go none q = never (sym (ap number_if q) ∙ e)
-    go (some r) q =
+    go None q = never (sym (ap number_if q) ∙ e)
+    go (Some r) q =
         let s = number_sound r n (sym (ap number_if q) ∙ e) in
         (after_sound m l r q ∙ ap (λ (k : List ℕ). m ++ k) s.text, s.below)
 
-pub field_complete : (m : List ℕ) (v : ℕ) (t : List ℕ) → v < 2 ^ 32 → Stops t → field_at m (m ++ (numeral v ++ t)) ≡ some (numbered v t)
+pub field_complete : (m : List ℕ) (v : ℕ) (t : List ℕ) → v < 2 ^ 32 → Stops t → field_at m (m ++ (numeral v ++ t)) ≡ Some (numbered v t)
 unfolding field_at
 field_complete m v t h s = ap number_if (after_complete m (numeral v ++ t)) ∙ number_complete v t h s
 
 -- The fields of a line, from one on
 
-pub numbers-none : (m : List ℕ) (ms : List (List ℕ)) (l : List ℕ) → field_at m l ≡ none → numbers_of (m ∷ ms) l ≡ none
+pub numbers-none : (m : List ℕ) (ms : List (List ℕ)) (l : List ℕ) → field_at m l ≡ None → numbers_of (m ∷ ms) l ≡ None
 unfolding numbers_of
 numbers-none m ms l e = rw (numbers_of, e)
 
-pub numbers-some : (m : List ℕ) (ms : List (List ℕ)) (l : List ℕ) (n : Numbered) → field_at m l ≡ some n
+pub numbers-some : (m : List ℕ) (ms : List (List ℕ)) (l : List ℕ) (n : Numbered) → field_at m l ≡ Some n
     → numbers_of (m ∷ ms) l ≡ onto n.value (numbers_of ms n.rest)
 unfolding numbers_of
 numbers-some m ms l n e = rw (numbers_of, e)
 
-pub numbers_sound : (ms : List (List ℕ)) (l ns : List ℕ) → numbers_of ms l ≡ some ns → Prints ms ns l
+pub numbers_sound : (ms : List (List ℕ)) (l ns : List ℕ) → numbers_of ms l ≡ Some ns → Prints ms ns l
 unfolding numbers_of body
 numbers_sound [] [] ns e = let q : [] ≡ ns = cc in rw (← q) (record { text = refl; below = none_left })
 numbers_sound [] (x ∷ l) ns e = never e
 numbers_sound (m ∷ ms) l ns e = go (field_at m l) refl (λ (r k : List ℕ). numbers_sound ms r k)
   where
-    more : (n : Numbered) (o : Option (List ℕ)) → field_at m l ≡ some n → ((k : List ℕ) → o ≡ some k → Prints ms k n.rest)
-        → onto n.value o ≡ some ns → Prints (m ∷ ms) ns l
-    more n none f i q = never q
-    more n (some k) f i q =
+    more : (n : Numbered) (o : Option (List ℕ)) → field_at m l ≡ Some n → ((k : List ℕ) → o ≡ Some k → Prints ms k n.rest)
+        → onto n.value o ≡ Some ns → Prints (m ∷ ms) ns l
+    more n None f i q = never q
+    more n (Some k) f i q =
         let p = field_sound m l n f in
         let r = i k refl in
         let s : n.value ∷ k ≡ ns = cc in
@@ -74,9 +73,9 @@ numbers_sound (m ∷ ms) l ns e = go (field_at m l) refl (λ (r k : List ℕ). n
           below = one_more_lem p.1 r.below;
         })
 
-    go : (o : Option Numbered) → field_at m l ≡ o → ((r k : List ℕ) → numbers_of ms r ≡ some k → Prints ms k r) → Prints (m ∷ ms) ns l
-    go none f i = never (sym (numbers-none m ms l f) ∙ e)
-    go (some n) f i = more n (numbers_of ms n.rest) f (i n.rest) (sym (numbers-some m ms l n f) ∙ e)
+    go : (o : Option Numbered) → field_at m l ≡ o → ((r k : List ℕ) → numbers_of ms r ≡ Some k → Prints ms k r) → Prints (m ∷ ms) ns l
+    go None f i = never (sym (numbers-none m ms l f) ∙ e)
+    go (Some n) f i = more n (numbers_of ms n.rest) f (i n.rest) (sym (numbers-some m ms l n f) ∙ e)
 
 -- each mark parts its number from the one before: it does not start with a digit
 pub data Parted : List (List ℕ) → Type 0 where
@@ -89,7 +88,7 @@ stops_body [] ns p = λ u. refl
 stops_body (m ∷ ms) [] p = λ u. refl
 stops_body (m ∷ ms) (n ∷ ns) (parted s p) = s (numeral n ++ body ms ns)
 
-pub numbers_complete : (ms : List (List ℕ)) (ns : List ℕ) → Parted ms → Below ms ns → numbers_of ms (body ms ns) ≡ some ns
+pub numbers_complete : (ms : List (List ℕ)) (ns : List ℕ) → Parted ms → Below ms ns → numbers_of ms (body ms ns) ≡ Some ns
 unfolding numbers_of body
 numbers_complete [] [] p none_left = refl
 numbers_complete [] (n ∷ ns) p b = elim b [ ]
@@ -111,11 +110,11 @@ body-length (m ∷ ms) [] b = elim b [ ]
 body-length (m ∷ ms) (n ∷ ns) (one_more_lem h b) =
     omega (arith, length-append m (numeral n ++ body ms ns), length-append (numeral n) (body ms ns), numeral-length 9 n (omega arith), body-length ms ns b)
 
-pub too_long : (ms : List (List ℕ)) (l : List ℕ) → longest ms < length l → numbers_of ms l ≡ none
+pub too_long : (ms : List (List ℕ)) (l : List ℕ) → longest ms < length l → numbers_of ms l ≡ None
 too_long ms l h = go (numbers_of ms l) refl
   where
-    go : (o : Option (List ℕ)) → numbers_of ms l ≡ o → numbers_of ms l ≡ none
-    go none e = e
-    go (some ns) e =
+    go : (o : Option (List ℕ)) → numbers_of ms l ≡ o → numbers_of ms l ≡ None
+    go None e = e
+    go (Some ns) e =
         let p = numbers_sound ms l ns e in
         absurd (omega (arith, ap length p.text, body-length ms ns p.below))

@@ -1,7 +1,6 @@
 -- The number at the start of a list is the one whose numeral stands there; what follows a mark.
-use Rattle.std.specs.Prelude.{ℕ, zero, suc, ◌+◌, ◌-◌, ◌*◌, ◌/◌, ◌%◌, ◌^◌, ◌≤◌, ◌<◌, Bool, true, false, List, [], ◌∷◌, ◌++◌, ◌≡◌, refl, eqb, leb}
+use Rattle.std.specs.Prelude.{ℕ, zero, suc, ◌+◌, ◌-◌, ◌*◌, ◌/◌, ◌%◌, ◌^◌, ◌≤◌, ◌<◌, Bool, true, false, List, [], ◌∷◌, ◌++◌, ◌≡◌, refl, eqb, leb, Option, None, Some}
 use Rattle.std.proofs.Common.{append_assoc, ⊎_elim, ap, sym, subst, ◌∙◌, arith, lt-ltb, le-ltb, leb-true, le-leb, eqb-true, eq-eqb, ne_eqb}
-use Rattle.std.proofs.Math.Option.{Option, none, some}
 use Rattle.std.proofs.lemmas.Bool.{eqb-false}
 use Rattle.printing.specs.Numeral.{numeral}
 use Rattle.printing.specs.Laws.Below.{below_or}
@@ -57,7 +56,7 @@ read-on v (x ∷ l) h = go (digit_or x) (read-on (10 * v + (x - 48)) l (omega ar
 
 -- The number at the start of a list
 
-pub number-zero : (l : List ℕ) → number_at (48 ∷ l) ≡ some (numbered 0 l)
+pub number-zero : (l : List ℕ) → number_at (48 ∷ l) ≡ Some (numbered 0 l)
 unfolding number_at
 number-zero l = refl
 
@@ -65,15 +64,15 @@ pub number_digit : (x : ℕ) (l : List ℕ) → eqb x 48 ≡ false → is_digit 
 unfolding number_at
 number_digit x l e f = rw (number_at, e, f)
 
-pub number_other : (x : ℕ) (l : List ℕ) → eqb x 48 ≡ false → is_digit x ≡ false → number_at (x ∷ l) ≡ none
+pub number_other : (x : ℕ) (l : List ℕ) → eqb x 48 ≡ false → is_digit x ≡ false → number_at (x ∷ l) ≡ None
 unfolding number_at
 number_other x l e f = rw (number_at, e, f)
 
-pub fits : (n : Numbered) → n.value < 2 ^ 32 → fit n ≡ some n
+pub fits : (n : Numbered) → n.value < 2 ^ 32 → fit n ≡ Some n
 unfolding fit
 fits n h = rw (fit, lt-ltb n.value (2 ^ 32) h)
 
-pub fits_not : (n : Numbered) → 2 ^ 32 ≤ n.value → fit n ≡ none
+pub fits_not : (n : Numbered) → 2 ^ 32 ≤ n.value → fit n ≡ None
 unfolding fit
 fits_not n h = rw (fit, le-ltb n.value (2 ^ 32) h)
 
@@ -81,17 +80,17 @@ pub record Starts (l : List ℕ) (n : Numbered) : Type 0 where
   pub text : l ≡ numeral n.value ++ n.rest
   pub below : n.value < 2 ^ 32
 
-pub never : {A : Type 0} {B : Type 0} {x : A} → ◌≡◌ {A = Option A} none (some x) → B
+pub never : {A : Type 0} {B : Type 0} {x : A} → ◌≡◌ {A = Option A} None (Some x) → B
 never e = let z : ◌≡◌ {A = ℕ} 0 1 = cc in absurd (omega arith)
 
-fit_sound : (n m : Numbered) → fit n ≡ some m → (n ≡ m) × (n.value < 2 ^ 32)
+fit_sound : (n m : Numbered) → fit n ≡ Some m → (n ≡ m) × (n.value < 2 ^ 32)
 fit_sound n m e =
     ⊎_elim
-    (λ h. let q : some n ≡ some m = sym (fits n h) ∙ e in (cc, h))
+    (λ h. let q : Some n ≡ Some m = sym (fits n h) ∙ e in (cc, h))
     (λ h. never (sym (fits_not n h) ∙ e))
     (below_or n.value (2 ^ 32))
 
-pub number_sound : (l : List ℕ) (n : Numbered) → number_at l ≡ some n → Starts l n
+pub number_sound : (l : List ℕ) (n : Numbered) → number_at l ≡ Some n → Starts l n
 unfolding number_at
 number_sound [] n e = never e
 number_sound (x ∷ l) n e = go (eqb x 48) refl (digit_or x)
@@ -99,7 +98,7 @@ number_sound (x ∷ l) n e = go (eqb x 48) refl (digit_or x)
     go : (s : Bool) → eqb x 48 ≡ s → Digit x → Starts (x ∷ l) n
     go true s d =
         let q : x ≡ 48 = eqb-true x 48 s in
-        let p : some (numbered 0 l) ≡ some n = sym (number-zero l) ∙ ap (λ (y : ℕ). number_at (y ∷ l)) (sym q) ∙ e in
+        let p : Some (numbered 0 l) ≡ Some n = sym (number-zero l) ∙ ap (λ (y : ℕ). number_at (y ∷ l)) (sym q) ∙ e in
         let r : numbered 0 l ≡ n = cc in
         subst (Starts (x ∷ l)) r (record { text = rw (q, numeral_small 0 (omega arith)); below = omega arith })
     go false s (digit a b f) =
@@ -156,7 +155,7 @@ lead (suc turns) v h g =
 abbrev pub Stops : List ℕ → Type 0
 Stops t = (u : ℕ) → digits u t ≡ numbered u t
 
-pub number_complete : (v : ℕ) (t : List ℕ) → v < 2 ^ 32 → Stops t → number_at (numeral v ++ t) ≡ some (numbered v t)
+pub number_complete : (v : ℕ) (t : List ℕ) → v < 2 ^ 32 → Stops t → number_at (numeral v ++ t) ≡ Some (numbered v t)
 number_complete zero t h s = ap (λ (m : List ℕ). number_at (m ++ t)) (numeral_small 0 (omega arith)) ∙ number-zero t
 number_complete (suc v) t h s =
     let i = lead (suc (suc v)) (suc v) (omega arith) (omega arith) in
@@ -170,21 +169,21 @@ number_complete (suc v) t h s =
 
 -- Marks
 
-pub after_sound : (m l r : List ℕ) → after m l ≡ some r → l ≡ m ++ r
+pub after_sound : (m l r : List ℕ) → after m l ≡ Some r → l ≡ m ++ r
 unfolding after
 after_sound [] l r e = cc
 after_sound (x ∷ m) [] r e = never e
 after_sound (x ∷ m) (y ∷ l) r e = go (eqb x y) refl (after_sound m l r)
   where
-    go : (s : Bool) → eqb x y ≡ s → (after m l ≡ some r → l ≡ m ++ r) → y ∷ l ≡ x ∷ m ++ r
+    go : (s : Bool) → eqb x y ≡ s → (after m l ≡ Some r → l ≡ m ++ r) → y ∷ l ≡ x ∷ m ++ r
     go true s k =
         let q : x ≡ y = eqb-true x y s in
-        let p : after m l ≡ some r = rw (after, s) at e in
+        let p : after m l ≡ Some r = rw (after, s) at e in
         let t : l ≡ m ++ r = k p in
         cc
-    go false s k = let p : none ≡ some r = rw (after, s) at e in never p
+    go false s k = let p : None ≡ Some r = rw (after, s) at e in never p
 
-pub after_complete : (m r : List ℕ) → after m (m ++ r) ≡ some r
+pub after_complete : (m r : List ℕ) → after m (m ++ r) ≡ Some r
 unfolding after
 after_complete [] r = refl
 after_complete (x ∷ m) r = rw (after, eq-eqb x x refl) (after_complete m r)

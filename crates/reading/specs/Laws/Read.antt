@@ -1,7 +1,6 @@
 -- What the definition of reading does, line by line and byte by byte.
-use Rattle.std.specs.Prelude.{ℕ, zero, suc, ◌+◌, ◌/◌, ◌%◌, ◌≤◌, ◌<◌, Bool, true, false, not, ◌&&◌, List, [], ◌∷◌, ◌++◌, ◌≡◌, refl, eqb, length, get_or}
+use Rattle.std.specs.Prelude.{ℕ, zero, suc, ◌+◌, ◌/◌, ◌%◌, ◌≤◌, ◌<◌, Bool, true, false, not, ◌&&◌, List, [], ◌∷◌, ◌++◌, ◌≡◌, refl, eqb, length, get_or, Some}
 use Rattle.std.proofs.Common.{append_assoc, append-nil, ⊎_elim, ap, sym, ◌∙◌, arith, lt-ltb, le-ltb, ne_eqb}
-use Rattle.std.proofs.Math.Option.{some}
 use Rattle.tree.specs.Record.{Record}
 use Rattle.printing.specs.Numeral.{numeral}
 use Rattle.printing.specs.Laws.Below.{below_or}
@@ -20,11 +19,11 @@ pub line_record : (n : ℕ) (cs : List ℕ) (rs : List Record) (l : List ℕ) �
 unfolding with_line
 line_record n cs rs l h = rw (with_line, le-ltb (length cs) n h)
 
-pub class-fits : (n : ℕ) (cs : List ℕ) (rs : List Record) (ns : List ℕ) → get_or ns 0 0 < 256 → class n cs rs (some ns) ≡ says n (cs ++ (get_or ns 0 0 ∷ [])) rs
+pub class-fits : (n : ℕ) (cs : List ℕ) (rs : List Record) (ns : List ℕ) → get_or ns 0 0 < 256 → class n cs rs (Some ns) ≡ says n (cs ++ (get_or ns 0 0 ∷ [])) rs
 unfolding class
 class-fits n cs rs ns h = rw (class, lt-ltb (get_or ns 0 0) 256 h)
 
-pub class-over : (n : ℕ) (cs : List ℕ) (rs : List Record) (ns : List ℕ) → 256 ≤ get_or ns 0 0 → class n cs rs (some ns) ≡ differs (next (says n cs rs))
+pub class-over : (n : ℕ) (cs : List ℕ) (rs : List Record) (ns : List ℕ) → 256 ≤ get_or ns 0 0 → class n cs rs (Some ns) ≡ differs (next (says n cs rs))
 unfolding class
 class-over n cs rs ns h = rw (class, le-ltb (get_or ns 0 0) 256 h)
 

@@ -1,8 +1,7 @@
 -- Reading gives back what was written, and a good reading was written so.
-use Rattle.std.specs.Prelude.{ℕ, ◌+◌, ◌^◌, ◌≤◌, ◌<◌, Bool, true, false, ◌⊎◌, ◌≡◌, refl, eqb, length}
+use Rattle.std.specs.Prelude.{ℕ, ◌+◌, ◌^◌, ◌≤◌, ◌<◌, Bool, true, false, ◌⊎◌, ◌≡◌, refl, eqb, length, Option, None, Some}
 use mathlib.Core.List.{List, [], ◌∷◌, ◌++◌, append_assoc, append-nil}
 use Rattle.std.proofs.Common.{inl, inr, ⊎_elim, ◌∙◌, arith, lt-ltb, le-ltb, eqb-true, length-append}
-use Rattle.std.proofs.Math.Option.{Option, none, some}
 use Rattle.std.proofs.Math.Path.{ap, sym}
 use Rattle.table.specs.Layout.{layout}
 use Rattle.table.specs.Laws.Layout.{layout-append}
@@ -126,10 +125,10 @@ data Means : Said → List ℕ → Type 0 where
 
 means_first : (l : List ℕ) (o : Option (List ℕ)) → numbers_of names_marks l ≡ o → Means (first o) (l ++ (LF ∷ []))
 unfolding first layout
-means_first l none e = m_differs
-means_first l (some ns) e = let p = numbers_sound names_marks l ns e in go p.below p.text
+means_first l None e = m_differs
+means_first l (Some ns) e = let p = numbers_sound names_marks l ns e in go p.below p.text
   where
-    go : {ns : List ℕ} → Below names_marks ns → l ≡ body names_marks ns → Means (first (some ns)) (l ++ (LF ∷ []))
+    go : {ns : List ℕ} → Below names_marks ns → l ≡ body names_marks ns → Means (first (Some ns)) (l ++ (LF ∷ []))
     go (one_more_lem {n = n} h none_left) t =
         m_says {cs = []} h (omega arith) (λ q. refl) all_none all_none
         (ap (λ (m : List ℕ). m ++ (LF ∷ [])) t ∙ sym (line-body names_marks (n ∷ [])) ∙ sym (append-nil (names_line n)))
@@ -138,8 +137,8 @@ module _ (n : ℕ) (cs : List ℕ) (rs : List Record) (b : List ℕ) (small : n 
     (is : b ≡ names_line n ++ (layout class_line cs ++ layout record_line rs)) (l : List ℕ) where
   means_class : length cs < n → rs ≡ [] → (o : Option (List ℕ)) → numbers_of class_marks l ≡ o → Means (class n cs rs o) (b ++ (l ++ (LF ∷ [])))
   unfolding class layout
-  means_class h z none e = m_differs
-  means_class h z (some ns) e = let p = numbers_sound class_marks l ns e in go p.below p.text
+  means_class h z None e = m_differs
+  means_class h z (Some ns) e = let p = numbers_sound class_marks l ns e in go p.below p.text
     where
       text : (c : ℕ) → l ≡ body class_marks (c ∷ []) → b ++ (l ++ (LF ∷ [])) ≡ names_line n ++ (layout class_line (cs ++ (c ∷ [])) ++ layout record_line rs)
       text c t =
@@ -150,7 +149,7 @@ module _ (n : ℕ) (cs : List ℕ) (rs : List Record) (b : List ℕ) (small : n 
           ∙ ap (λ (m : List ℕ). names_line n ++ (layout class_line cs ++ m)) (sym (append-nil (class_line c)))
           ∙ ap (λ (m : List ℕ). names_line n ++ m) (sym (append-nil (layout class_line cs ++ (class_line c ++ [])))))
 
-      go : {ns : List ℕ} → Below class_marks ns → l ≡ body class_marks ns → Means (class n cs rs (some ns)) (b ++ (l ++ (LF ∷ [])))
+      go : {ns : List ℕ} → Below class_marks ns → l ≡ body class_marks ns → Means (class n cs rs (Some ns)) (b ++ (l ++ (LF ∷ [])))
       go (one_more_lem {n = c} g none_left) t =
           ⊎_elim
           (λ s.
@@ -161,8 +160,8 @@ module _ (n : ℕ) (cs : List ℕ) (rs : List Record) (b : List ℕ) (small : n 
 
   means_record : length cs ≡ n → (o : Option (List ℕ)) → numbers_of record_marks l ≡ o → Means (entry n cs rs o) (b ++ (l ++ (LF ∷ [])))
   unfolding entry layout
-  means_record h none e = m_differs
-  means_record h (some ns) e = let p = numbers_sound record_marks l ns e in go p.below p.text
+  means_record h None e = m_differs
+  means_record h (Some ns) e = let p = numbers_sound record_marks l ns e in go p.below p.text
     where
       text : (r : Record) → l ≡ body record_marks (put r) → b ++ (l ++ (LF ∷ [])) ≡ names_line n ++ (layout class_line cs ++ layout record_line (rs ++ (r ∷ [])))
       text r t =
@@ -173,7 +172,7 @@ module _ (n : ℕ) (cs : List ℕ) (rs : List Record) (b : List ℕ) (small : n 
           (append_assoc (names_line n) (layout class_line cs ++ layout record_line rs) (record_line r)
           ∙ ap (λ (m : List ℕ). names_line n ++ m) (append_assoc (layout class_line cs) (layout record_line rs) (record_line r)))
 
-      go : {ns : List ℕ} → Below record_marks ns → l ≡ body record_marks ns → Means (entry n cs rs (some ns)) (b ++ (l ++ (LF ∷ [])))
+      go : {ns : List ℕ} → Below record_marks ns → l ≡ body record_marks ns → Means (entry n cs rs (Some ns)) (b ++ (l ++ (LF ∷ [])))
       go (one_more_lem {n = a₁} g₁ (one_more_lem {n = a₂} g₂ (one_more_lem {n = a₃} g₃ (one_more_lem {n = a₄} g₄ (one_more_lem {n = a₅} g₅ (one_more_lem {n = a₆} g₆ none_left)))))) t =
           m_says {cs = cs} small (omega arith) (λ q. absurd (omega arith)) bytes
           (all_snoc narrow (one_more_lem g₁ (one_more_lem g₂ (one_more_lem g₃ (one_more_lem g₄ (one_more_lem g₅ (one_more_lem g₆ none_left)))))))

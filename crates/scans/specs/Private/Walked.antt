@@ -1,6 +1,5 @@
 -- What the walk of a tree answers. The tree stands first in l, at the nesting level; s is whatever is open before it.
-use Rattle.std.specs.Prelude.{ℕ, suc, ◌≤◌, ◌<◌, List, ◌≡◌, length, drop}
-use Rattle.std.proofs.Math.Option.{none, some}
+use Rattle.std.specs.Prelude.{ℕ, suc, ◌≤◌, ◌<◌, List, ◌≡◌, length, drop, None, Some}
 use Rattle.tree.specs.Record.{Record}
 use Rattle.tree.specs.Place.{Open, closed, taken}
 use Rattle.tree.specs.First.{on}
@@ -17,11 +16,11 @@ pub record UsedUp (l : List Record) (level n : ℕ) : Type 0 where
 -- record i of it is the first nested too deep
 pub record DeepAt (l : List Record) (level i : ℕ) : Type 0 where
   pub within : i < length l
-  pub here : (s : List Open) → suc (length s) ≡ level → first_deep s l ≡ some i
+  pub here : (s : List Open) → suc (length s) ≡ level → first_deep s l ≡ Some i
 
 -- the records end within the tree, none nested too deep
 pub record EndsFirst (l : List Record) (level : ℕ) : Type 0 where
-  pub none : (s : List Open) → suc (length s) ≡ level → first_deep s l ≡ none
+  pub none : (s : List Open) → suc (length s) ≡ level → first_deep s l ≡ None
 
 abbrev pub Walked : List Record → ℕ → Walk → Type 0
 Walked l level (Used n) = UsedUp l level n

@@ -1,9 +1,8 @@
 -- The operations do not look at the values: each commutes with a function on them.
 use Prim.Native.Nat.{ℕ, zero, suc, ◌-◌}
 use mathlib.Core.List.{List, [], ◌∷◌, ◌++◌}
-use Rattle.std.specs.Prelude.{Bool, ◌||◌, length, get_or, eqb, ltb}
+use Rattle.std.specs.Prelude.{Bool, ◌||◌, length, get_or, eqb, ltb, Some, option_map}
 use Rattle.std.proofs.Math.Bool.{true, false, cond}
-use Rattle.std.proofs.Math.Option.{some, map}
 use Rattle.std.proofs.Math.Path.{◌≡◌, refl, ap}
 use Rattle.std.proofs.Common.{◌∙◌}
 use Rattle.scope_map.specs.Map.{map_value, map_live, map_values}
@@ -28,13 +27,13 @@ module _ {A : Type 0} {B : Type 0} (f : A → B) where
   map-append [] r = refl
   map-append (e ∷ l) r = ap (λ (k : List (Live B)). map_value f e ∷ k) (map-append l r)
 
-  map-get_in : (l : List (Live A)) (x : ℕ) → get_in (map_live f l) x ≡ map (map_value f) (get_in l x)
+  map-get_in : (l : List (Live A)) (x : ℕ) → get_in (map_live f l) x ≡ option_map (map_value f) (get_in l x)
   unfolding map_live get_in
   map-get_in [] x = refl
   map-get_in (e ∷ l) x = pick (eqb e.name x) (map-get_in l x)
     where
-      pick : (b : Bool) → get_in (map_live f l) x ≡ map (map_value f) (get_in l x) →
-          cond b (some (map_value f e)) (get_in (map_live f l) x) ≡ map (map_value f) (cond b (some e) (get_in l x))
+      pick : (b : Bool) → get_in (map_live f l) x ≡ option_map (map_value f) (get_in l x) →
+          cond b (Some (map_value f e)) (get_in (map_live f l) x) ≡ option_map (map_value f) (cond b (Some e) (get_in l x))
       pick true r = refl
       pick false r = r
 
@@ -90,7 +89,7 @@ module _ {A : Type 0} {B : Type 0} (f : A → B) where
   unfolding map_live
   map-new = refl
 
-  pub map_get : (m : ScopeMap A) (x : ℕ) → get (map_values f m) x ≡ map (map_value f) (get m x)
+  pub map_get : (m : ScopeMap A) (x : ℕ) → get (map_values f m) x ≡ option_map (map_value f) (get m x)
   map_get m x = map-get_in m.live x
 
   pub map-push_layer : (m : ScopeMap A) → map_values f (push_layer m) ≡ push_layer (map_values f m)

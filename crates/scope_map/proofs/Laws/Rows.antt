@@ -1,11 +1,10 @@
 -- The operations on the live names of a table's rows.
 use Prim.Native.Nat.{ℕ, zero, suc, ◌+◌, ◌-◌, ◌≤◌, ◌<◌}
 use mathlib.Core.List.{List, [], ◌∷◌, ◌++◌}
-use Rattle.std.specs.Prelude.{Bool, ◌&&◌, ◌||◌, ◌≡◌, get_or}
+use Rattle.std.specs.Prelude.{Bool, ◌&&◌, ◌||◌, ◌≡◌, get_or, Some}
 use Rattle.std.proofs.Math.Bool.{true, false, cond}
 use Rattle.std.proofs.Math.Path.{refl, ap}
 use Rattle.std.proofs.Common.{sym, ◌∙◌}
-use Rattle.std.proofs.Math.Option.{some}
 use native.Mathlib.Omega.{arith}
 use borrow.Author.Tests.{eqb-true, lt-ltb, le-ltb}
 use Rattle.std.proofs.Math.ListN.{length}
@@ -52,8 +51,8 @@ found_get [] x = refl
 found_get (e ∷ l) x = pick (eqb e.name x) refl (found_get l x)
   where
     pick : (b : Bool) → eqb e.name x ≡ b → entry_of x (found_in l x) ≡ get_in l x →
-        entry_of x (cond b (At (length l) e.layer e.value) (found_in l x)) ≡ cond b (some e) (get_in l x)
-    pick true q r = ap (λ (y : ℕ). some (record { name = y; layer = e.layer; value = e.value })) (sym (eqb-true _ _ q))
+        entry_of x (cond b (At (length l) e.layer e.value) (found_in l x)) ≡ cond b (Some e) (get_in l x)
+    pick true q r = ap (λ (y : ℕ). Some (record { name = y; layer = e.layer; value = e.value })) (sym (eqb-true _ _ q))
     pick false q r = r
 
 -- The row of a name in the layer d, among n rows

@@ -1,6 +1,5 @@
 -- Facts and entries come back from the numbers of their rows.
-use Rattle.std.specs.Prelude.{cond, ◌≡◌, refl, get_or, eqb}
-use Rattle.std.proofs.Math.Option.{none, some}
+use Rattle.std.specs.Prelude.{cond, ◌≡◌, refl, get_or, eqb, None, Some}
 use Rattle.std.proofs.Common.{arith, ne_eqb}
 use Rattle.semantic.specs.Rows.{kind_number, Row, Blank, Variable, Function, CallSite, Let, put_row, ListEntry, put_info, put_list_entry}
 use Rattle.semantic.specs.Kinds.{function_in, let_in}
@@ -23,7 +22,7 @@ information_back v =
       bit-one v.is_required_identifier,
     )
 
-pub function_back : (r : Row) → cond (eqb (get_or (put_row r) 0 0) 8) (some (function_of (put_row r))) none ≡ function_in r
+pub function_back : (r : Row) → cond (eqb (get_or (put_row r) 0 0) 8) (Some (function_of (put_row r))) None ≡ function_in r
 unfolding put_row
 function_back Blank = refl
 function_back (Variable v) = rw (ne_eqb (kind_number v.kind) 8 (omega (arith, kind_low v.kind)))
@@ -31,7 +30,7 @@ function_back (Function v) = rw (bit-one v.escapes)
 function_back (CallSite v) = refl
 function_back (Let v) = refl
 
-pub let_back : (r : Row) → cond (eqb (get_or (put_row r) 0 0) 9) (some (let_of (put_row r))) none ≡ let_in r
+pub let_back : (r : Row) → cond (eqb (get_or (put_row r) 0 0) 9) (Some (let_of (put_row r))) None ≡ let_in r
 unfolding put_row
 let_back Blank = refl
 let_back (Variable v) = rw (ne_eqb (kind_number v.kind) 9 (omega (arith, kind_low v.kind)))

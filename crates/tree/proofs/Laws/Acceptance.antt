@@ -1,6 +1,5 @@
 -- The checks 1 to 8 and 16 pass exactly if the records are those of trees within every limit, and those trees are unique.
-use Rattle.std.specs.Prelude.{ℕ, ◌%◌, List, [], true, ◌≡◌, length}
-use Rattle.std.proofs.Math.Option.{none}
+use Rattle.std.specs.Prelude.{ℕ, ◌%◌, List, [], true, ◌≡◌, length, None}
 use Rattle.std.proofs.Common.{ap, sym, subst, ◌∙◌, arith}
 use Rattle.tree.specs.Record.{Record, width, numbers, records}
 use Rattle.tree.proofs.Laws.Record.{records-numbers, numbers-whole}
@@ -21,7 +20,7 @@ pub mod Ids
 pub mod Passes
 
 -- what passes is accepted as some trees
-pub accepted : (N : ℕ) (rs : List ℕ) → refusal N rs ≡ none → (ts : Trees) × Accepted N rs ts
+pub accepted : (N : ℕ) (rs : List ℕ) → refusal N rs ≡ None → (ts : Trees) × Accepted N rs ts
 accepted N rs e =
     let p = passes N rs e in
     let t = walk_trees N (records rs) p.fields p.walks in (
@@ -45,7 +44,7 @@ pub many-records : {N : ℕ} {rs : List ℕ} {ts : Trees} → Accepted N rs ts �
 many-records {ts = ts} a = ap length (holds a) ∙ length_flats ts
 
 -- what is accepted passes
-pub only : (N : ℕ) (rs : List ℕ) (ts : Trees) → Accepted N rs ts → refusal N rs ≡ none
+pub only : (N : ℕ) (rs : List ℕ) (ts : Trees) → Accepted N rs ts → refusal N rs ≡ None
 only N rs ts a =
     let e = sym (holds a) in
     passed_none N rs

@@ -1,10 +1,9 @@
 -- The tree that a record makes with its children: a record that fits its form, and as many names and other children as the form has, are
 -- the parts of exactly one tree.
 use Prim.Native.Nat.{ℕ, zero, suc, ◌+◌, ◌≤◌, ◌<◌}
-use Rattle.std.specs.Prelude.{List, [], ◌∷◌, ◌++◌, map, Bool, true, false, ◌&&◌, ◌≡◌, length, eqb, leb, ltb}
+use Rattle.std.specs.Prelude.{List, [], ◌∷◌, ◌++◌, map, Bool, true, false, ◌&&◌, ◌≡◌, length, eqb, leb, ltb, Option, None, Some}
 use Rattle.std.proofs.Math.Bool.{and-eq-true_iff}
 use Rattle.std.proofs.lemmas.Bool.{false≢true, eqb-false}
-use Rattle.std.proofs.Math.Option.{Option, none, some}
 use Rattle.std.proofs.Math.Path.{refl, subst⁻¹}
 use Rattle.std.proofs.Common.{ap, ap₂, sym, subst₂, ◌∙◌, arith, ltb-true, leb-true}
 use Rattle.tree.specs.Record.{Record}
@@ -157,16 +156,16 @@ bit_of (suc (suc x)) h = absurd (omega arith)
 -- What a row of the table of forms leaves of the name and the count
 
 abbrev pub below_in : ℕ → Option Form → ℕ
-below_in N none = 0
-below_in N (some f) = f.name_below N
+below_in N None = 0
+below_in N (Some f) = f.name_below N
 
 abbrev pub most_in : Option Form → ℕ
-most_in none = 0
-most_in (some f) = f.count_most
+most_in None = 0
+most_in (Some f) = f.count_most
 
 pub row : (N : ℕ) (r : Record) (o : Option Form) → fits_as N r o ≡ true → (r.name < below_in N o) × (r.count ≤ most_in o)
-row N r none e = absurd (false≢true e)
-row N r (some f) e =
+row N r None e = absurd (false≢true e)
+row N r (Some f) e =
     let named = ltb r.name (f.name_below N) in
     let counted = leb r.count f.count_most in
     let h = (and-eq-true_iff named counted).0 ((and-eq-true_iff (id_fits f.has_id r.id) (named && counted)).0 e).1 in

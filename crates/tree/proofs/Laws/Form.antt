@@ -1,9 +1,7 @@
 -- The rows of the table of forms, by the form's number. Each rule is computed at the forms 0 to 12; above them there is no form.
-use Rattle.std.specs.Prelude.{ℕ, zero, suc, ◌+◌, ◌*◌, ◌≤◌, ◌<◌, List, [], ◌∷◌, Bool, true, false, not, ◌⊎◌, ◌≡◌, refl, length, T}
+use Rattle.std.specs.Prelude.{ℕ, zero, suc, ◌+◌, ◌*◌, ◌≤◌, ◌<◌, List, [], ◌∷◌, Bool, true, false, not, ◌⊎◌, ◌≡◌, refl, length, T, Option, None, Some, slice_get}
 use Rattle.std.proofs.Common.{true≢false, inl, inr, ap, sym, subst, ◌∙◌, arith}
-use Rattle.std.proofs.Math.Option.{Option, none, some}
 use Rattle.std.proofs.Math.Decide.{dec_le, dec_lt}
-use Rattle.std.proofs.Math.ListN.{get_elem?}
 use Rattle.tree.specs.Record.{Record}
 use Rattle.tree.specs.Form.{Form, forms, form_of, names_of, others_of, children_of, fits_as, fits, is_form, has_id_in}
 use Rattle.tree.proofs.Laws.Build.{most_in, row}
@@ -22,12 +20,12 @@ module _ (P : ℕ → Type 0) where
   pub each : (n : ℕ) → Each 0 n → (k : ℕ) → k < n → P k
   each n e k h = subst P (omega arith) (from n 0 e k h)
 
-past : (l : List Form) (n : ℕ) → length l ≤ n → get_elem? l n ≡ none
+past : (l : List Form) (n : ℕ) → length l ≤ n → slice_get l n ≡ None
 past [] n h = refl
 past (f ∷ l) zero h = absurd (omega arith)
 past (f ∷ l) (suc n) h = past l n (omega arith)
 
-pub unknown : (f : ℕ) → 12 < f → form_of f ≡ none
+pub unknown : (f : ℕ) → 12 < f → form_of f ≡ None
 unfolding form_of
 unknown zero h = absurd (omega arith)
 unknown (suc n) h = past forms n (omega arith)
@@ -120,8 +118,8 @@ fit-names N r e = counted-names r.form r.count (row N r (form_of r.form) e).1
 
 -- a record that fits is of a known form
 known_as : (N : ℕ) (r : Record) (o : Option Form) → fits_as N r o ≡ true → is_form o ≡ true
-known_as N r none e = e
-known_as N r (some f) e = refl
+known_as N r None e = e
+known_as N r (Some f) e = refl
 
 pub fits-known : (N : ℕ) (r : Record) → fits N r ≡ true → is_form (form_of r.form) ≡ true
 unfolding fits

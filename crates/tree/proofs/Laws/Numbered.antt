@@ -1,7 +1,6 @@
 -- Whether trees are numbered in preorder, as a test. Records that pass the checks are then those of the trees.
-use Rattle.std.specs.Prelude.{ℕ, ◌+◌, Bool, true, ◌&&◌, List, [], ◌∷◌, ◌≡◌, eqb, ltb, length}
+use Rattle.std.specs.Prelude.{ℕ, ◌+◌, Bool, true, ◌&&◌, List, [], ◌∷◌, ◌≡◌, eqb, ltb, length, None}
 use Rattle.std.proofs.Math.Bool.{and-eq-true_iff}
-use Rattle.std.proofs.Math.Option.{none}
 use Rattle.std.proofs.Common.{sym, subst, ◌∙◌, eqb-true, ltb-true}
 use Rattle.tree.specs.Record.{numbers}
 use Rattle.tree.proofs.Laws.Record.{records-numbers}
@@ -98,7 +97,7 @@ mutual
   nums i (cons t ts) e = let (p, q) = both e in (tree_num i t p, nums _ ts q)
 
 -- the trees are those that their records say
-pub accepted_as : (N : ℕ) (ts : Trees) → numbered 0 ts ≡ true → refusal N (numbers (flats ts)) ≡ none → Accepted N (numbers (flats ts)) ts
+pub accepted_as : (N : ℕ) (ts : Trees) → numbered 0 ts ≡ true → refusal N (numbers (flats ts)) ≡ None → Accepted N (numbers (flats ts)) ts
 accepted_as N ts n e =
     let (us, a) = accepted N (numbers (flats ts)) e in
     let same = unique_trees ts us 0 (nums 0 ts n) a.num (sym (records-numbers (flats ts)) ∙ holds a) in

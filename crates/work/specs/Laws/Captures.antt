@@ -1,7 +1,6 @@
 -- The captures as the work table holds them: a lookup, and what is known of the capture that it finds.
-use Rattle.std.specs.Prelude.{ℕ, ◌+◌, ◌*◌, ◌≤◌, ◌<◌, Bool, true, false, cond, ◌≡◌, refl, length, drop, eqb}
+use Rattle.std.specs.Prelude.{ℕ, ◌+◌, ◌*◌, ◌≤◌, ◌<◌, Bool, true, false, cond, ◌≡◌, refl, length, drop, eqb, None, Some}
 use mathlib.Core.List.{List, [], ◌∷◌}
-use Rattle.std.proofs.Math.Option.{none, some}
 use Rattle.std.proofs.Math.Path.{ap, sym}
 use Rattle.std.proofs.Common.{subst, ◌∙◌, get_or-take, get_or-drop}
 use native.Mathlib.Omega.{arith}
@@ -24,8 +23,8 @@ use Rattle.work.specs.declared.Pass.{Pass}
 
 -- what a lookup finds: nothing, or the name's newest capture, whose place is the number of older ones
 pub data Looked (l : List (Live Capture)) (x : ℕ) : Type 0 where
-  no_capture : get_in l x ≡ none → found_in (map_live row_of l) x ≡ Nothing → Looked l x
-  the_capture : (c : Live Capture) (place : ℕ) → get_in l x ≡ some c → found_in (map_live row_of l) x ≡ At place c.layer c.value.row
+  no_capture : get_in l x ≡ None → found_in (map_live row_of l) x ≡ Nothing → Looked l x
+  the_capture : (c : Live Capture) (place : ℕ) → get_in l x ≡ Some c → found_in (map_live row_of l) x ≡ At place c.layer c.value.row
       → place < length l → Looked l x
 
 pub found_capture : (l : List (Live Capture)) (x : ℕ) → Looked l x
@@ -47,14 +46,14 @@ found_below l x {i} {d} {v} f = pick (found_capture l x)
 
 -- the row of the capture that is found
 pub taken_found : (t : List ℕ) (l : List (Live Capture)) → TakenIn t l → (x : ℕ) {i d v : ℕ} {c : Live Capture}
-    → found_in (map_live row_of l) x ≡ At i d v → get_in l x ≡ some c → CaptureAt t i c.value
+    → found_in (map_live row_of l) x ≡ At i d v → get_in l x ≡ Some c → CaptureAt t i c.value
 unfolding TakenIn get_in found_in map_live
 taken_found t [] h x f g = absurd (let z : ◌≡◌ {A = ℕ} 0 1 = cc in omega arith)
 taken_found t (e ∷ l) h x {i} {d} {v} {c} f g = pick (eqb e.name x) f g (taken_found t l h.1 x)
   where
     pick : (b : Bool) → cond b (At (length (map_live row_of l)) e.layer e.value.row) (found_in (map_live row_of l) x) ≡ At i d v
-        → cond b (some e) (get_in l x) ≡ some c
-        → (found_in (map_live row_of l) x ≡ At i d v → get_in l x ≡ some c → CaptureAt t i c.value)
+        → cond b (Some e) (get_in l x) ≡ Some c
+        → (found_in (map_live row_of l) x ≡ At i d v → get_in l x ≡ Some c → CaptureAt t i c.value)
         → CaptureAt t i c.value
     pick true f g r =
         let a : length l ≡ i = sym (map-length row_of l) ∙ cc in
@@ -67,7 +66,7 @@ module _ {p : Pass} {w : List ℕ} {s : State} (k : Works p w s) where
   captures_few = omega (arith, captures_many k, (spacious k).captures)
 
   -- the second number: the binder, whether the lambda around takes the name too, and the uses
-  pub taken-uses : (x : ℕ) {i d v : ℕ} {c : Live Capture} → i < length s.captures.live → capture_found s x ≡ At i d v → get s.captures x ≡ some c
+  pub taken-uses : (x : ℕ) {i d v : ℕ} {c : Live Capture} → i < length s.captures.live → capture_found s x ≡ At i d v → get s.captures x ≡ Some c
       → get_or w (capture_data_first + 2 * i + 1) 0 ≡ c.value.binder.at + rows_most * (2 * c.value.usage_count + bit c.value.from_enclosing)
   unfolding put_capture
   taken-uses x {i} h f g =

@@ -1,6 +1,5 @@
 -- What keeps a state good: changes that keep the lengths of tables, and what each thing held is.
-use Rattle.std.specs.Prelude.{ℕ, List, ◌≡◌, refl, length}
-use Rattle.std.proofs.Math.Option.{Option, none, some}
+use Rattle.std.specs.Prelude.{ℕ, List, ◌≡◌, refl, length, Option, None, Some}
 use Rattle.std.proofs.Common.{ap, ◌∙◌, arith}
 use Rattle.tree.specs.Tree.{Ident}
 use Rattle.semantic.specs.Information.{mark_last_usage}
@@ -41,8 +40,8 @@ unfolding insert amend
 sized_amend f i s = record { rows = count-amend s i f; arguments = refl }
 
 pub sized_last : (o : Option Ident) (s : State) → Sized s (mark_last o s)
-sized_last none s = sized_same s
-sized_last (some x) s = sized_amend mark_last_usage x.at s
+sized_last None s = sized_same s
+sized_last (Some x) s = sized_amend mark_last_usage x.at s
 
 -- every property of what is held passes on, if it has G
 pub good_where : {rs : List ℕ} {s t : State} (G : Property → Type 0) → G (known (Known rs)) → G anything → Good rs s → Sized s t

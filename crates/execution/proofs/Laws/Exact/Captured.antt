@@ -1,8 +1,8 @@
 -- The list of a fresh lambda that ends has as many entries as the walk counts.
-use Rattle.std.specs.Prelude.{ℕ, suc, ◌+◌, ◌≤◌, Bool, true, cond, not, ◌&&◌, ◌||◌, ◌≡◌, eqb, ltb}
+use Rattle.std.specs.Prelude.{ℕ, suc, ◌+◌, ◌≤◌, Bool, true, cond, not, ◌&&◌, ◌||◌, ◌≡◌, eqb, ltb, Option, None, Some}
+use Rattle.std.proofs.lemmas.Option.{none-some}
 use mathlib.Core.List.{List, [], ◌∷◌, map, reverse_aux}
 use Rattle.std.proofs.Math.Bool.{false}
-use Rattle.std.proofs.Math.Option.{Option, none, some, some-ne-none}
 use Rattle.std.proofs.Math.Path.{refl, ap}
 use Rattle.std.proofs.Common.{sym, ◌∙◌, arith, lt-ltb, le-ltb, eq-eqb, ne_eqb}
 use Rattle.std.proofs.lemmas.Bool.{eqb-false}
@@ -72,7 +72,7 @@ all_named ps (x ∷ xs) h =
 
 pub record Found (P : Binder → Type 0) (sc : List Binder) (c : Binder) : Type 0 where
   pub binder : Binder
-  pub is : find sc c.ident.name ≡ some binder
+  pub is : find sc c.ident.name ≡ Some binder
   pub holds : P binder
 
 found_more : {P : Binder → Type 0} (b : Binder) (sc : List Binder) (c : Binder) → P b → Found P sc c → Found P (b ∷ sc) c
@@ -117,7 +117,7 @@ module _ {own : ℕ → Type 0} {bottom : List (Live Ident)} {before : List Use}
   abbrev ps : List ℕ
   ps = map name_in xs
 
-  added-length : (h c : Bool) (o : Option Ident) (b : Binder) (l : List ListEntry) → (h ≡ false → o ≡ some b.ident) → (entry_at s b.ident.at).captured ≡ c
+  added-length : (h c : Bool) (o : Option Ident) (b : Binder) (l : List ListEntry) → (h ≡ false → o ≡ Some b.ident) → (entry_at s b.ident.at).captured ≡ c
       → length (add_captured (not h) s o l) ≡ bit (not h && c) + length l
   added-length true c o b l g i = omega arith
   added-length false c o b l g i =
@@ -128,7 +128,7 @@ module _ {own : ℕ → Type 0} {bottom : List (Live Ident)} {before : List Use}
       go true x = omega arith
       go false x = omega arith
 
-  newest_of : (c b : Binder) → find sc c.ident.name ≡ some b → has_name c.ident.name xs ≡ false → newest s c.ident.name ≡ some b.ident
+  newest_of : (c b : Binder) → find sc c.ident.name ≡ Some b → has_name c.ident.name xs ≡ false → newest s c.ident.name ≡ Some b.ident
   newest_of c b e h =
       ap binder_in
       ((search_for f c.ident.name).found
@@ -185,12 +185,12 @@ around i {l} {s} {t} p c q k e =
           ∙ ap (λ (o : Option ℕ). cond (ltb captured_most (top_of s + length k)) (or_kept o i) o) p.ten;
     }
 
-function_counts : (o : Option FunctionInformation) (n : Node) (b : Tree) (escapes : Bool) (now arguments : List ListEntry) (m : ScopeMap Capture) (s : State) → o ≡ none
+function_counts : (o : Option FunctionInformation) (n : Node) (b : Tree) (escapes : Bool) (now arguments : List ListEntry) (m : ScopeMap Capture) (s : State) → o ≡ None
     → Counted n.at now s (function_ends o n b escapes now arguments m s)
 unfolding make_function
-function_counts none n b escapes now arguments m s e =
+function_counts None n b escapes now arguments m s e =
     around n.at plain (stored n.at (sort_by_id now) s) (arguments_plain arguments _ then insert-plain n.at _ _) now (sorted_length now)
-function_counts (some v) n b escapes now arguments m s e = absurd (some-ne-none v e)
+function_counts (Some v) n b escapes now arguments m s e = absurd (none-some v (sym e))
 
 pub closed-plain : (s : State) → Plain s (close_captures (close_scope s))
 unfolding close_captures close_scope

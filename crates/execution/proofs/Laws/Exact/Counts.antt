@@ -1,7 +1,6 @@
 -- How many captured entries a stretch of a fresh run adds, and where it passes the limit.
-use Rattle.std.specs.Prelude.{ℕ, ◌+◌, Bool, false, cond, ◌≡◌, refl, ltb}
+use Rattle.std.specs.Prelude.{ℕ, ◌+◌, Bool, false, cond, ◌≡◌, refl, ltb, Option, None, Some}
 use mathlib.Core.List.{List, [], ◌∷◌, ◌++◌, append-nil, reverse_aux}
-use Rattle.std.proofs.Math.Option.{Option, none, some}
 use Rattle.std.proofs.Common.{ap, sym, subst, ◌∙◌}
 use Rattle.tree.specs.Tree.{Ident, Node, Tree}
 use Rattle.tree.specs.Accepted.{All}
@@ -26,7 +25,7 @@ use Rattle.execution.proofs.Laws.Exact.Captured.{top_of, captured_length, lambda
 pub record Counts (left : ℕ → Type 0) (before : List Use) (seen : List Mention) (l : List Event) (sc : List Binder) (s t : State) : Type 0 where
   pub met : Seen left (before ++ uses_in l) (seen_after seen l) sc
   pub top : top_of t ≡ count_after seen (top_of s) l
-  pub ten : s.noted.ten ≡ none → t.noted.ten ≡ ten_from seen (top_of s) l
+  pub ten : s.noted.ten ≡ None → t.noted.ten ≡ ten_from seen (top_of s) l
   pub later : Later s.noted t.noted
 
 module _ {own left : ℕ → Type 0} {before : List Use} {seen : List Mention} {l : List Event} {s t u : State} where
@@ -41,8 +40,8 @@ module _ {own left : ℕ → Type 0} {before : List Use} {seen : List Mention} {
       }
     where
       go : (o : Option ℕ) → t.noted.ten ≡ o → t.noted.ten ≡ ten_from seen (top_of s) l → u.noted.ten ≡ ten_from seen (top_of s) (l ++ r)
-      go none n m = q.ten n ∙ ap (λ (k : ℕ). ten_from (seen_after seen l) k r) p.top ∙ sym (ten_right seen (top_of s) l r (sym m ∙ n))
-      go (some i) n m = q.later.first_ten i n ∙ sym (ten_left seen (top_of s) l r i (sym m ∙ n))
+      go None n m = q.ten n ∙ ap (λ (k : ℕ). ten_from (seen_after seen l) k r) p.top ∙ sym (ten_right seen (top_of s) l r (sym m ∙ n))
+      go (Some i) n m = q.later.first_ten i n ∙ sym (ten_left seen (top_of s) l r i (sym m ∙ n))
 
   -- a plain step after it, out of a body with the names bs
   pub out : (bs sc : List Binder) → ((x : ℕ) → left x → own x) → Counts own before seen l (reverse_aux bs sc) s t → Plain t u → Later t.noted u.noted

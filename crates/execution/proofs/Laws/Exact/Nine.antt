@@ -1,6 +1,5 @@
 -- Refusal 9 of the fresh run: over the top level, and the claim.
-use Rattle.std.specs.Prelude.{ℕ, List, [], ◌∷◌, Bool, true, false, cond, ◌≡◌, refl}
-use Rattle.std.proofs.Math.Option.{none}
+use Rattle.std.specs.Prelude.{ℕ, List, [], ◌∷◌, Bool, true, false, cond, ◌≡◌, refl, None}
 use Rattle.std.proofs.Common.{ap, sym, subst, ◌∙◌, arith}
 use Rattle.tree.specs.Tree.{Ident, Tree, Trees, ident, const, if, letin, define, lambda, sequence, call, set!, nil, cons}
 use Rattle.tree.specs.Define.{top_level, defines, below, below_all, inner_defines}
@@ -95,19 +94,19 @@ module _ (classes : List ℕ) where
 
   record TopNotes (l : List Event) (t : State) : Type 0 where
     nine : t.noted.nine ≡ nine_in l
-    bottom : t.noted.nine ≡ none → Bottom (names t)
+    bottom : t.noted.nine ≡ None → Bottom (names t)
 
-  tree_top : (t : Tree) (s : State) → defines t ≡ [] → Bottom (names s) → s.noted.nine ≡ none → TopNotes (walk t top) (visit classes t top_flags s)
+  tree_top : (t : Tree) (s : State) → defines t ≡ [] → Bottom (names s) → s.noted.nine ≡ None → TopNotes (walk t top) (visit classes t top_flags s)
   tree_top t s e b n =
       let st = bottom_scoped (names s) b in
       let p = notes classes t top_flags top s e st.layered.one in
       record { nine = p.nine st n; bottom = λ q. subst Bottom (sym (p.restores.restored st.layered q)) b }
 
-  define-top : (q : Bool) (x : Ident) (d : Tree) (s : State) → defines d ≡ [] → Bottom (names s) → s.noted.nine ≡ none → TopNotes (walk d top) (visit_top_define classes q x d s)
+  define-top : (q : Bool) (x : Ident) (d : Tree) (s : State) → defines d ≡ [] → Bottom (names s) → s.noted.nine ≡ None → TopNotes (walk d top) (visit_top_define classes q x d s)
   define-top true x d s e b n = let p = tree_top d (with_context x.id s) e b n in record { nine = p.nine; bottom = p.bottom }
   define-top false x d s e b n = let p = value_enters x d s b in tree_top d _ e p.bottom (p.nine ∙ n)
 
-  one-top : (t : Tree) (s : State) → below t ≡ [] → Bottom (names s) → s.noted.nine ≡ none → TopNotes (walk t top) (visit_top classes t s)
+  one-top : (t : Tree) (s : State) → below t ≡ [] → Bottom (names s) → s.noted.nine ≡ None → TopNotes (walk t top) (visit_top classes t s)
   unfolding visit_top below walk defines nine_in
   one-top (ident x) s e b n = tree_top (ident x) s e b n
   one-top (const m q) s e b n = record { nine = n; bottom = λ q. b }
@@ -119,7 +118,7 @@ module _ (classes : List ℕ) where
   one-top (call m h es) s e b n = tree_top (call m h es) s e b n
   one-top (set! m x d) s e b n = tree_top (set! m x d) s e b n
 
-  all_tops : (ts : Trees) (s : State) → below_all ts ≡ [] → Bottom (names s) → s.noted.nine ≡ none → (visit_tops classes ts s).noted.nine ≡ nine_in (walk_all ts top)
+  all_tops : (ts : Trees) (s : State) → below_all ts ≡ [] → Bottom (names s) → s.noted.nine ≡ None → (visit_tops classes ts s).noted.nine ≡ nine_in (walk_all ts top)
   unfolding visit_tops below_all walk nine_in
   all_tops nil s e b n = n
   all_tops (cons t ts) s e b n =

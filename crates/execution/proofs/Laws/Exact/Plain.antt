@@ -1,7 +1,7 @@
 -- The steps that count no captured entry.
-use Rattle.std.specs.Prelude.{ℕ, List, Bool, ◌≡◌, refl}
-use Rattle.std.proofs.Math.Option.{Option, none, some, some-ne-none}
-use Rattle.std.proofs.Common.{ap, ◌∙◌}
+use Rattle.std.specs.Prelude.{ℕ, List, Bool, ◌≡◌, refl, Option, None, Some}
+use Rattle.std.proofs.lemmas.Option.{none-some}
+use Rattle.std.proofs.Common.{ap, ◌∙◌, sym}
 use Rattle.tree.specs.Tree.{Ident, Node}
 use Rattle.semantic.specs.Rows.{Row, Blank, ListEntry}
 use Rattle.semantic.specs.declared.FunctionInformation.{FunctionInformation}
@@ -51,10 +51,10 @@ pub close_let_plain : (b : Bool) (n : Node) (xs : List Ident) (height : ℕ) (fu
 close_let_plain = close_let_preserves plain_steps arguments_plain (λ i v s. insert-plain i _ s)
 
 -- a fresh lambda
-fresh-plain : (o : Option FunctionInformation) (xs : List Ident) (s : State) → o ≡ none → Plain s (enter_parameters o xs (open_scope (open_captures o s)))
+fresh-plain : (o : Option FunctionInformation) (xs : List Ident) (s : State) → o ≡ None → Plain s (enter_parameters o xs (open_scope (open_captures o s)))
 unfolding enter_parameters open_scope open_captures
-fresh-plain none xs s e = let p = names_preserves plain_steps _ _ _ _ xs 0 0 (open_scope (open_captures none s)) in record { top = p.top; ten = p.ten }
-fresh-plain (some v) xs s e = absurd (some-ne-none v e)
+fresh-plain None xs s e = let p = names_preserves plain_steps _ _ _ _ xs 0 0 (open_scope (open_captures None s)) in record { top = p.top; ten = p.ten }
+fresh-plain (Some v) xs s e = absurd (none-some v (sym e))
 
 pub open_lambda_plain : (n : Node) (xs : List Ident) (s : State) → row_at s n.at ≡ Blank → Plain s (open_lambda n xs s)
 unfolding open_lambda

@@ -1,8 +1,7 @@
 -- The claim on refusals 11 and 12 of the settled run holds.
-use Rattle.std.specs.Prelude.{ℕ, ◌+◌, Bool, not, ◌&&◌, ◌||◌, ◌≡◌, eqb}
+use Rattle.std.specs.Prelude.{ℕ, ◌+◌, Bool, not, ◌&&◌, ◌||◌, ◌≡◌, eqb, Option, None, Some}
 use mathlib.Core.List.{List, [], ◌∷◌, ◌++◌, append_assoc}
 use Rattle.std.proofs.Math.Bool.{true, false, cond, and-true, or-false}
-use Rattle.std.proofs.Math.Option.{Option, none, some}
 use Rattle.std.proofs.Math.Path.{refl, ap, sym}
 use Rattle.std.proofs.Common.{◌∙◌, arith, eq-eqb}
 use Rattle.tree.specs.Tree.{Trees, sizes}
@@ -118,8 +117,8 @@ module _ (classes : List ℕ) (ts : Trees) where
 
   mention_is : (before after : List Mention) (m : Mention) → all ≡ before ++ (m ∷ after) → All (Zone E) m.place.around → Nested m.place
       → (o : Option Binder) → meant m ≡ o → Of (λ b. Suffix b.around m.place.around) o → is_twelve_at S m o ≡ is_twelve before after m o
-  mention_is before after m is z n none e k = refl
-  mention_is before after m is z n (some b) e (of_some k) =
+  mention_is before after m is z n None e k = refl
+  mention_is before after m is z n (Some b) e (of_some k) =
       twelve_is E b before after m is m.place.scope m.ident.name m.place.around refl z k
       (times_once m.place.scope m.ident.name b n.distinct e) refl
 
@@ -133,8 +132,8 @@ module _ (classes : List ℕ) (ts : Trees) where
         && any (λ o. is_set_within j b o && not (is_set_within i b o)) after))) (sym (same (is_set_of b)))
 
     reordered : (after : List Mention) (m : Mention) (o : Option Binder) → is_twelve before after m o ≡ is_twelve seen after m o
-    reordered after m none = refl
-    reordered after m (some b) = reordered_of after m b m.place.around
+    reordered after m None = refl
+    reordered after m (Some b) = reordered_of after m b m.place.around
 
   seen_more : (p : Mention → Bool) (before seen : List Mention) (m : Mention) → any p seen ≡ any p before → any p (m ∷ seen) ≡ any p (before ++ (m ∷ []))
   unfolding any
@@ -155,14 +154,14 @@ module _ (classes : List ℕ) (ts : Trees) where
   seconds sound before seen (enters b sc ∷ l) is same r =
       let eleven : is_eleven_by S b ≡ is_eleven all b =
       and_assoc b.is_let (is_empty b.around) _ ∙ ap (λ (x : Bool). b.is_let && (is_empty b.around && x)) (shared_is classes ts [] b r.0 sound) in
-      (λ k. cond (eleven k) (some (record { number = 11; at = b.ident.at })) (seconds sound before seen l is same r.1 k))
+      (λ k. cond (eleven k) (Some (record { number = 11; at = b.ident.at })) (seconds sound before seen l is same r.1 k))
   seconds sound before seen (mentions m ∷ l) is same r =
       let twelve : is_twelve_at S m (meant m) ≡ is_twelve seen (mentions_in l) m (meant m) =
       mention_is before (mentions_in l) m is r.0.0 r.0.1 (meant m) refl (find-all m.place.scope r.0.1.around m.ident.name) ∙ reordered
       before seen same (mentions_in l) m (meant m) in
       let rest = seconds sound (before ++ (m ∷ [])) (m ∷ seen) l (is ∙ sym (append_assoc before (m ∷ []) (mentions_in l)))
       (λ p. seen_more p before seen m (same p)) r.1 in
-      (λ k. cond (twelve k) (some (record { number = 12; at = m.ident.at })) (rest k))
+      (λ k. cond (twelve k) (Some (record { number = 12; at = m.ident.at })) (rest k))
   seconds sound before seen (ends i xs sc ∷ l) is same r = seconds sound before seen l is same r.1
 
   ready : (l : List Event) → EachEvent (Known (levels ts)) (Placed (levels ts) 0 (0 + sizes ts)) l → All (Zoned E) l → All NestedAt l → All Ready l
@@ -175,7 +174,7 @@ pub second_exact : SecondExact
 unfolding events fresh
 second_exact classes rs ts a d =
     let n = a.accepted.num in
-    let unnoted = unnoted_of (fresh classes ts).noted none (first-none (fresh classes ts).noted a.not_refused) in
+    let unnoted = unnoted_of (fresh classes ts).noted None (first-none (fresh classes ts).noted a.not_refused) in
     let placed = placed-all (levels ts) 0 ts n top tt (λ i l u. omega arith) in
     let sound = all_map (Placed (levels ts) 0 (0 + sizes ts)) (Sound (levels ts)) (λ n q. q.scope) (mentions_in (events ts))
     (each_all _ (events ts) (each_mention _ _ (events ts) placed)) in
@@ -184,5 +183,5 @@ second_exact classes rs ts a d =
     settled_second classes ts n a.accepted.few d unnoted
     ∙ seconds classes ts sound [] [] (events ts) refl (λ p. refl) (ready classes ts (events ts) placed (script_bounds ts n).zoned nested)
   where
-    first-none : (m : Noted) → refused_first m ≡ none → or_second (refused_first m) none ≡ none
+    first-none : (m : Noted) → refused_first m ≡ None → or_second (refused_first m) None ≡ None
     first-none m e = rw e

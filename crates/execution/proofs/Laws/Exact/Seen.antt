@@ -1,8 +1,8 @@
 -- The mentions that a walk has met, and the captured entries that it has counted; and for each name in scope, what the entry's captured flag says.
-use Rattle.std.specs.Prelude.{ℕ, suc, ◌+◌, Bool, true, false, cond, ◌&&◌, ◌||◌, ◌≡◌, refl, length, get_or, eqb, ltb}
+use Rattle.std.specs.Prelude.{ℕ, suc, ◌+◌, Bool, true, false, cond, ◌&&◌, ◌||◌, ◌≡◌, refl, length, get_or, eqb, ltb, Option, None, Some}
+use Rattle.std.proofs.lemmas.Option.{none-some}
 use mathlib.Core.List.{List, [], ◌∷◌, ◌++◌, append-nil, reverse_aux}
 use Rattle.std.proofs.Math.Bool.{or-false, and-false}
-use Rattle.std.proofs.Math.Option.{Option, none, some, some-ne-none, none-ne-some}
 use Rattle.std.proofs.Common.{ap, subst, ◌∙◌, arith, eqb-true, eq-eqb, ne_eqb}
 use Rattle.std.proofs.Math.Path.{sym}
 use Rattle.std.proofs.Math.Decide.{ℕ_discrete}
@@ -46,9 +46,9 @@ count-append seen n (mentions m ∷ l) r = count-append (m ∷ seen) n l r
 count-append seen n (ends i xs sc ∷ l) r = count-append seen _ l r
 
 -- the first stretch passes the limit, or only the second may
-pub ten_left : (seen : List Mention) (n : ℕ) (l r : List Event) (i : ℕ) → ten_from seen n l ≡ some i → ten_from seen n (l ++ r) ≡ some i
+pub ten_left : (seen : List Mention) (n : ℕ) (l r : List Event) (i : ℕ) → ten_from seen n l ≡ Some i → ten_from seen n (l ++ r) ≡ Some i
 unfolding ten_from
-ten_left seen n [] r i e = absurd (none-ne-some i e)
+ten_left seen n [] r i e = absurd (none-some i e)
 ten_left seen n (enters b sc ∷ l) r i e = ten_left seen n l r i e
 ten_left seen n (mentions m ∷ l) r i e = ten_left (m ∷ seen) n l r i e
 ten_left seen n (ends j xs sc ∷ l) r i e = go (ltb captured_most k) (λ q. ten_left seen k l r i q) e
@@ -56,11 +56,11 @@ ten_left seen n (ends j xs sc ∷ l) r i e = go (ltb captured_most k) (λ q. ten
     k : ℕ
     k = n + list_length seen xs sc sc
 
-    go : (q : Bool) → (ten_from seen k l ≡ some i → ten_from seen k (l ++ r) ≡ some i) → cond q (some j) (ten_from seen k l) ≡ some i → cond q (some j) (ten_from seen k (l ++ r)) ≡ some i
+    go : (q : Bool) → (ten_from seen k l ≡ Some i → ten_from seen k (l ++ r) ≡ Some i) → cond q (Some j) (ten_from seen k l) ≡ Some i → cond q (Some j) (ten_from seen k (l ++ r)) ≡ Some i
     go true h e = e
     go false h e = h e
 
-pub ten_right : (seen : List Mention) (n : ℕ) (l r : List Event) → ten_from seen n l ≡ none → ten_from seen n (l ++ r) ≡ ten_from (seen_after seen l) (count_after seen n l) r
+pub ten_right : (seen : List Mention) (n : ℕ) (l r : List Event) → ten_from seen n l ≡ None → ten_from seen n (l ++ r) ≡ ten_from (seen_after seen l) (count_after seen n l) r
 unfolding ten_from
 ten_right seen n [] r e = refl
 ten_right seen n (enters b sc ∷ l) r e = ten_right seen n l r e
@@ -73,8 +73,8 @@ ten_right seen n (ends j xs sc ∷ l) r e = go (ltb captured_most k) (λ q. ten_
     rest : Option ℕ
     rest = ten_from (seen_after seen l) (count_after seen k l) r
 
-    go : (q : Bool) → (ten_from seen k l ≡ none → ten_from seen k (l ++ r) ≡ rest) → cond q (some j) (ten_from seen k l) ≡ none → cond q (some j) (ten_from seen k (l ++ r)) ≡ rest
-    go true h e = absurd (some-ne-none j e)
+    go : (q : Bool) → (ten_from seen k l ≡ None → ten_from seen k (l ++ r) ≡ rest) → cond q (Some j) (ten_from seen k l) ≡ None → cond q (Some j) (ten_from seen k (l ++ r)) ≡ rest
+    go true h e = absurd (none-some j (sym e))
     go false h e = h e
 
 -- names that enter: nothing is met or counted
@@ -89,7 +89,7 @@ unfolding entering
 count-entering seen n [] sc = refl
 count-entering seen n (b ∷ bs) sc = count-entering seen n bs (b ∷ sc)
 
-pub ten_entering : (seen : List Mention) (n : ℕ) (bs sc : List Binder) → ten_from seen n (entering bs sc) ≡ none
+pub ten_entering : (seen : List Mention) (n : ℕ) (bs sc : List Binder) → ten_from seen n (entering bs sc) ≡ None
 unfolding entering ten_from
 ten_entering seen n [] sc = refl
 ten_entering seen n (b ∷ bs) sc = ten_entering seen n bs (b ∷ sc)

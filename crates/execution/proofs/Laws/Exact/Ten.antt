@@ -1,10 +1,9 @@
 -- Refusal 10 of the fresh run: over the top level, and the claim.
 use Prim.Native.Nat.{ℕ, ◌+◌, ◌≤◌, ◌<◌}
 use mathlib.Core.List.{List, []}
-use Rattle.std.specs.Prelude.{Bool, ◌≡◌}
+use Rattle.std.specs.Prelude.{Bool, ◌≡◌, None}
 use Rattle.std.proofs.Math.Bool.{true, false}
 use Rattle.std.proofs.Common.{true≢false, sym, ◌∙◌}
-use Rattle.std.proofs.Math.Option.{none}
 use Rattle.std.proofs.Math.Path.{refl, ap, subst}
 use native.Mathlib.Omega.{arith}
 use Rattle.tree.specs.Tree.{Ident, Node, Tree, Trees, ident, const, if, letin, define, lambda, sequence, call, set!, nil, cons, size, sizes, Num, Nums}
@@ -27,7 +26,7 @@ use Rattle.pass_laws.specs.Laws.Finds.{Finds, layered}
 use Rattle.pass_laws.specs.Laws.Onward.{Parts, calmly}
 use Rattle.pass_laws.specs.Laws.Onward as onward
 use Rattle.pass_laws.specs.Laws.Reads.{Only}
-use Rattle.pass_laws.specs.Laws.Bodies.{None, no_part}
+use Rattle.pass_laws.specs.Laws.Bodies.{Nowhere, no_part}
 use Rattle.pass_laws.specs.Laws.Globals.{defined_in, value_finds, SparedBy, spared_past, enter_tops}
 use Rattle.pass_laws.specs.Laws.Forms.{Minus}
 use Rattle.pass_laws.specs.Laws.Script.{Left, spared_before, visit_top_lem, walk_top, start_finds}
@@ -47,7 +46,7 @@ module _ (classes : List ℕ) where
 
   module _ {own : ℕ → Type 0} {bottom : List (Live Ident)} {before : List Use} {seen : List Mention} {s : State} (f : Finds own bottom before top s) (w : Seen own before seen []) where
     define_tens : (k : ℕ) (n : Node) (x : Ident) (b : Tree) (q : Bool) → is_lambda b ≡ q → Num k (define n x b) → defines b ≡ []
-        → ((y : ℕ) → k ≤ y → y < k + size (define n x b) → SparedBy (define n x b) y → own y) → (visit_top_define classes q x b s).noted.nine ≡ none
+        → ((y : ℕ) → k ≤ y → y < k + size (define n x b) → SparedBy (define n x b) y → own y) → (visit_top_define classes q x b s).noted.nine ≡ None
         → Counts (Minus own k (k + size (define n x b))) before seen (walk b top) [] s (visit_top_define classes q x b s)
     unfolding Num size
     define_tens k n x b true l m d o e =
@@ -63,7 +62,7 @@ module _ (classes : List ℕ) where
         preceded (value_preserves plain_steps classes x b s) (keeps_noted (value_changes {own = Any} classes x b s tt))
         (fewer (λ y z. ((z.0, λ q. z.1 (omega arith) (omega arith)), λ u v. z.1 (omega arith) (omega arith))) B)
 
-    top_tens : (k : ℕ) (t : Tree) → Num k t → below t ≡ [] → ((y : ℕ) → k ≤ y → y < k + size t → SparedBy t y → own y) → (visit_top classes t s).noted.nine ≡ none
+    top_tens : (k : ℕ) (t : Tree) → Num k t → below t ≡ [] → ((y : ℕ) → k ≤ y → y < k + size t → SparedBy t y → own y) → (visit_top classes t s).noted.nine ≡ None
         → Counts (Minus own k (k + size t)) before seen (walk t top) [] s (visit_top classes t s)
     unfolding visit_top visit below defines walk
     top_tens k (ident x) n d o e = tens classes bottom k (ident x) n d top_flags refl (λ y l u. o y l u tt) f w e
@@ -77,8 +76,8 @@ module _ (classes : List ℕ) where
     top_tens k (set! m x b) n d o e = tens classes bottom k (set! m x b) n d top_flags refl (λ y l u. o y l u tt) f w e
 
   tops_tens : (i j : ℕ) (ts : Trees) → Spread i j ts → below_all ts ≡ [] → {before : List Use} {seen : List Mention} {bottom : List (Live Ident)} {s : State}
-      → Finds (Left i j ts) bottom before top s → Seen (Left i j ts) before seen [] → (visit_tops classes ts s).noted.nine ≡ none
-      → Counts None before seen (walk_all ts top) [] s (visit_tops classes ts s)
+      → Finds (Left i j ts) bottom before top s → Seen (Left i j ts) before seen [] → (visit_tops classes ts s).noted.nine ≡ None
+      → Counts Nowhere before seen (walk_all ts top) [] s (visit_tops classes ts s)
   unfolding visit_tops below_all walk
   tops_tens i j nil p d f w e = fewer (λ y z. absurd z) (nothing plain no_later w)
   tops_tens i j (cons t ts) p d {s = s} f w e =
@@ -99,7 +98,7 @@ module _ (classes : List ℕ) where
 
 module _ (classes : List ℕ) (ts : Trees) where
   -- a fresh run over trees that fit the tables
-  ten_of : Nums 0 ts → sizes ts ≤ rows_most → inner_defines ts ≡ [] → (fresh classes ts).noted.nine ≡ none → (fresh classes ts).noted.ten ≡ ten_in (events ts)
+  ten_of : Nums 0 ts → sizes ts ≤ rows_most → inner_defines ts ≡ [] → (fresh classes ts).noted.nine ≡ None → (fresh classes ts).noted.ten ≡ ten_in (events ts)
   unfolding fresh run start no_facts inner_defines events any
   ten_of n h d e =
       let us = top_level ts in

@@ -1,7 +1,6 @@
 -- A fresh visit of a tree without define counts its captured entries, and notes refusal 10, as R7RS's walk does.
-use Rattle.std.specs.Prelude.{ℕ, ◌+◌, ◌≤◌, true, false, ◌≡◌, refl, length}
+use Rattle.std.specs.Prelude.{ℕ, ◌+◌, ◌≤◌, true, false, ◌≡◌, refl, length, None}
 use mathlib.Core.List.{List, [], ◌++◌, cons-ne-nil}
-use Rattle.std.proofs.Math.Option.{none}
 use Rattle.std.proofs.Common.{ap, sym, subst, arith}
 use Rattle.tree.specs.Tree.{Ident, Tree, Trees, ident, const, if, letin, define, lambda, sequence, call, set!, nil, cons, many, size, sizes, Num, Nums, begins, ands, whens}
 use Rattle.tree.specs.Define.{defines, defines_in}
@@ -42,12 +41,12 @@ module _ (classes : List ℕ) (bottom : List (Live Ident)) where
   -- What a visit leaves to the next
 
   module _ {own : ℕ → Type 0} {before : List Use} {p : Place} {s : State} (i : ℕ) (f : Flags) (h : f.height ≡ p.site.height) where
-    pub found : (t : Tree) → Num i t → defines t ≡ [] → Covers own i (i + size t) → Finds own bottom before p s → (visit classes t f s).noted.nine ≡ none
+    pub found : (t : Tree) → Num i t → defines t ≡ [] → Covers own i (i + size t) → Finds own bottom before p s → (visit classes t f s).noted.nine ≡ None
         → Finds (Minus own i (i + size t)) bottom (before ++ uses_in (walk t p)) p (visit classes t f s)
     found t n d o g e = (visits classes [] presumed bottom i t n d f f.tail refl h o g e).finds
 
     pub found_in_lem : (ts : Trees) → Nums i ts → defines_in ts ≡ [] → f.tail ≡ false → Covers own i (i + sizes ts) → Finds own bottom before p s
-        → (visit_arguments classes ts f s).noted.nine ≡ none
+        → (visit_arguments classes ts f s).noted.nine ≡ None
         → Finds (Minus own i (i + sizes ts)) bottom (before ++ uses_in (walk_arguments ts p)) p (visit_arguments classes ts f s)
     found_in_lem ts n d b o g e = (visits_in classes [] presumed bottom i ts n d f b h o g e).finds
 
@@ -55,7 +54,7 @@ module _ (classes : List ℕ) (bottom : List (Live Ident)) where
     unfolding visit walk defines Num size
 
     pub tens : (i : ℕ) (t : Tree) → Num i t → defines t ≡ [] → (f : Flags) {own : ℕ → Type 0} {before : List Use} {seen : List Mention} {p : Place} {s : State} → f.height ≡ p.site.height
-        → Covers own i (i + size t) → Finds own bottom before p s → Seen own before seen p.scope → (visit classes t f s).noted.nine ≡ none
+        → Covers own i (i + size t) → Finds own bottom before p s → Seen own before seen p.scope → (visit classes t f s).noted.nine ≡ None
         → Counts (Minus own i (i + size t)) before seen (walk t p) p.scope s (visit classes t f s)
     tens i (ident x) n d f {s = s} h o g w e =
         fewer (λ y z. z.0) (mentioned x false (read_preserves plain_steps classes x s) (keeps_noted (read_changes {own = Any} classes x s tt)) g w)
@@ -145,7 +144,7 @@ module _ (classes : List ℕ) (bottom : List (Live Ident)) where
         (lambda_off own i (length xs) (size c)) (g₂.tables.blank m.at (lambda_ends i (length xs) (size c) o n.0)) g₂ C.met in
         both E (both C X)
     tens i (sequence (begins m) es) n d f {own} {before} {seen} {p} {s} h o g w e =
-        subst (λ (u : State). (visit_children classes es (in_begin f) u).noted.nine ≡ none
+        subst (λ (u : State). (visit_children classes es (in_begin f) u).noted.nine ≡ None
         → Counts (Minus own i (i + size (sequence (begins m) es))) before seen (walk_all es p) p.scope s (visit_children classes es (in_begin f) u))
         (sym (none-entered classes es s d))
         (λ q. fewer (λ x z. (z.0, λ l u. z.1 (omega arith) (omega arith))) (tens_all (i + 1) es n.1 d (in_begin f) h (λ x l u. o x (omega arith) (omega arith)) g w q)) e
@@ -186,7 +185,7 @@ module _ (classes : List ℕ) (bottom : List (Live Ident)) where
         (preceded (clear_preserves plain_steps x s) (keeps_noted (clear_changes {free = ⊥} {own = Any} x s)) (both C X))
 
     pub tens_in : (i : ℕ) (ts : Trees) → Nums i ts → defines_in ts ≡ [] → (f : Flags) → f.tail ≡ false → {own : ℕ → Type 0} {before : List Use} {seen : List Mention} {p : Place} {s : State}
-        → f.height ≡ p.site.height → Covers own i (i + sizes ts) → Finds own bottom before p s → Seen own before seen p.scope → (visit_arguments classes ts f s).noted.nine ≡ none
+        → f.height ≡ p.site.height → Covers own i (i + sizes ts) → Finds own bottom before p s → Seen own before seen p.scope → (visit_arguments classes ts f s).noted.nine ≡ None
         → Counts (Minus own i (i + sizes ts)) before seen (walk_arguments ts p) p.scope s (visit_arguments classes ts f s)
     tens_in i nil n d f b h o g w e = fewer (λ y z. z.0) (nothing plain no_later w)
     tens_in i (cons c ts) n d f b {own} {before} {seen} {p} {s} h o g w e =
@@ -203,7 +202,7 @@ module _ (classes : List ℕ) (bottom : List (Live Ident)) where
         fewer (row_off own i (size c) (sizes ts)) (both A R)
 
     tens_tested : (i : ℕ) (ts : Trees) → Nums i ts → defines_in ts ≡ [] → (f : Flags) {own : ℕ → Type 0} {before : List Use} {seen : List Mention} {p : Place} {s : State}
-        → f.height ≡ p.site.height → Covers own i (i + sizes ts) → Finds own bottom before p s → Seen own before seen p.scope → (visit_tested classes ts f s).noted.nine ≡ none
+        → f.height ≡ p.site.height → Covers own i (i + sizes ts) → Finds own bottom before p s → Seen own before seen p.scope → (visit_tested classes ts f s).noted.nine ≡ None
         → Counts (Minus own i (i + sizes ts)) before seen (walk_all ts p) p.scope s (visit_tested classes ts f s)
     tens_tested i nil n d f h o g w e = fewer (λ y z. z.0) (nothing plain no_later w)
     tens_tested i (cons c ts) n d f {own} {before} {seen} {p} {s} h o g w e =
@@ -215,7 +214,7 @@ module _ (classes : List ℕ) (bottom : List (Live Ident)) where
         let c-none = none_left (defines c) (defines_in ts) d in
         let rest-none = none_right (defines c) (defines_in ts) d in
         let o₁ = row_first i (size c) (sizes ts) o in
-        subst (λ (u : State). (visit_children classes ts (in_begin f) u).noted.nine ≡ none
+        subst (λ (u : State). (visit_children classes ts (in_begin f) u).noted.nine ≡ None
         → Counts (Minus own i (i + sizes (cons c ts))) before seen (walk_all (cons c ts) p) p.scope s (visit_children classes ts (in_begin f) u))
         (sym (none-entered classes ts s₁ rest-none))
         (λ e.
@@ -226,7 +225,7 @@ module _ (classes : List ℕ) (bottom : List (Live Ident)) where
         fewer (row_off own i (size c) (sizes ts)) (both A R)) e
 
     pub tens_all : (i : ℕ) (ts : Trees) → Nums i ts → defines_in ts ≡ [] → (f : Flags) {own : ℕ → Type 0} {before : List Use} {seen : List Mention} {p : Place} {s : State}
-        → f.height ≡ p.site.height → Covers own i (i + sizes ts) → Finds own bottom before p s → Seen own before seen p.scope → (visit_children classes ts f s).noted.nine ≡ none
+        → f.height ≡ p.site.height → Covers own i (i + sizes ts) → Finds own bottom before p s → Seen own before seen p.scope → (visit_children classes ts f s).noted.nine ≡ None
         → Counts (Minus own i (i + sizes ts)) before seen (walk_all ts p) p.scope s (visit_children classes ts f s)
     tens_all i nil n d f h o g w e = fewer (λ y z. z.0) (nothing plain no_later w)
     tens_all i (cons c ts) n d f {own} {before} {seen} {p} {s} h o g w e =

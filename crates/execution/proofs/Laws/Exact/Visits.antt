@@ -1,7 +1,6 @@
 -- A visit of a tree without define notes refusal 9 at the first name of R7RS's walk that is live where it enters.
-use Rattle.std.specs.Prelude.{ℕ, suc, ◌≤◌, Bool, true, false, cond, ◌&&◌, ◌≡◌, length, eqb}
+use Rattle.std.specs.Prelude.{ℕ, suc, ◌≤◌, Bool, true, false, cond, ◌&&◌, ◌≡◌, length, eqb, Option, None, Some}
 use mathlib.Core.List.{List, [], ◌∷◌, ◌++◌, reverse_aux, cons-ne-nil}
-use Rattle.std.proofs.Math.Option.{Option, none, some}
 use Rattle.std.proofs.Math.Path.{refl}
 use Rattle.std.proofs.Common.{ap, sym, subst, ◌∙◌, arith, eqb-true}
 use Rattle.tree.specs.Tree.{Ident, Node, Tree, Trees, ident, const, if, letin, define, lambda, sequence, call, set!, nil, cons, many, begins, ands, whens}
@@ -30,7 +29,7 @@ use Rattle.execution.proofs.Laws.Exact.Scope.{first, Scoped, entered_lives, name
 -- from s on to t the walk meets l, where the layer is d and the names in scope are sc
 pub record Notes (d : ℕ) (sc : List Binder) (l : List Event) (s t : State) : Type 0 where
   pub restores : Restores s t
-  pub nine : Scoped d sc (names s) → s.noted.nine ≡ none → t.noted.nine ≡ nine_in l
+  pub nine : Scoped d sc (names s) → s.noted.nine ≡ None → t.noted.nine ≡ nine_in l
 
 module _ {d : ℕ} {sc : List Binder} where
   then : {l r : List Event} {s t u : State} → 1 ≤ depth s → Notes d sc l s t → (1 ≤ depth t → Notes d sc r t u) → Notes d sc (l ++ r) s u
@@ -46,7 +45,7 @@ module _ {d : ℕ} {sc : List Binder} where
 
   -- no 9 is noted
 
-  none-noted : {l : List Event} {s t : State} → nine_in l ≡ none → Restores s t → t.noted.nine ≡ s.noted.nine → Notes d sc l s t
+  none-noted : {l : List Event} {s t : State} → nine_in l ≡ None → Restores s t → t.noted.nine ≡ s.noted.nine → Notes d sc l s t
   none-noted e r q = record { restores = r; nine = λ st n. q ∙ n ∙ sym e }
 
   -- a quiet step, before and after a visit
@@ -79,8 +78,8 @@ read_nine classes x s = by_nine classes (rule_of s x.name) x s
 
 set_nine : (o : Option Ident) (s : State) → (mutate_at o s).noted.nine ≡ s.noted.nine
 unfolding insert amend put_entry
-set_nine none s = refl
-set_nine (some b) s = refl
+set_nine None s = refl
+set_nine (Some b) s = refl
 
 mutate_nine : (x : ℕ) (s : State) → (mutate x s).noted.nine ≡ s.noted.nine
 unfolding mutate
@@ -102,7 +101,7 @@ entered-scoped is_let slot p q xs m st h e =
       layered = entered_layered q.site.layer xs m e (omega (arith, ap (λ (j : ScopeMap Ident). j.depth) st.live)) st.layered;
     }
 
-parameters_nine : (o : Option FunctionInformation) (n : Node) (xs : List Ident) (p : Place) (s : State) → Scoped p.site.layer p.scope (names s) → s.noted.nine ≡ none
+parameters_nine : (o : Option FunctionInformation) (n : Node) (xs : List Ident) (p : Place) (s : State) → Scoped p.site.layer p.scope (names s) → s.noted.nine ≡ None
     → (enter_parameters o xs (open_scope (open_captures o s))).noted.nine ≡ nine_in (entering (parameters n xs p) p.scope)
 unfolding enter_parameters open_scope
 parameters_nine o n xs p s st e = go o refl
@@ -116,15 +115,15 @@ parameters_nine o n xs p s st e = go o refl
     opened : push_layer (names (open_captures o s)) ≡ in_layer (suc p.site.layer) (lives_of p.scope st.bottom)
     opened = ap push_layer (ap (λ (c : Scope). c.names) side.scope ∙ st.live)
 
-    fine : (open_captures o s).noted.nine ≡ none
+    fine : (open_captures o s).noted.nine ≡ None
     fine = ap (λ (n : Noted). n.nine) side.noted ∙ e
 
     two : 2 ≤ suc p.site.layer
     two = omega (arith, scoped-one st)
 
     go : (f : Option FunctionInformation) → o ≡ f → (enter_parameters f xs (open_scope (open_captures o s))).noted.nine ≡ nine_in (entering (parameters n xs p) p.scope)
-    go none r = names_nine _ _ _ _ false 0 q two st.bottom st.low xs 0 0 0 _ p.scope opened fine
-    go (some v) r = names_nine _ _ _ _ false 0 q two st.bottom st.low xs 0 0 0 _ p.scope opened fine
+    go None r = names_nine _ _ _ _ false 0 q two st.bottom st.low xs 0 0 0 _ p.scope opened fine
+    go (Some v) r = names_nine _ _ _ _ false 0 q two st.bottom st.low xs 0 0 0 _ p.scope opened fine
 
 end_nine : (n : Node) (xs : List Ident) (b : Tree) (escapes : Bool) (s : State) → (close_lambda n xs b escapes s).noted.nine ≡ s.noted.nine
 unfolding close_scope close_captures
@@ -178,7 +177,7 @@ opened_layer : {d : ℕ} {sc : List Binder} (m : ScopeMap Ident) → Scoped d sc
 opened_layer m st =
     let_deep m.depth (eqb m.depth 1) refl ∙ ap (λ (j : ScopeMap Ident). cond (eqb j.depth 1) 2 j.depth) st.live
 
-let_nine : (n : Node) (xs : List Ident) (height : ℕ) (function : Option Node) (p : Place) (s : State) → Scoped p.site.layer p.scope (names s) → s.noted.nine ≡ none
+let_nine : (n : Node) (xs : List Ident) (height : ℕ) (function : Option Node) (p : Place) (s : State) → Scoped p.site.layer p.scope (names s) → s.noted.nine ≡ None
     → (open_let n xs height function s).noted.nine ≡ nine_in (entering (let_names xs p) p.scope)
 unfolding open_let
 let_nine n xs height function p s st e =

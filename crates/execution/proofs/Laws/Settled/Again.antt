@@ -1,8 +1,7 @@
 -- What a second visit finds at a place of R7RS's walk: the names in scope are live, each with its entry; its own records have the first run's facts; and
 -- the newest layer of the captures is the list of the innermost lambda.
-use Rattle.std.specs.Prelude.{ℕ, suc, ◌+◌, ◌≤◌, ◌<◌, List, [], ◌∷◌, ◌++◌, Bool, true, false, cond, not, ◌&&◌, ◌≡◌, refl, length, get_or, set, eqb, ltb}
+use Rattle.std.specs.Prelude.{ℕ, suc, ◌+◌, ◌≤◌, ◌<◌, List, [], ◌∷◌, ◌++◌, Bool, true, false, cond, not, ◌&&◌, ◌≡◌, refl, length, get_or, set, eqb, ltb, Option, None, Some}
 use Rattle.std.proofs.Common.{true≢false, ap, sym, subst, ◌∙◌, arith, get_or-set_same, get_or-set_other}
-use Rattle.std.proofs.Math.Option.{Option, none, some}
 use Rattle.std.proofs.Math.Decide.{ℕ_discrete, dec_lt}
 use Rattle.std.proofs.Math.ListN.{get_or-eq_default}
 use Rattle.tree.specs.Tree.{Ident, Node}
@@ -84,19 +83,19 @@ set-held {U} E i e b two h g = go (ℕ_discrete b.ident.at i) (dec_lt b.ident.at
 
 -- what the newest layer has of the name x: nothing if no entry of the list C has it, else a capture of one that has
 pub data CaughtOf (C : List ListEntry) (lo hi x : ℕ) : Option (Live Capture) → Type 0 where
-  none_of : ((q : ℕ) → lo ≤ q → q < hi → ¬ (name_of (get_or C q no_list_entry) ≡ x)) → CaughtOf C lo hi x none
+  none_of : ((q : ℕ) → lo ≤ q → q < hi → ¬ (name_of (get_or C q no_list_entry) ≡ x)) → CaughtOf C lo hi x None
   one_of : {c : Live Capture} → lo ≤ c.value.row → c.value.row < hi → name_of (get_or C c.value.row no_list_entry) ≡ x
-      → c.value.binder ≡ (get_or C c.value.row no_list_entry).binder → CaughtOf C lo hi x (some c)
+      → c.value.binder ≡ (get_or C c.value.row no_list_entry).binder → CaughtOf C lo hi x (Some c)
 
 -- in no lambda nothing is taken
 abbrev pub CaughtIn : List ListEntry → Option Frame → ℕ → Option (Live Capture) → Type 0
-CaughtIn C none x o = o ≡ none
-CaughtIn C (some f) x o = CaughtOf C f.lo f.hi x o
+CaughtIn C None x o = o ≡ None
+CaughtIn C (Some f) x o = CaughtOf C f.lo f.hi x o
 
 -- the entries of the innermost lambda's list are as mutated as the first run left them
 abbrev pub MutatedIn : List ListEntry → Option Frame → List ListEntry → Type 0
-MutatedIn C none D = Unit {0}
-MutatedIn C (some f) D = (q : ℕ) → f.lo ≤ q → q < f.hi → (get_or D q no_list_entry).info.mutated ≡ (get_or C q no_list_entry).info.mutated
+MutatedIn C None D = Unit {0}
+MutatedIn C (Some f) D = (q : ℕ) → f.lo ≤ q → q < f.hi → (get_or D q no_list_entry).info.mutated ≡ (get_or C q no_list_entry).info.mutated
 
 -- the offsets of an entry that is the capture of the name x
 pub record OffsetsAt (f : Frame) (x : ℕ) (v : ScopeInfo) : Type 0 where
@@ -104,8 +103,8 @@ pub record OffsetsAt (f : Frame) (x : ℕ) (v : ScopeInfo) : Type 0 where
   pub unread : eqb v.read_capture_offset NONE ≡ v.mutated
 
 abbrev pub OffsetsIn : Option Frame → Lives → List ListEntry → Type 0
-OffsetsIn none l D = Unit {0}
-OffsetsIn (some f) l D = (x : ℕ) (c : Live Capture) → get_in l x ≡ some c → OffsetsAt f x (get_or D c.value.row no_list_entry).info
+OffsetsIn None l D = Unit {0}
+OffsetsIn (Some f) l D = (x : ℕ) (c : Live Capture) → get_in l x ≡ Some c → OffsetsAt f x (get_or D c.value.row no_list_entry).info
 
 -- the newest layer is d, above the captures `old`
 pub record Catch (C : List ListEntry) (fr : Option Frame) (d : ℕ) (old : Lives) (s : State) : Type 0 where
@@ -141,7 +140,7 @@ pub record ListOf (C : List ListEntry) (f : Frame) : Type 0 where
   pub long : ℕ
   pub to : f.lo + long ≡ f.hi
   pub taken : (r : ℕ) → f.lo ≤ r → r < f.hi → Taken f.after f.xs f.sc (get_or C r no_list_entry)
-  pub times : (x : ℕ) (b : Binder) → has_name x f.xs ≡ false → find f.sc x ≡ some b → used_inside b.ident.at f.after ≡ true
+  pub times : (x : ℕ) (b : Binder) → has_name x f.xs ≡ false → find f.sc x ≡ Some b → used_inside b.ident.at f.after ≡ true
       → count_from C x f.lo long ≡ times_in x f.sc
 
 -- Refusal 12 at a mention of b by the name x, where sc is in scope: b is bound outside the second lambda around, is the only one of its name, is not set by
@@ -155,25 +154,25 @@ is_twelve_by G sc x b (i ∷ j ∷ is) =
 pub record Framed (C : List ListEntry) (G : ℕ → List Use) (f : Frame) (p : Place) : Type 0 where
   pub rest : List ℕ
   pub around : p.around ≡ f.at ∷ rest
-  pub outer : (x : ℕ) (b : Binder) → find p.scope x ≡ some b → ltb (length b.around) (length p.around) ≡ true
-      → (find f.sc x ≡ some b) × (has_name x f.xs ≡ false)
+  pub outer : (x : ℕ) (b : Binder) → find p.scope x ≡ Some b → ltb (length b.around) (length p.around) ≡ true
+      → (find f.sc x ≡ Some b) × (has_name x f.xs ≡ false)
   pub most : (x : ℕ) → times_in x f.sc ≤ times_in x p.scope
-  pub doubled : (x : ℕ) (b c : Binder) → find p.scope x ≡ some b → ltb (length b.around) (length p.around) ≡ false → find f.sc x ≡ some c
+  pub doubled : (x : ℕ) (b c : Binder) → find p.scope x ≡ Some b → ltb (length b.around) (length p.around) ≡ false → find f.sc x ≡ Some c
       → 2 ≤ times_in x p.scope
-  pub refuses : (x : ℕ) (b : Binder) → find p.scope x ≡ some b → ltb (length b.around) (length p.around) ≡ true
+  pub refuses : (x : ℕ) (b : Binder) → find p.scope x ≡ Some b → ltb (length b.around) (length p.around) ≡ true
       → All (λ k. used_inside b.ident.at (G k) ≡ true) p.around
       → f.refuses x ≡ is_twelve_by G p.scope x b p.around
   pub ends : G f.at ≡ f.after
   pub list : ListOf C f
 
 abbrev pub FramedIn : List ListEntry → (ℕ → List Use) → Option Frame → Place → Type 0
-FramedIn C G none p = p.around ≡ []
-FramedIn C G (some f) p = Framed C G f p
+FramedIn C G None p = p.around ≡ []
+FramedIn C G (Some f) p = Framed C G f p
 
 -- the fact of the lambda around, n
 abbrev pub FunctionIn : List Row → (ℕ → Type 0) → Option Node → State → Type 0
-FunctionIn T own none s = Unit {0}
-FunctionIn T own (some n) s = (key (row_at s n.at) ≡ key (get_or T n.at Blank)) × (own n.at → ⊥)
+FunctionIn T own None s = Unit {0}
+FunctionIn T own (Some n) s = (key (row_at s n.at) ≡ key (get_or T n.at Blank)) × (own n.at → ⊥)
 
 -- the tables and names of the first run and of the script
 pub record Script : Type 0 where
@@ -216,8 +215,8 @@ tabled {bottom = bottom} parts u c =
 
 -- the lambda around stays
 pub function_still : (T : List Row) {own out left : ℕ → Type 0} {s t : State} (o : Option Node) → Parts own out left → Moves out s t → FunctionIn T own o s → FunctionIn T left o t
-function_still T none parts c q = tt
-function_still T (some n) parts c q = (moves_key c n.at (λ o. q.1 (parts.written n.at o)) ∙ q.0, λ o. q.1 (parts.kept n.at o))
+function_still T None parts c q = tt
+function_still T (Some n) parts c q = (moves_key c n.at (λ o. q.1 (parts.written n.at o)) ∙ q.0, λ o. q.1 (parts.kept n.at o))
 
 module _ (S : Script) where
   -- own: the records left to visit; function: the lambda around

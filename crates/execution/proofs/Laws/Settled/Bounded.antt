@@ -1,10 +1,10 @@
 -- Which uses there are by the end of each let and lambda, against all uses U of the script, and against those by each lambda's end, G; and what that tells
 -- of the innermost lambda of a place.
-use Rattle.std.specs.Prelude.{ℕ, suc, ◌+◌, ◌≤◌, Bool, true, false, cond, not, ◌&&◌, ◌||◌, ◌≡◌, refl, length, eqb, ltb}
+use Rattle.std.specs.Prelude.{ℕ, suc, ◌+◌, ◌≤◌, Bool, true, false, cond, not, ◌&&◌, ◌||◌, ◌≡◌, refl, length, eqb, ltb, Option, None, Some}
+use Rattle.std.proofs.lemmas.Option.{same_Some}
 use mathlib.Core.List.{List, [], ◌∷◌, ◌++◌, reverse_aux}
 use Rattle.std.proofs.Math.Bool.{and-false}
 use Rattle.std.proofs.Common.{true≢false, ap, sym, subst, ◌∙◌, arith, ltb-true, lt-ltb, eqb-true, eq-eqb, ne_eqb}
-use Rattle.std.proofs.Math.Option.{Option, none, some, some-injective}
 use Rattle.std.proofs.lemmas.Bool.{eqb-false}
 use Rattle.tree.specs.Tree as tree
 use Rattle.tree.specs.Tree.{Ident, Node, Tree, Trees, ident, const, if, letin, define, lambda, sequence, call, set!, nil, cons}
@@ -61,20 +61,20 @@ module _ (U : List Use) (G : ℕ → List Use) where
 
 -- a name bound outside it is not found among the names of its own body
 find_outer : (is_let : Bool) (base : ℕ) (q : Place) (j : ℕ) (xs : List Ident) (sc : List Binder) (x : ℕ) (b : Binder)
-    → find (reverse_aux (binders is_let base q j xs) sc) x ≡ some b
-    → ltb (length b.around) (length q.around) ≡ true → find sc x ≡ some b
+    → find (reverse_aux (binders is_let base q j xs) sc) x ≡ Some b
+    → ltb (length b.around) (length q.around) ≡ true → find sc x ≡ Some b
 unfolding binders
 find_outer is_let base q j [] sc x b e i = e
 find_outer is_let base q j (y ∷ ys) sc x b e i =
     let c : Binder = record { ident = y; is_let = is_let; place = j; around = q.around; home = home_at q.site (base + j) } in
     go c refl (eqb y.name x) (find_outer is_let base q (suc j) ys (c ∷ sc) x b e i)
   where
-    go : (c : Binder) → c.around ≡ q.around → (z : Bool) → cond z (some c) (find sc x) ≡ some b → find sc x ≡ some b
+    go : (c : Binder) → c.around ≡ q.around → (z : Bool) → cond z (Some c) (find sc x) ≡ Some b → find sc x ≡ Some b
     go c a true g =
         absurd (omega (
           arith,
           ltb-true (length b.around) (length q.around) i,
-          ap (λ (d : Binder). length d.around) (some-injective c b g),
+          ap (λ (d : Binder). length d.around) (same_Some c b g),
           ap
               length a,
         ))
@@ -82,7 +82,7 @@ find_outer is_let base q j (y ∷ ys) sc x b e i =
 
 -- nor has it a parameter's name
 named-own : (is_let : Bool) (base : ℕ) (q : Place) (j : ℕ) (xs : List Ident) (sc : List Binder) (x : ℕ) (b : Binder)
-    → find (reverse_aux (binders is_let base q j xs) sc) x ≡ some b
+    → find (reverse_aux (binders is_let base q j xs) sc) x ≡ Some b
     → ltb (length b.around) (length q.around) ≡ true → has_name x xs ≡ false
 unfolding binders
 named-own is_let base q j [] sc x b e i = refl
@@ -91,14 +91,14 @@ named-own is_let base q j (y ∷ ys) sc x b e i =
     let rest = named-own is_let base q (suc j) ys (c ∷ sc) x b e i in
     rw rest (go c refl (eqb x y.name) refl (sym (find_past is_let base q (suc j) ys (c ∷ sc) x rest) ∙ e))
   where
-    go : (c : Binder) → c.around ≡ q.around → (z : Bool) → eqb x y.name ≡ z → cond (eqb y.name x) (some c) (find sc x) ≡ some b → z || false ≡ false
+    go : (c : Binder) → c.around ≡ q.around → (z : Bool) → eqb x y.name ≡ z → cond (eqb y.name x) (Some c) (find sc x) ≡ Some b → z || false ≡ false
     go c a true z g =
-        let hit : cond (eqb y.name x) (some c) (find sc x) ≡ some c = rw (eq-eqb y.name x (sym (eqb-true x y.name z))) in
+        let hit : cond (eqb y.name x) (Some c) (find sc x) ≡ Some c = rw (eq-eqb y.name x (sym (eqb-true x y.name z))) in
         absurd (omega (
           arith,
           ltb-true (length b.around) (length q.around) i,
           ap (λ (d : Binder). length d.around)
-              (some-injective c b (sym hit ∙ g)),
+              (same_Some c b (sym hit ∙ g)),
           ap length a,
         ))
     go c a false z g = refl
@@ -153,8 +153,8 @@ twelve_times G sc sd x b (i ∷ j ∷ is) e =
 module _ (C : List ListEntry) (G : ℕ → List Use) where
   -- the same at another height
   pub framed_raised : (fr : Option Frame) (k : ℕ) (p : Place) → FramedIn C G fr p → FramedIn C G fr (raised k p)
-  framed_raised none k p w = w
-  framed_raised (some f) k p w =
+  framed_raised None k p w = w
+  framed_raised (Some f) k p w =
       record {
         rest = w.rest;
         around = w.around;
@@ -177,8 +177,8 @@ module _ (C : List ListEntry) (G : ℕ → List Use) where
 
   -- in the body of a let
   pub framed_let : (fr : Option Frame) (xs : List Ident) (p : Place) → FramedIn C G fr p → FramedIn C G fr (within (let_names xs p) (let_body (length xs) p))
-  framed_let none xs p w = w
-  framed_let (some f) xs p w =
+  framed_let None xs p w = w
+  framed_let (Some f) xs p w =
       let q = let_body (length xs) p in
       record {
         rest = w.rest;
@@ -202,11 +202,11 @@ swap_tests true n h = refl
 swap_tests false n h = and-false n
 
 module _ (C : List ListEntry) (G : ℕ → List Use) (p : Place) (after : List Use) (k : ℕ) (ends : G k ≡ after) (x : ℕ) (b : Binder)
-    (found : find p.scope x ≡ some b)
+    (found : find p.scope x ≡ Some b)
     (u : All (λ k. used_inside b.ident.at (G k) ≡ true) p.around) where
-  refused_in : (fr : Option Frame) → FramedIn C G fr p → refuses_binder fr p.scope after x (some b) ≡ is_twelve_by G p.scope x b (k ∷ p.around)
-  refused_in none w = rw (w, and-false (eqb (times_in x p.scope) 1), and-false (not (is_set_in b.ident.at after)))
-  refused_in (some f) w = rw (w.around, ends) (go (ltb (length b.around) (suc (length w.rest))) refl)
+  refused_in : (fr : Option Frame) → FramedIn C G fr p → refuses_binder fr p.scope after x (Some b) ≡ is_twelve_by G p.scope x b (k ∷ p.around)
+  refused_in None w = rw (w, and-false (eqb (times_in x p.scope) 1), and-false (not (is_set_in b.ident.at after)))
+  refused_in (Some f) w = rw (w.around, ends) (go (ltb (length b.around) (suc (length w.rest))) refl)
     where
       deep : length p.around ≡ suc (length w.rest)
       deep = ap length w.around
@@ -218,23 +218,23 @@ module _ (C : List ListEntry) (G : ℕ → List Use) (p : Place) (after : List U
       N = not (is_set_in b.ident.at after)
 
       go : (i : Bool) → ltb (length b.around) (suc (length w.rest)) ≡ i
-          → (N && (T && held_set (some f) x)) ≡ (i && (T && (N && is_set_in b.ident.at (G f.at))))
+          → (N && (T && held_set (Some f) x)) ≡ (i && (T && (N && is_set_in b.ident.at (G f.at))))
       go true i =
           let o = w.outer x b found (ap (ltb (length b.around)) deep ∙ i) in
           let used : used_inside b.ident.at f.after ≡ true = ap (used_inside b.ident.at) (sym w.ends) ∙ (subst
           (All (λ k. used_inside b.ident.at (G k) ≡ true)) w.around u).0 in
-          swap_tests T N (held_set (some f) x) ∙ ap (λ (h : Bool). T && (N && h)) (rw (o.1, o.0, used) (ap (is_set_in b.ident.at) (sym w.ends)))
+          swap_tests T N (held_set (Some f) x) ∙ ap (λ (h : Bool). T && (N && h)) (rw (o.1, o.0, used) (ap (is_set_in b.ident.at) (sym w.ends)))
       go false i = ap (λ (h : Bool). N && h) (one T refl) ∙ and-false N
         where
           held : (g : Option Binder) → find f.sc x ≡ g → times_in x p.scope ≡ 1 → held_of f g ≡ false
-          held none e t = refl
-          held (some c) e t = absurd (omega (arith, w.doubled x b c found (ap (ltb (length b.around)) deep ∙ i) e))
+          held None e t = refl
+          held (Some c) e t = absurd (omega (arith, w.doubled x b c found (ap (ltb (length b.around)) deep ∙ i) e))
 
           bare : (h : Bool) → times_in x p.scope ≡ 1 → cond h false (held_of f (find f.sc x)) ≡ false
           bare true t = refl
           bare false t = held (find f.sc x) refl t
 
-          one : (t : Bool) → T ≡ t → (t && held_set (some f) x) ≡ false
+          one : (t : Bool) → T ≡ t → (t && held_set (Some f) x) ≡ false
           one true e = bare (has_name x f.xs) (eqb-true (times_in x p.scope) 1 e)
           one false e = refl
 
@@ -260,9 +260,9 @@ framed_lambda C G fr n xs p lo hi after e k w most =
       list = record { long = k.info.captured_vars.length; to = k.to; taken = k.taken; times = k.times };
     }
   where
-    further : (x : ℕ) (b : Binder) → ltb (length b.around) (suc (length p.around)) ≡ false → find p.scope x ≡ some b
+    further : (x : ℕ) (b : Binder) → ltb (length b.around) (suc (length p.around)) ≡ false → find p.scope x ≡ Some b
         → Of (λ c. length c.around ≤ length p.around) (find p.scope x) → ⊥
     further x b i e o = go (subst (Of (λ c. length c.around ≤ length p.around)) e o)
       where
-        go : Of (λ c. length c.around ≤ length p.around) (some b) → ⊥
+        go : Of (λ c. length c.around ≤ length p.around) (Some b) → ⊥
         go (of_some h) = true≢false (sym (lt-ltb (length b.around) (suc (length p.around)) (omega arith)) ∙ i)

@@ -1,8 +1,7 @@
 -- The uses by the end of each let and lambda of a script, and the events of each lambda.
-use Rattle.std.specs.Prelude.{ℕ, suc, ◌+◌, ◌≤◌, ◌<◌, Bool, true, false, ◌||◌, ◌≡◌, refl, length, eqb}
+use Rattle.std.specs.Prelude.{ℕ, suc, ◌+◌, ◌≤◌, ◌<◌, Bool, true, false, ◌||◌, ◌≡◌, refl, length, eqb, Option, Some}
 use mathlib.Core.List.{List, [], ◌∷◌, ◌++◌, append_assoc, reverse_aux}
 use Rattle.std.proofs.Math.Bool.{or-false, or-true}
-use Rattle.std.proofs.Math.Option.{Option, some}
 use Rattle.std.proofs.Math.Path.{ap, sym}
 use Rattle.std.proofs.Common.{◌∙◌, arith, eq-eqb, ne_eqb}
 use Rattle.tree.specs.Tree.{Ident, Node, Tree, Trees, ident, const, if, letin, define, lambda, sequence, call, set!, nil, cons, many, size, sizes, NumNames, Num, Nums}
@@ -62,7 +61,7 @@ any_middle p l m r e =
     any_append p l (m ++ r) ∙ ap (λ (q : Bool). any_use p l || q) (any_append p m r ∙ ap (λ (q : Bool). q || any_use p r) e) ∙ or-true (any_use p l)
 
 -- The uses of a mention
-module _ (m : Mention) (b : Binder) (e : meant m ≡ some b) where
+module _ (m : Mention) (b : Binder) (e : meant m ≡ Some b) where
   inner_here : is_inner m b ≡ true → used_inside b.ident.at (uses_in (mentions m ∷ [])) ≡ true
   inner_here i = rw (e, i, eq-eqb b.ident.at b.ident.at refl)
 

@@ -1,6 +1,5 @@
 -- What a part of a second visit does, and how parts are put together.
-use Rattle.std.specs.Prelude.{ℕ, ◌≤◌, List, ◌++◌, ◌≡◌, refl}
-use Rattle.std.proofs.Math.Option.{Option, none}
+use Rattle.std.specs.Prelude.{ℕ, ◌≤◌, List, ◌++◌, ◌≡◌, refl, Option, None}
 use Rattle.std.proofs.Common.{◌∙◌, arith}
 use Rattle.tree.specs.Tree.{Ident, Node}
 use Rattle.scope_map.specs.ScopeMap.{Live}
@@ -26,7 +25,7 @@ module _ (classes : List ℕ) (S : Script) (bottom : List (Live Ident)) where
     pub again : Again S left bottom function fr d old p t
     pub outside : (r : ℕ) → Off lo hi r → list_entry_at t r ≡ list_entry_at s r
     pub tells : (R : List Row) → Agree i j R t → TellsAll classes S R (cell_of bottom) l
-    pub second : s.noted.second ≡ none → t.noted.second ≡ second_by S l
+    pub second : s.noted.second ≡ None → t.noted.second ≡ second_by S l
 
 -- fewer records
 pub fewer_again : (S : Script) {own left : ℕ → Type 0} {bottom : List (Live Ident)} {function : Option Node} {fr : Option Frame} {d : ℕ} {old : Lives}

@@ -1,7 +1,6 @@
 -- A let and a lambda at their end, on a fresh run: the entries of their names, and the captured list, are those of `Kept`.
-use Rattle.std.specs.Prelude.{ℕ, ◌+◌, ◌-◌, ◌≤◌, ◌<◌, Bool, true, false, ◌≡◌, refl, length, get_or}
+use Rattle.std.specs.Prelude.{ℕ, ◌+◌, ◌-◌, ◌≤◌, ◌<◌, Bool, true, false, ◌≡◌, refl, length, get_or, Option, None}
 use mathlib.Core.List.{List, map, reverse_aux}
-use Rattle.std.proofs.Math.Option.{Option, none}
 use Rattle.std.proofs.Common.{ap, sym, subst, ◌∙◌, arith}
 use Rattle.std.proofs.lemmas.List.Edits.{sets}
 use Rattle.tree.specs.Tree.{Ident, Node, Tree}
@@ -26,8 +25,8 @@ use Rattle.execution.proofs.Laws.Settled.Kept.{count_from, NamesKept, LetKept, L
 
 -- neither 9 nor 10 is noted
 pub record Unnoted (n : Noted) : Type 0 where
-  pub nine : n.nine ≡ none
-  pub ten : n.ten ≡ none
+  pub nine : n.nine ≡ None
+  pub ten : n.ten ≡ None
 
 pub unnoted : {m n : Noted} → Later m n → Unnoted n → Unnoted m
 unnoted l u = record { nine = l.nine u.nine; ten = l.ten u.ten }
@@ -103,7 +102,7 @@ module _ {T : List Row} {C A : List ListEntry} where
       (p : Place) (s : State)
       → n.at ≡ i → own n.at → 1 ≤ p.site.layer → All (Around p.site.layer p.around) p.scope
       → Finds own bottom after (within (parameters n xs p) (lambda_body n (length xs) p)) s
-      → Room (length xs) s → (close_lambda n xs b escapes s).noted.ten ≡ none
+      → Room (length xs) s → (close_lambda n xs b escapes s).noted.ten ≡ None
       → Leaves T C A i (i + 1) (length xs) s (close_lambda n xs b escapes s) (LambdaKept T C A (top_of s) (top_of (close_lambda n xs b escapes s)) after n xs
       p.scope)
   lambda_leaves {bottom = bottom} {after} i n xs b escapes p s m o one around f r ten =

@@ -1,7 +1,6 @@
 -- The parts of each form of a second visit put together.
 use Prim.Native.Nat.{ℕ, suc, ◌+◌, ◌≤◌}
-use Rattle.std.specs.Prelude.{List, [], ◌∷◌, ◌++◌, Bool, ◌≡◌}
-use Rattle.std.proofs.Math.Option.{Option, none, some}
+use Rattle.std.specs.Prelude.{List, [], ◌∷◌, ◌++◌, Bool, ◌≡◌, Option, None, Some}
 use Rattle.std.proofs.Math.Path.{refl}
 use Rattle.std.proofs.Common.{◌∙◌, arith}
 use Rattle.std.proofs.Math.ListN.{length}
@@ -33,8 +32,8 @@ use Rattle.execution.proofs.Laws.Settled.Reforms.{idle_list-entry, let_did, lamb
 
 -- the list of the lambda around lies further on
 above : (fr : Option Frame) {k hi : ℕ} → k ≤ hi → Above hi fr → Above k fr
-above none h a = tt
-above (some f) h a = omega arith
+above None h a = tt
+above (Some f) h a = omega arith
 
 module _ (classes : List ℕ) (S : Script) (bottom : List (Live Ident)) where
   if_did : (i : ℕ) (m : Node) (x y c : Tree) (own : ℕ → Type 0) (fn : Option Node) (fr : Option Frame) (d : ℕ) (old : Lives) (p : Place) (s s₁ s₂ s₃ : State)
@@ -143,7 +142,7 @@ module _ (classes : List ℕ) (S : Script) (bottom : List (Live Ident)) where
       (s s₁ u : State) (lo k hi : ℕ) (after : List Use) → m.at ≡ i → NumNames (i + 1) xs → height ≡ p.site.height → Covers own i (i + size (letin m xs es c))
       → lo ≤ k → k ≤ hi
       → LetKept S.T S.C S.A after m xs → Closed S.U after xs → opened ≡ at_bottom (with_context ctx s₁)
-      → (open_let m xs height fn (with_context ctx s₁)).noted.nine ≡ none
+      → (open_let m xs height fn (with_context ctx s₁)).noted.nine ≡ None
       → Pending S.C lo hi s → Above hi fr → FunctionOf S.T fn p.around
       → (Covers own (i + 1 + length xs) (i + 1 + length xs + sizes es) → Pending S.C lo k s → Above k fr
       → Did classes S bottom (Minus own (i + 1 + length xs) (i + 1 + length xs + sizes es)) fn fr d old p (walk_arguments es p) (i + 1 + length xs)
@@ -193,17 +192,17 @@ module _ (classes : List ℕ) (S : Script) (bottom : List (Live Ident)) where
   pub lambda_case : (i : ℕ) (m : Node) (xs : List Ident) (c : Tree) (escapes : Bool) (fn : Option Node) (own : ℕ
       → Type 0) (fr : Option Frame) (d : ℕ) (old : Lives) (p : Place) (s u : State)
       (lo mid hi : ℕ) (after : List Use) → m.at ≡ i → NumNames (i + 1) xs → Covers own i (i + size (lambda m xs c)) → lo ≤ mid → mid ≤ hi
-      → LambdaKept S.T S.C S.A mid hi after m xs p.scope → Closed S.U after xs → (open_lambda m xs s).noted.nine ≡ none → Above hi fr
+      → LambdaKept S.T S.C S.A mid hi after m xs p.scope → Closed S.U after xs → (open_lambda m xs s).noted.nine ≡ None → Above hi fr
       → FramedIn S.C S.G fr p → Again S own bottom fn fr d old p s
       → Pending S.C lo hi s → ((own : ℕ → Type 0) → Covers own (i + 1 + length xs) (i + 1 + length xs + size c) → Changes own (open_lambda m xs s) u)
       → Moves own s (close_lambda m xs c escapes u)
-      → (Again S (Minus own i (i + 1 + length xs)) bottom (some m) (some (frame_of fr m mid hi xs p.scope after)) (suc d) s.captures.live
+      → (Again S (Minus own i (i + 1 + length xs)) bottom (Some m) (Some (frame_of fr m mid hi xs p.scope after)) (suc d) s.captures.live
       (within (parameters m xs p) (lambda_body m (length xs) p))
       (open_lambda m xs s) → Pending S.C lo mid (open_lambda m xs s) → Covers (Minus own i (i + 1 + length xs)) (i + 1 + length xs)
       (i + 1 + length xs + size c)
-      → Above mid (some (frame_of fr m mid hi xs p.scope after))
-      → Did classes S bottom (Minus (Minus own i (i + 1 + length xs)) (i + 1 + length xs) (i + 1 + length xs + size c)) (some m)
-      (some (frame_of fr m mid hi xs p.scope after)) (suc d) s.captures.live
+      → Above mid (Some (frame_of fr m mid hi xs p.scope after))
+      → Did classes S bottom (Minus (Minus own i (i + 1 + length xs)) (i + 1 + length xs) (i + 1 + length xs + size c)) (Some m)
+      (Some (frame_of fr m mid hi xs p.scope after)) (suc d) s.captures.live
       (within (parameters m xs p) (lambda_body m (length xs) p)) (walk c (within (parameters m xs p) (lambda_body m (length xs) p))) (i + 1 + length xs)
       (i + 1 + length xs + size c) lo mid
       (open_lambda m xs s) u)

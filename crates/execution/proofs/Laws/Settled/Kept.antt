@@ -1,8 +1,7 @@
 -- What a fresh run leaves in the tables, tree by tree: of each let and lambda the flags of its names at its end; of each lambda its captured list. The
 -- captured lists of a tree lie one after another, in the order of the walk.
-use Rattle.std.specs.Prelude.{ℕ, zero, suc, ◌+◌, ◌≤◌, ◌<◌, Bool, true, false, cond, ◌≡◌, refl, length, get_or, eqb}
+use Rattle.std.specs.Prelude.{ℕ, zero, suc, ◌+◌, ◌≤◌, ◌<◌, Bool, true, false, cond, ◌≡◌, refl, length, get_or, eqb, Some}
 use mathlib.Core.List.{List, [], ◌∷◌, ◌++◌, reverse_aux}
-use Rattle.std.proofs.Math.Option.{some}
 use Rattle.std.proofs.Common.{ap, ◌∙◌, arith}
 use Rattle.tree.specs.Tree as tree
 use Rattle.tree.specs.Tree.{Ident, Node, Tree, Trees, ident, const, if, letin, define, lambda, sequence, call, set!, nil, cons, many}
@@ -53,7 +52,7 @@ module _ (T : List Row) (C A : List ListEntry) where
     pub to : lo + info.captured_vars.length ≡ hi
     pub few : hi ≤ captured_most
     pub taken : (r : ℕ) → lo ≤ r → r < hi → Taken after xs sc (get_or C r no_list_entry)
-    pub times : (x : ℕ) (b : Binder) → has_name x xs ≡ false → find sc x ≡ some b → used_inside b.ident.at after ≡ true
+    pub times : (x : ℕ) (b : Binder) → has_name x xs ≡ false → find sc x ≡ Some b → used_inside b.ident.at after ≡ true
         → count_from C x lo info.captured_vars.length ≡ times_in x sc
 
   unfoldable mutual

@@ -1,8 +1,8 @@
 -- The newest layer of the captures: its names stand before the older ones, and a name is found there first.
-use Rattle.std.specs.Prelude.{ℕ, suc, ◌-◌, ◌≤◌, ◌<◌, List, [], ◌∷◌, ◌++◌, Bool, true, false, cond, ◌&&◌, ◌||◌, ◌≡◌, refl, eqb}
+use Rattle.std.specs.Prelude.{ℕ, suc, ◌-◌, ◌≤◌, ◌<◌, List, [], ◌∷◌, ◌++◌, Bool, true, false, cond, ◌&&◌, ◌||◌, ◌≡◌, refl, eqb, Option, None, Some}
+use Rattle.std.proofs.lemmas.Option.{same_Some, none-some}
 use Rattle.std.proofs.Math.Bool.{and-false}
 use Rattle.std.proofs.Common.{true≢false, ap, sym, ◌∙◌, arith, eqb-true, eq-eqb, ne_eqb, lt-ltb}
-use Rattle.std.proofs.Math.Option.{Option, none, some, some-injective, none-ne-some}
 use Rattle.tree.specs.Accepted.{All}
 use Rattle.scope_map.specs.ScopeMap.{ScopeMap, Live, is_at, has_in, replace_in, below_layer, get_in, define, pop_layer, has_at_top}
 use Rattle.pass.specs.State.{Capture}
@@ -20,8 +20,8 @@ Below d l = All (λ (e : Live Capture). e.layer < d) l
 -- one list before another
 
 abbrev pub or_else : Option (Live Capture) → Option (Live Capture) → Option (Live Capture)
-or_else none o = o
-or_else (some e) o = some e
+or_else None o = o
+or_else (Some e) o = Some e
 
 pub get-append : (l old : Lives) (x : ℕ) → get_in (l ++ old) x ≡ or_else (get_in l x) (get_in old x)
 unfolding get_in
@@ -29,7 +29,7 @@ get-append [] old x = refl
 get-append (e ∷ l) old x = go (eqb e.name x) (get-append l old x)
   where
     go : (b : Bool) → get_in (l ++ old) x ≡ or_else (get_in l x) (get_in old x)
-        → cond b (some e) (get_in (l ++ old) x) ≡ or_else (cond b (some e) (get_in l x)) (get_in old x)
+        → cond b (Some e) (get_in (l ++ old) x) ≡ or_else (cond b (Some e) (get_in l x)) (get_in old x)
     go true q = refl
     go false q = q
 
@@ -65,7 +65,7 @@ pub record Puts (d x : ℕ) (v : Capture) (l old : Lives) (m : Lives) : Type 0 w
   pub top : Lives
   pub is : m ≡ top ++ old
   pub layer : InLayer d top
-  pub here : get_in top x ≡ some (capture d x v)
+  pub here : get_in top x ≡ Some (capture d x v)
   pub others : (y : ℕ) → ¬ (y ≡ x) → get_in top y ≡ get_in l y
 
 replaced_layer : (d x : ℕ) (v : Capture) (l : Lives) → InLayer d l → InLayer d (replace_in d x v l)
@@ -77,14 +77,14 @@ replaced_layer d x v (e ∷ l) a = go (is_at d x e) (replaced_layer d x v l a.1)
     go true r = (refl, a.1)
     go false r = (a.0, r)
 
-replaced_here : (d x : ℕ) (v : Capture) (l : Lives) → InLayer d l → has_in d x l ≡ true → get_in (replace_in d x v l) x ≡ some (capture d x v)
+replaced_here : (d x : ℕ) (v : Capture) (l : Lives) → InLayer d l → has_in d x l ≡ true → get_in (replace_in d x v l) x ≡ Some (capture d x v)
 unfolding replace_in has_in get_in
 replaced_here d x v [] a h = absurd (true≢false (sym h))
 replaced_here d x v (e ∷ l) a h =
     go (eqb e.name x) refl (λ q. replaced_here d x v l a.1 q) (rw (eq-eqb e.layer d a.0) at h)
   where
-    go : (b : Bool) → eqb e.name x ≡ b → (has_in d x l ≡ true → get_in (replace_in d x v l) x ≡ some (capture d x v)) → b || has_in d x l ≡ true
-        → get_in (cond (is_at d x e) (capture d x v ∷ l) (e ∷ replace_in d x v l)) x ≡ some (capture d x v)
+    go : (b : Bool) → eqb e.name x ≡ b → (has_in d x l ≡ true → get_in (replace_in d x v l) x ≡ Some (capture d x v)) → b || has_in d x l ≡ true
+        → get_in (cond (is_at d x e) (capture d x v ∷ l) (e ∷ replace_in d x v l)) x ≡ Some (capture d x v)
     go true q k z = rw (eq-eqb e.layer d a.0, q, eq-eqb x x refl)
     go false q k z = rw (q, and-false (eqb e.layer d), q) (k z)
 
@@ -94,10 +94,10 @@ replaced-others d x v [] y n = refl
 replaced-others d x v (e ∷ l) y n = go (eqb e.layer d) (eqb e.name x) refl (replaced-others d x v l y n)
   where
     go : (p q : Bool) → eqb e.name x ≡ q → get_in (replace_in d x v l) y ≡ get_in l y
-        → get_in (cond (p && q) (capture d x v ∷ l) (e ∷ replace_in d x v l)) y ≡ cond (eqb e.name y) (some e) (get_in l y)
+        → get_in (cond (p && q) (capture d x v ∷ l) (e ∷ replace_in d x v l)) y ≡ cond (eqb e.name y) (Some e) (get_in l y)
     go true true z k = rw (ne_eqb x y (λ h. n (sym h)), ne_eqb e.name y (λ h. n (sym h ∙ eqb-true e.name x z)))
-    go true false z k = ap (λ (o : Option (Live Capture)). cond (eqb e.name y) (some e) o) k
-    go false q z k = ap (λ (o : Option (Live Capture)). cond (eqb e.name y) (some e) o) k
+    go true false z k = ap (λ (o : Option (Live Capture)). cond (eqb e.name y) (Some e) o) k
+    go false q z k = ap (λ (o : Option (Live Capture)). cond (eqb e.name y) (Some e) o) k
 
 pub puts : (d x : ℕ) (v : Capture) (l old : Lives) (m : ScopeMap Capture) → m.depth ≡ d → m.live ≡ l ++ old → InLayer d l → Below d old
     → Puts d x v l old (define x v m).live
@@ -137,23 +137,23 @@ pub record Uses (d x : ℕ) (c : Live Capture) (l old : Lives) (m : Lives) : Typ
   pub top : Lives
   pub is : m ≡ top ++ old
   pub layer : InLayer d top
-  pub here : get_in top x ≡ some (used_live c)
+  pub here : get_in top x ≡ Some (used_live c)
   pub others : (y : ℕ) → ¬ (y ≡ x) → get_in top y ≡ get_in l y
 
-pub uses : (d x : ℕ) (c : Live Capture) (l old : Lives) → InLayer d l → get_in l x ≡ some c → Uses d x c l old (use_in x (l ++ old))
+pub uses : (d x : ℕ) (c : Live Capture) (l old : Lives) → InLayer d l → get_in l x ≡ Some c → Uses d x c l old (use_in x (l ++ old))
 unfolding use_in get_in
-uses d x c [] old a g = absurd (none-ne-some c g)
+uses d x c [] old a g = absurd (none-some c g)
 uses d x c (e ∷ l) old a g = go (eqb e.name x) refl (λ q. uses d x c l old a.1 q) g
   where
-    go : (b : Bool) → eqb e.name x ≡ b → (get_in l x ≡ some c → Uses d x c l old (use_in x (l ++ old))) → cond b (some e) (get_in l x) ≡ some c
+    go : (b : Bool) → eqb e.name x ≡ b → (get_in l x ≡ Some c → Uses d x c l old (use_in x (l ++ old))) → cond b (Some e) (get_in l x) ≡ Some c
         → Uses d x c (e ∷ l) old (cond b (used_live e ∷ (l ++ old)) (e ∷ use_in x (l ++ old)))
     go true q k z =
-        let same = some-injective e c z in
+        let same = same_Some e c z in
         record {
           top = used_live e ∷ l;
           is = refl;
           layer = a;
-          here = rw q (ap (λ (n : Live Capture). some (used_live n)) same);
+          here = rw q (ap (λ (n : Live Capture). Some (used_live n)) same);
           others = λ y n. let other = ne_eqb e.name y (λ h. n (sym h ∙ eqb-true e.name x q)) in rw (other);
         }
     go false q k z =
@@ -163,7 +163,7 @@ uses d x c (e ∷ l) old a g = go (eqb e.name x) refl (λ q. uses d x c l old a.
           is = ap (λ (r : Lives). e ∷ r) u.is;
           layer = (a.0, u.layer);
           here = rw q u.here;
-          others = λ y n. ap (λ (o : Option (Live Capture)). cond (eqb e.name y) (some e) o) (u.others y n);
+          others = λ y n. ap (λ (o : Option (Live Capture)). cond (eqb e.name y) (Some e) o) (u.others y n);
         }
 
 -- The layer is popped

@@ -1,9 +1,9 @@
 -- The captured list of a fresh lambda that ends: one entry for each name in scope around it that is no parameter's, if an inner lambda mentioned the
 -- innermost binder of that name by then; and each entry is of that binder.
-use Rattle.std.specs.Prelude.{ℕ, suc, ◌≤◌, cond, not, ◌≡◌, eqb, leb}
+use Rattle.std.specs.Prelude.{ℕ, suc, ◌≤◌, cond, not, ◌≡◌, eqb, leb, Option, Some}
+use Rattle.std.proofs.lemmas.Option.{same_Some, none-some}
 use mathlib.Core.List.{List, [], ◌∷◌, map, reverse_aux}
 use Rattle.std.proofs.Math.Bool.{Bool, true, false, true≢false}
-use Rattle.std.proofs.Math.Option.{Option, some, some-injective, none-ne-some}
 use Rattle.std.proofs.Math.Path.{refl, ap, subst}
 use Rattle.std.proofs.Common.{sym, ◌∙◌, lt-ltb, eqb-true, ne_eqb}
 use Rattle.tree.specs.Tree.{Ident}
@@ -25,7 +25,7 @@ use Rattle.execution.proofs.Laws.Exact.Captured.{member_name, parameters_out, bo
 -- An entry of the list, after the uses `after`, in a lambda with the parameters xs where sc is in scope
 pub record Taken (after : List Use) (xs : List Ident) (sc : List Binder) (i : ListEntry) : Type 0 where
   pub binder : Binder
-  pub found : find sc binder.ident.name ≡ some binder
+  pub found : find sc binder.ident.name ≡ Some binder
   pub is : i.binder ≡ binder.ident
   pub outside : has_name binder.ident.name xs ≡ false
   pub mutated : i.info.mutated ≡ is_set_in binder.ident.at after
@@ -40,14 +40,14 @@ times_in x (c ∷ sc) = cond (eqb c.ident.name x) (suc (times_in x sc)) (times_i
 -- the list has these entries, and each name that it is to have as often as it is in scope
 pub record Listed (after : List Use) (xs : List Ident) (sc : List Binder) (l : List ListEntry) : Type 0 where
   pub taken : All (Taken after xs sc) l
-  pub times : (x : ℕ) (b : Binder) → has_name x xs ≡ false → find sc x ≡ some b → used_inside b.ident.at after ≡ true → count_of x l ≡ times_in x sc
+  pub times : (x : ℕ) (b : Binder) → has_name x xs ≡ false → find sc x ≡ Some b → used_inside b.ident.at after ≡ true → count_of x l ≡ times_in x sc
 
-pub find_name : (sc : List Binder) (x : ℕ) {b : Binder} → find sc x ≡ some b → b.ident.name ≡ x
-find_name [] x e = absurd (none-ne-some _ e)
+pub find_name : (sc : List Binder) (x : ℕ) {b : Binder} → find sc x ≡ Some b → b.ident.name ≡ x
+find_name [] x e = absurd (none-some _ e)
 find_name (c ∷ sc) x {b} e = go (eqb c.ident.name x) refl (λ q. find_name sc x q) e
   where
-    go : (q : Bool) → eqb c.ident.name x ≡ q → (find sc x ≡ some b → b.ident.name ≡ x) → cond q (some c) (find sc x) ≡ some b → b.ident.name ≡ x
-    go true q k e = ap (λ (d : Binder). d.ident.name) (sym (some-injective c b e)) ∙ eqb-true c.ident.name x q
+    go : (q : Bool) → eqb c.ident.name x ≡ q → (find sc x ≡ Some b → b.ident.name ≡ x) → cond q (Some c) (find sc x) ≡ Some b → b.ident.name ≡ x
+    go true q k e = ap (λ (d : Binder). d.ident.name) (sym (same_Some c b e)) ∙ eqb-true c.ident.name x q
     go false q k e = k e
 
 -- Sorting keeps counts
@@ -96,12 +96,12 @@ module _ {own : ℕ → Type 0} {bottom : List (Live Ident)} {before : List Use}
     abbrev ps : List ℕ
     ps = map name_in xs
 
-    newest_of : (x : ℕ) (b : Binder) → find sc x ≡ some b → has_name x xs ≡ false → newest s x ≡ some b.ident
+    newest_of : (x : ℕ) (b : Binder) → find sc x ≡ Some b → has_name x xs ≡ false → newest s x ≡ Some b.ident
     newest_of x b e h =
         ap binder_in ((search_for f x).found ∙ ap (λ (o : Option Binder). live_in o (get_in bottom x)) (find_past false base q 0 xs sc x h ∙ e))
 
     -- one name: a parameter's, or not
-    one-taken : (c b : Binder) (h : Bool) (l : List ListEntry) → has_name c.ident.name xs ≡ h → find sc c.ident.name ≡ some b → In b
+    one-taken : (c b : Binder) (h : Bool) (l : List ListEntry) → has_name c.ident.name xs ≡ h → find sc c.ident.name ≡ Some b → In b
         → All (Taken before xs sc) l → All (Taken before xs sc) (add_captured (not h) s (newest s c.ident.name) l)
     one-taken c b true l h e i a = a
     one-taken c b false l h e i a =
@@ -124,8 +124,8 @@ module _ {own : ℕ → Type 0} {bottom : List (Live Ident)} {before : List Use}
         go true t = (t refl, a)
         go false t = a
 
-    one-times : (c b d : Binder) (h : Bool) (l : List ListEntry) (x n : ℕ) → has_name c.ident.name xs ≡ h → find sc c.ident.name ≡ some d → In d
-        → has_name x xs ≡ false → find sc x ≡ some b → used_inside b.ident.at before ≡ true → count_of x l ≡ n
+    one-times : (c b d : Binder) (h : Bool) (l : List ListEntry) (x n : ℕ) → has_name c.ident.name xs ≡ h → find sc c.ident.name ≡ Some d → In d
+        → has_name x xs ≡ false → find sc x ≡ Some b → used_inside b.ident.at before ≡ true → count_of x l ≡ n
         → count_of x (add_captured (not h) s (newest s c.ident.name) l) ≡ cond (eqb c.ident.name x) (suc n) n
     unfolding count_of
     one-times c b d true l x n h e i o g u k =
@@ -145,7 +145,7 @@ module _ {own : ℕ → Type 0} {bottom : List (Live Ident)} {before : List Use}
 
         go : (z : Bool) → eqb c.ident.name x ≡ z → count_of x (cond entry (list_entry ∷ l) l) ≡ cond z (suc n) n
         go true z =
-            let same : d ≡ b = some-injective d b (sym e ∙ ap (find sc) (eqb-true c.ident.name x z) ∙ g) in
+            let same : d ≡ b = same_Some d b (sym e ∙ ap (find sc) (eqb-true c.ident.name x z) ∙ g) in
             let taken : entry ≡ true = i.captured ∙ ap (λ (y : Binder). used_inside y.ident.at before) same ∙ u in
             both entry ∙ rw (taken, find_name sc c.ident.name e, z) (ap suc k)
         go false z = both entry ∙ rw (find_name sc c.ident.name e, z) (go₂ entry)
@@ -162,7 +162,7 @@ module _ {own : ℕ → Type 0} {bottom : List (Live Ident)} {before : List Use}
         rw (lt-ltb 1 c.home.layer a.0.0.above, member_name c.ident.name xs)
         (one-taken c g.binder (has_name c.ident.name xs) _ refl g.is g.holds (taken_in rest a.1))
 
-    times_in_lem : (rest : List Binder) → All (λ c. In c × Found In sc c) rest → (x : ℕ) (b : Binder) → has_name x xs ≡ false → find sc x ≡ some b
+    times_in_lem : (rest : List Binder) → All (λ c. In c × Found In sc c) rest → (x : ℕ) (b : Binder) → has_name x xs ≡ false → find sc x ≡ Some b
         → used_inside b.ident.at before ≡ true → count_of x (captured_in ps s (lives_of rest bottom)) ≡ times_in x rest
     unfolding captured_in times_in count_of
     times_in_lem [] a x b o e u = ap (count_of x) (bottom_out ps s bottom (all_map (λ e g. g.layer) bottom f.tables.globals))

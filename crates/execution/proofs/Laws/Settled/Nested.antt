@@ -1,9 +1,9 @@
 -- Names in scope: no two of one layer have one name; and the lambdas around a name's body are those around the place but for the innermost ones.
-use Rattle.std.specs.Prelude.{ℕ, suc, ◌+◌, ◌≤◌, Bool, true, false, cond, not, ◌&&◌, ◌||◌, ◌≡◌, refl, length, eqb, ltb}
+use Rattle.std.specs.Prelude.{ℕ, suc, ◌+◌, ◌≤◌, Bool, true, false, cond, not, ◌&&◌, ◌||◌, ◌≡◌, refl, length, eqb, ltb, None, Some}
+use Rattle.std.proofs.lemmas.Option.{none-some, same_Some}
 use mathlib.Core.List.{List, [], ◌∷◌, ◌++◌, reverse_aux}
 use Rattle.std.proofs.Math.Bool.{or-true}
 use Rattle.std.proofs.Common.{true≢false, ap, sym, subst, ◌∙◌, arith, eqb-true, eq-eqb, ne_eqb, lt-ltb, le-ltb}
-use Rattle.std.proofs.Math.Option.{none, some, some-ne-none, some-injective, none-ne-some}
 use Rattle.std.proofs.Math.Decide.{ℕ_discrete}
 use Rattle.tree.specs.Tree.{Ident, Tree, Trees, ident, const, if, letin, define, lambda, sequence, call, set!, nil, cons, many, size, sizes, Num, Nums}
 use Rattle.tree.specs.Check.{member}
@@ -22,14 +22,14 @@ NotLive (enters b sc) = is_live b sc ≡ false
 NotLive (mentions m) = Unit {0}
 NotLive (ends i xs sc) = Unit {0}
 
-pub not_live : (l : List Event) → nine_in l ≡ none → All NotLive l
+pub not_live : (l : List Event) → nine_in l ≡ None → All NotLive l
 unfolding nine_in
 not_live [] e = tt
 not_live (enters b sc ∷ l) e = go (is_live b sc) refl (λ q. not_live l q) e
   where
-    go : (q : Bool) → is_live b sc ≡ q → (nine_in l ≡ none → All NotLive l) → cond q (some b.ident.at) (nine_in l) ≡ none
+    go : (q : Bool) → is_live b sc ≡ q → (nine_in l ≡ None → All NotLive l) → cond q (Some b.ident.at) (nine_in l) ≡ None
         → (is_live b sc ≡ false) × All NotLive l
-    go true q k e = absurd (some-ne-none _ e)
+    go true q k e = absurd (none-some _ (sym e))
     go false q k e = (q, k e)
 not_live (mentions m ∷ l) e = (tt, not_live l e)
 not_live (ends i xs sc ∷ l) e = (tt, not_live l e)
@@ -184,18 +184,18 @@ twice_not : (b : Bool) → not (not b) ≡ b
 twice_not true = refl
 twice_not false = refl
 
-pub times_once : (sc : List Binder) (x : ℕ) (b : Binder) → Distinct sc → find sc x ≡ some b → eqb (times_in x sc) 1 ≡ not (is_doubled b sc)
+pub times_once : (sc : List Binder) (x : ℕ) (b : Binder) → Distinct sc → find sc x ≡ Some b → eqb (times_in x sc) 1 ≡ not (is_doubled b sc)
 unfolding is_doubled times_in
-times_once [] x b d e = absurd (none-ne-some b e)
+times_once [] x b d e = absurd (none-some b e)
 times_once (c ∷ sc) x b d e = go (eqb c.ident.name x) refl (λ q. times_once sc x b d.1 q) e
   where
-    go : (q : Bool) → eqb c.ident.name x ≡ q → (find sc x ≡ some b → eqb (times_in x sc) 1 ≡ not (is_doubled b sc)) → cond q (some c) (find sc x) ≡ some b
+    go : (q : Bool) → eqb c.ident.name x ≡ q → (find sc x ≡ Some b → eqb (times_in x sc) 1 ≡ not (is_doubled b sc)) → cond q (Some c) (find sc x) ≡ Some b
         → eqb (cond q (suc (times_in x sc)) (times_in x sc)) 1
         ≡ not ((eqb c.ident.name b.ident.name && not (eqb c.home.layer b.home.layer)) || is_doubled b sc)
     go true q k z =
         subst (λ (y : Binder). eqb (suc (times_in x sc)) 1
         ≡ not ((eqb c.ident.name y.ident.name && not (eqb c.home.layer y.home.layer)) || is_doubled y sc))
-        (some-injective c b z)
+        (same_Some c b z)
         (rw (eq-eqb c.ident.name c.ident.name refl, eq-eqb c.home.layer c.home.layer refl)
         (one_more_lem (times_in x sc) ∙ ap (λ (y : ℕ). eqb (times_in y sc) 0) (sym (eqb-true c.ident.name x q)) ∙ sym
         (ap not (doubled_times c sc d.0) ∙ twice_not (eqb (times_in c.ident.name sc) 0))))

@@ -1,9 +1,8 @@
 -- On entering a lambda a second run numbers the entries of its list, and each becomes its name's newest capture: then every name of the list, and no
 -- other, is found in the newest layer, as a capture of one of its entries.
 use Prim.Native.Nat.{ℕ, zero, suc, ◌+◌, ◌≤◌, ◌<◌}
-use Rattle.std.specs.Prelude.{List, [], ◌++◌, Bool, true, false, cond, not, ◌≡◌, refl, length, get_or, set}
+use Rattle.std.specs.Prelude.{List, [], ◌++◌, Bool, true, false, cond, not, ◌≡◌, refl, length, get_or, set, Option, None, Some}
 use Rattle.std.proofs.Common.{true≢false, ◌∙◌, arith, get_or-set_same}
-use Rattle.std.proofs.Math.Option.{Option, none, some}
 use Rattle.std.proofs.Math.Path.{ap, sym, subst}
 use Rattle.std.proofs.Math.Decide.{ℕ_discrete, dec_lt}
 use Rattle.std.proofs.Math.Seq.{get_or-set_other, set_out}
@@ -47,7 +46,7 @@ module _ (which : Bool) (numbered : ℕ → Option ScopeInfo → ScopeInfo → S
   pub data Got (lo r : ℕ) (s : State) (x : ℕ) (o : Option (Live Capture)) : Option (Live Capture) → Type 0 where
     got_old : ((q : ℕ) → lo ≤ q → q < r → is_of_lem s q ≡ true → ¬ (name_of (list_entry_at s q) ≡ x)) → Got lo r s x o o
     got_new : {c : Live Capture} → lo ≤ c.value.row → c.value.row < r → is_of_lem s c.value.row ≡ true → name_of (list_entry_at s c.value.row) ≡ x
-        → c.value.binder ≡ (list_entry_at s c.value.row).binder → Got lo r s x o (some c)
+        → c.value.binder ≡ (list_entry_at s c.value.row).binder → Got lo r s x o (Some c)
 
   -- The rows from lo up to r are numbered, from the state s on
   pub record Pass (lo r d : ℕ) (l old : Lives) (s t : State) : Type 0 where
@@ -108,7 +107,7 @@ module _ (which : Bool) (numbered : ℕ → Option ScopeInfo → ScopeInfo → S
         }
       where
         named : (m : Lives) (y : ℕ) → Dec (y ≡ (list_entry_at t r).binder.name)
-            → get_in m (list_entry_at t r).binder.name ≡ some (record {
+            → get_in m (list_entry_at t r).binder.name ≡ Some (record {
               name = (list_entry_at t r).binder.name;
               layer = d;
               value = capture_of which numbered r
@@ -157,10 +156,10 @@ module _ (which : Bool) (numbered : ℕ → Option ScopeInfo → ScopeInfo → S
 -- Both: the entries that are not mutated, then those that are
 
 pub data Caught (lo hi : ℕ) (s : State) (x : ℕ) : Option (Live Capture) → Type 0 where
-  none_caught : ((q : ℕ) → lo ≤ q → q < hi → ¬ (name_of (list_entry_at s q) ≡ x)) → Caught lo hi s x none
+  none_caught : ((q : ℕ) → lo ≤ q → q < hi → ¬ (name_of (list_entry_at s q) ≡ x)) → Caught lo hi s x None
   one_caught : {c : Live Capture} → lo ≤ c.value.row → c.value.row < hi → name_of (list_entry_at s c.value.row) ≡ x
       → c.value.binder ≡ (list_entry_at s c.value.row).binder
-      → Caught lo hi s x (some c)
+      → Caught lo hi s x (Some c)
 
 pub record Numbered (lo hi d : ℕ) (old : Lives) (s t : State) : Type 0 where
   pub top : Lives
@@ -210,7 +209,7 @@ numbered-list e d old s h g below =
         go false m n = f k a b (ap not m) n
 
     second : (u : State) → ((k : ℕ) → Same (list_entry_at s k) (list_entry_at u k)) → (x : ℕ) {o g : Option (Live Capture)}
-        → Got false numbered_capture (λ i o v. refl) e.first hi s x none o
+        → Got false numbered_capture (λ i o v. refl) e.first hi s x None o
         → Got true numbered_heap (λ i o v. refl) e.first hi u x o g → Caught e.first hi s x g
     second u w x (got_old f) (got_old k) = none_caught (neither u w x f k)
     second u w x (got_new a b c d f) (got_old k) = one_caught a b d f

@@ -2,9 +2,9 @@
 -- exactly if its name stands once in the list and the lambda around took the name without a read offset.
 use Prim.Native.Nat.{ℕ, zero, suc, ◌+◌, ◌-◌, ◌≤◌, ◌<◌}
 use mathlib.Core.List.{List, [], ◌∷◌, ◌++◌}
-use Rattle.std.specs.Prelude.{Bool, ◌≡◌, length, get_or, set, eqb, leb}
+use Rattle.std.specs.Prelude.{Bool, ◌≡◌, length, get_or, set, eqb, leb, Option, None, Some}
+use Rattle.std.proofs.lemmas.Option.{same_Some, none-some}
 use Rattle.std.proofs.Math.Bool.{true, false, cond, not, true≢false}
-use Rattle.std.proofs.Math.Option.{Option, none, some, some-injective, none-ne-some}
 use Rattle.std.proofs.Math.Path.{refl, ap, subst}
 use Rattle.std.proofs.Common.{sym, ◌∙◌, ne_eqb}
 use native.Mathlib.Omega.{arith}
@@ -55,8 +55,8 @@ module _ (which : Bool) (numbered : ℕ → Option ScopeInfo → ScopeInfo → S
 
 -- an offset that is missing in what the lambda around took
 abbrev pub is_unread : Option ScopeInfo → Bool
-is_unread none = false
-is_unread (some o) = eqb o.read_capture_offset NONE
+is_unread None = false
+is_unread (Some o) = eqb o.read_capture_offset NONE
 
 abbrev unmutated : State → ℕ → Bool
 unmutated s q = is_of false numbered_capture (list_entry_at s q)
@@ -72,27 +72,27 @@ pub record Offsets (lo r d : ℕ) (s t : State) : Type 0 where
   pub long : length t.facts.captured ≡ length s.facts.captured
   pub same : (q : ℕ) → unmutated s q ≡ false → list_entry_at t q ≡ list_entry_at s q
   pub reads : (q : ℕ) → lo ≤ q → q < r → unmutated s q ≡ true → has_number (info_at t q).read_capture_offset ≡ true
-  pub flags : (x : ℕ) (c : Live Capture) → get_in t.captures.live x ≡ some c → c.layer ≡ d → Flag lo r s t x c.value.row
+  pub flags : (x : ℕ) (c : Live Capture) → get_in t.captures.live x ≡ Some c → c.layer ≡ d → Flag lo r s t x c.value.row
 
 abbrev CapturePass : ℕ → ℕ → ℕ → Lives → State → State → Type 0
 CapturePass lo r d old s t = Pass false numbered_capture (λ i o v. refl) lo r d [] old s t
 
-pub old_layer : {d : ℕ} (old : Lives) → Below d old → (x : ℕ) (c : Live Capture) → get_in old x ≡ some c → c.layer < d
+pub old_layer : {d : ℕ} (old : Lives) → Below d old → (x : ℕ) (c : Live Capture) → get_in old x ≡ Some c → c.layer < d
 unfolding get_in
-old_layer [] b x c e = absurd (none-ne-some c e)
+old_layer [] b x c e = absurd (none-some c e)
 old_layer {d} (a ∷ old) b x c e = go (eqb a.name x) (λ q. old_layer old b.1 x c q) e
   where
-    go : (q : Bool) → (get_in old x ≡ some c → c.layer < d) → cond q (some a) (get_in old x) ≡ some c → c.layer < d
-    go true k z = subst (λ (l : Live Capture). l.layer < d) (some-injective a c z) b.0
+    go : (q : Bool) → (get_in old x ≡ Some c → c.layer < d) → cond q (Some a) (get_in old x) ≡ Some c → c.layer < d
+    go true k z = subst (λ (l : Live Capture). l.layer < d) (same_Some a c z) b.0
     go false k z = k z
 
-pub get_layer : {d : ℕ} (l : Lives) → InLayer d l → (x : ℕ) (c : Live Capture) → get_in l x ≡ some c → c.layer ≡ d
+pub get_layer : {d : ℕ} (l : Lives) → InLayer d l → (x : ℕ) (c : Live Capture) → get_in l x ≡ Some c → c.layer ≡ d
 unfolding get_in
-get_layer [] b x c e = absurd (none-ne-some c e)
+get_layer [] b x c e = absurd (none-some c e)
 get_layer {d} (a ∷ l) b x c e = go (eqb a.name x) (λ q. get_layer l b.1 x c q) e
   where
-    go : (q : Bool) → (get_in l x ≡ some c → c.layer ≡ d) → cond q (some a) (get_in l x) ≡ some c → c.layer ≡ d
-    go true k z = ap (λ (v : Live Capture). v.layer) (sym (some-injective a c z)) ∙ b.0
+    go : (q : Bool) → (get_in l x ≡ Some c → c.layer ≡ d) → cond q (Some a) (get_in l x) ≡ Some c → c.layer ≡ d
+    go true k z = ap (λ (v : Live Capture). v.layer) (sym (same_Some a c z)) ∙ b.0
     go false k z = k z
 
 pub no_number : (n : ℕ) → has_number n ≡ true → eqb n NONE ≡ false
@@ -103,33 +103,33 @@ no_number n e = go (eqb n NONE) e
     go false q = refl
 
 -- a capture of the newest layer stands among its captures
-pub in_newest : {d : ℕ} (l top old : Lives) → l ≡ top ++ old → Below d old → (x : ℕ) (c : Live Capture) → get_in l x ≡ some c → c.layer ≡ d
-    → get_in top x ≡ some c
+pub in_newest : {d : ℕ} (l top old : Lives) → l ≡ top ++ old → Below d old → (x : ℕ) (c : Live Capture) → get_in l x ≡ Some c → c.layer ≡ d
+    → get_in top x ≡ Some c
 in_newest {d} l top old w below x c e h = go (get_in top x) refl (sym (ap (λ (m : Lives). get_in m x) w ∙ get-append top old x) ∙ e)
   where
-    go : (z : Option (Live Capture)) → get_in top x ≡ z → or_else (get_in top x) (get_in old x) ≡ some c → get_in top x ≡ some c
-    go none q k = absurd (omega (arith, old_layer old below x c (ap (λ (z : Option (Live Capture)). or_else z (get_in old x)) (sym q) ∙ k)))
-    go (some a) q k = q ∙ ap (λ (z : Option (Live Capture)). or_else z (get_in old x)) (sym q) ∙ k
+    go : (z : Option (Live Capture)) → get_in top x ≡ z → or_else (get_in top x) (get_in old x) ≡ Some c → get_in top x ≡ Some c
+    go None q k = absurd (omega (arith, old_layer old below x c (ap (λ (z : Option (Live Capture)). or_else z (get_in old x)) (sym q) ∙ k)))
+    go (Some a) q k = q ∙ ap (λ (z : Option (Live Capture)). or_else z (get_in old x)) (sym q) ∙ k
 
 -- numbers are no missing offset
 small : (i : ℕ) → i ≤ 4096 → eqb i NONE ≡ false
 small i h = ne_eqb i NONE (λ e. omega arith)
 
-module _ {lo hi d : ℕ} {old : Lives} {s : State} (below : Below d old) (apart : (x : ℕ) (c : Live Capture) → get_in old x ≡ some c → leb (d - c.layer) 1 ≡ true
+module _ {lo hi d : ℕ} {old : Lives} {s : State} (below : Below d old) (apart : (x : ℕ) (c : Live Capture) → get_in old x ≡ Some c → leb (d - c.layer) 1 ≡ true
     → Off lo hi c.value.row)
     (depth : s.captures.depth ≡ d) (live : s.captures.live ≡ old) (room : hi ≤ length s.facts.captured) (few : hi ≤ 4096) where
   module _ (r i : ℕ) (t : State) (p : CapturePass lo r d old s t) (o : Offsets lo r d s t) (h : lo ≤ r) (g : r < hi) (small-i : i ≤ r) where
     -- a capture of the newest layer is of an earlier row
-    in_top : (x : ℕ) (c : Live Capture) → get_in t.captures.live x ≡ some c → c.layer ≡ d → get_in p.top x ≡ some c
+    in_top : (x : ℕ) (c : Live Capture) → get_in t.captures.live x ≡ Some c → c.layer ≡ d → get_in p.top x ≡ Some c
     in_top x c e l = in_newest t.captures.live p.top old p.live below x c e l
 
-    earlier : (x : ℕ) (c : Live Capture) → get_in p.top x ≡ some c → c.value.row < r
+    earlier : (x : ℕ) (c : Live Capture) → get_in p.top x ≡ Some c → c.value.row < r
     unfolding get_in
-    earlier x c e = go (subst (Got false numbered_capture (λ i o v. refl) lo r s x none) e (p.got x)) refl
+    earlier x c e = go (subst (Got false numbered_capture (λ i o v. refl) lo r s x None) e (p.got x)) refl
       where
-        go : {z : Option (Live Capture)} → Got false numbered_capture (λ i o v. refl) lo r s x none z → z ≡ some c → c.value.row < r
-        go (got_old f) q = absurd (none-ne-some c q)
-        go (got_new {c = a} x₁ y₁ u v w) q = subst (λ (l : Live Capture). l.value.row < r) (some-injective a c q) y₁
+        go : {z : Option (Live Capture)} → Got false numbered_capture (λ i o v. refl) lo r s x None z → z ≡ Some c → c.value.row < r
+        go (got_old f) q = absurd (none-some c q)
+        go (got_new {c = a} x₁ y₁ u v w) q = subst (λ (l : Live Capture). l.value.row < r) (same_Some a c q) y₁
 
     -- the row r is no new row of a name
     more : {x row : ℕ} (u : State) → (unmutated s r ≡ true → ¬ (name_of (list_entry_at s r) ≡ x)) → (info_at u row).capture_offset ≡ (info_at t row).capture_offset
@@ -170,35 +170,35 @@ module _ {lo hi d : ℕ} {old : Lives} {s : State} (below : Below d old) (apart 
     others q n = get_or-set_other t.facts.captured r q _ no_list_entry n
 
     -- what the name took before
-    near-old : get_in p.top x₀ ≡ none → is_unread (near t x₀) ≡ is_unread (near s x₀)
+    near-old : get_in p.top x₀ ≡ None → is_unread (near t x₀) ≡ is_unread (near s x₀)
     near-old e =
         let got : get_in t.captures.live x₀ ≡ get_in old x₀ =
         ap (λ (m : Lives). get_in m x₀) p.live ∙ get-append p.top old x₀ ∙ ap (λ (z : Option (Live Capture)). or_else z (get_in old x₀)) e in
         ap (λ (z : Option (Live Capture)). is_unread (near_in t z)) got ∙ go (get_in old x₀) refl ∙ ap (λ (m : Lives). is_unread (near_in s (get_in m x₀))) (sym live)
       where
         go : (z : Option (Live Capture)) → get_in old x₀ ≡ z → is_unread (near_in t z) ≡ is_unread (near_in s z)
-        go none q = refl
-        go (some c) q = cases (leb (d - c.layer) 1) refl
+        go None q = refl
+        go (Some c) q = cases (leb (d - c.layer) 1) refl
           where
-            cases : (b : Bool) → leb (d - c.layer) 1 ≡ b → is_unread (near_in t (some c)) ≡ is_unread (near_in s (some c))
+            cases : (b : Bool) → leb (d - c.layer) 1 ≡ b → is_unread (near_in t (Some c)) ≡ is_unread (near_in s (Some c))
             cases true w = rw (p.depth, depth, w) (ap (λ (v : ListEntry). eqb v.info.read_capture_offset NONE)
                 (p.outside c.value.row (λ a b. apart x₀ c q w a (omega arith))))
             cases false w = rw (p.depth, depth, w)
 
     from_near : (z : Option ScopeInfo) → eqb (capture_from z i) NONE ≡ is_unread z
-    from_near none = small i (omega arith)
-    from_near (some v) = refl
+    from_near None = small i (omega arith)
+    from_near (Some v) = refl
 
     -- the capture that is made
     put : Puts d x₀ (capture_of false numbered_capture r (is_near (near t x₀)) (list_entry_at t r)) p.top old numbered_here.captures.live
     unfolding number_row
     put = puts d x₀ _ p.top old t.captures p.depth p.live p.layer below
 
-    layer_of : (c : Live Capture) → get_in p.top x₀ ≡ some c → c.layer ≡ d
+    layer_of : (c : Live Capture) → get_in p.top x₀ ≡ Some c → c.layer ≡ d
     layer_of c e = get_layer p.top p.layer x₀ c e
 
     close : (c : Live Capture) → c.layer ≡ d → has_number (info_at t c.value.row).read_capture_offset ≡ true
-        → eqb (capture_from (near_in t (some c)) i) NONE ≡ false
+        → eqb (capture_from (near_in t (Some c)) i) NONE ≡ false
     close c l k =
         let deep : t.captures.depth - c.layer ≡ 0 = omega (arith, p.depth) in
         rw deep (no_number (info_at t c.value.row).read_capture_offset k)
@@ -213,11 +213,11 @@ module _ {lo hi d : ℕ} {old : Lives} {s : State} (below : Below d old) (apart 
         name : x₀ ≡ name_of (list_entry_at s r)
         name = ap name_of (p.outside r (λ a b. omega arith))
 
-        go : (z : Option (Live Capture)) → get_in p.top x₀ ≡ z → Got false numbered_capture (λ i o v. refl) lo r s x₀ none (get_in p.top x₀)
+        go : (z : Option (Live Capture)) → get_in p.top x₀ ≡ z → Got false numbered_capture (λ i o v. refl) lo r s x₀ None (get_in p.top x₀)
             → Flag lo (suc r) s numbered_here x₀ r
-        go z e g = by_got (subst (Got false numbered_capture (λ i o v. refl) lo r s x₀ none) e g) e
+        go z e g = by_got (subst (Got false numbered_capture (λ i o v. refl) lo r s x₀ None) e g) e
           where
-            by_got : {z : Option (Live Capture)} → Got false numbered_capture (λ i o v. refl) lo r s x₀ none z → get_in p.top x₀ ≡ z
+            by_got : {z : Option (Live Capture)} → Got false numbered_capture (λ i o v. refl) lo r s x₀ None z → get_in p.top x₀ ≡ z
                 → Flag lo (suc r) s numbered_here x₀ r
             by_got (got_old f) e = once (λ q a b m z. only q a b m z (ℕ_discrete q r)) (ap (λ (v : ℕ). eqb v NONE) at ∙ from_near (near t x₀) ∙ near-old e)
               where
@@ -225,7 +225,7 @@ module _ {lo hi d : ℕ} {old : Lives} {s : State} (below : Below d old) (apart 
                 only q a b m z (yes w) = w
                 only q a b m z (no w) = absurd (f q a (omega arith) m z)
             by_got (got_new {c = c} a b u v w) e =
-                let got : get_in t.captures.live x₀ ≡ some c =
+                let got : get_in t.captures.live x₀ ≡ Some c =
                 ap (λ (m : Lives). get_in m x₀) p.live ∙ get-append p.top old x₀ ∙ ap (λ (z : Option (Live Capture)). or_else z (get_in old x₀)) e in
                 twice c.value.row a (omega arith) (λ q. omega arith) u v
                 (ap (λ (v : ℕ). eqb v NONE) at ∙ ap (λ (z : Option (Live Capture)). eqb (capture_from (near_in t z) i) NONE) got ∙ close c (layer_of c e)
@@ -247,17 +247,17 @@ module _ {lo hi d : ℕ} {old : Lives} {s : State} (below : Below d old) (apart 
             ap not (small i (omega arith))
         go q a b n (no w) = ap (λ (v : ListEntry). has_number v.info.read_capture_offset) (others q w) ∙ o.reads q a (omega arith) n
 
-        flagged : (x : ℕ) (c : Live Capture) → get_in numbered_here.captures.live x ≡ some c → c.layer ≡ d → Dec (x ≡ x₀)
+        flagged : (x : ℕ) (c : Live Capture) → get_in numbered_here.captures.live x ≡ Some c → c.layer ≡ d → Dec (x ≡ x₀)
             → Flag lo (suc r) s numbered_here x c.value.row
         flagged x c k l (yes w) =
-            let found : get_in numbered_here.captures.live x₀ ≡ some (record {
+            let found : get_in numbered_here.captures.live x₀ ≡ Some (record {
               name = x₀;
               layer = d;
               value = capture_of false numbered_capture r
                   (is_near (near t x₀)) (list_entry_at t r);
             }) =
             ap (λ (m : Lives). get_in m x₀) put.is ∙ get-append put.top old x₀ ∙ ap (λ (z : Option (Live Capture)). or_else z (get_in old x₀)) put.here in
-            let same = some-injective _ c (sym found ∙ ap (get_in numbered_here.captures.live) (sym w) ∙ k) in
+            let same = same_Some _ c (sym found ∙ ap (get_in numbered_here.captures.live) (sym w) ∙ k) in
             subst (λ (y : ℕ). Flag lo (suc r) s numbered_here y c.value.row) (sym w)
             (subst (λ (row : ℕ). Flag lo (suc r) s numbered_here x₀ row) (ap (λ (v : Live Capture). v.value.row) same) (new_flag m))
         flagged x c k l (no w) =
@@ -300,22 +300,22 @@ pub record Flagged (lo hi : ℕ) (s t : State) (x row : ℕ) : Type 0 where
 
 -- a capture of an entry that is not mutated is of the first pass
 record Origin (lo hi x : ℕ) (top : Lives) (c : Live Capture) : Type 0 where
-  found : get_in top x ≡ some c
+  found : get_in top x ≡ Some c
   from : lo ≤ c.value.row
   to : c.value.row < hi
 
 origin : (lo hi x : ℕ) (s u : State) (top : Lives) (c : Live Capture) {g : Option (Live Capture)} → Same (list_entry_at s c.value.row) (list_entry_at u c.value.row)
-    → (list_entry_at s c.value.row).info.mutated ≡ false → Got false numbered_capture (λ i o v. refl) lo hi s x none (get_in top x)
-    → Got true numbered_heap (λ i o v. refl) lo hi u x (get_in top x) g → g ≡ some c → Origin lo hi x top c
-origin lo hi x s u top c w m p (got_old f) e = go (subst (Got false numbered_capture (λ i o v. refl) lo hi s x none) e p) refl
+    → (list_entry_at s c.value.row).info.mutated ≡ false → Got false numbered_capture (λ i o v. refl) lo hi s x None (get_in top x)
+    → Got true numbered_heap (λ i o v. refl) lo hi u x (get_in top x) g → g ≡ Some c → Origin lo hi x top c
+origin lo hi x s u top c w m p (got_old f) e = go (subst (Got false numbered_capture (λ i o v. refl) lo hi s x None) e p) refl
   where
-    go : {z : Option (Live Capture)} → Got false numbered_capture (λ i o v. refl) lo hi s x none z → z ≡ some c → Origin lo hi x top c
-    go (got_old f) q = absurd (none-ne-some c q)
+    go : {z : Option (Live Capture)} → Got false numbered_capture (λ i o v. refl) lo hi s x None z → z ≡ Some c → Origin lo hi x top c
+    go (got_old f) q = absurd (none-some c q)
     go (got_new {c = a} x₁ y₁ k v z) q =
-        let same = ap (λ (l : Live Capture). l.value.row) (some-injective a c q) in
+        let same = ap (λ (l : Live Capture). l.value.row) (same_Some a c q) in
         record { found = e; from = omega arith; to = omega arith }
 origin lo hi x s u top c w m p (got_new {c = a} x₁ y₁ k v z) e =
-    let same = ap (λ (l : Live Capture). l.value.row) (some-injective a c e) in
+    let same = ap (λ (l : Live Capture). l.value.row) (same_Some a c e) in
     absurd (true≢false (sym k ∙ ap (λ (r : ℕ). (list_entry_at u r).info.mutated) same ∙ w.mutated ∙ m))
 
 kept_flag : {lo hi : ℕ} {s : State} {x row : ℕ} (u t : State) → (info_at t row).capture_offset ≡ (info_at u row).capture_offset → Flag lo hi s u x row
@@ -324,9 +324,9 @@ kept_flag u t e (once f k) = once f (ap (λ (v : ℕ). eqb v NONE) e ∙ k)
 kept_flag u t e (twice q a b c m z k) = twice q a b c m z (ap (λ (v : ℕ). eqb v NONE) e ∙ k)
 
 pub flagged-list : (e : ListAt) (d : ℕ) (old : Lives) (s : State) → s.captures.depth ≡ d → s.captures.live ≡ old → Below d old
-    → ((x : ℕ) (c : Live Capture) → get_in old x ≡ some c → leb (d - c.layer) 1 ≡ true → Off e.first (e.first + e.length) c.value.row)
+    → ((x : ℕ) (c : Live Capture) → get_in old x ≡ Some c → leb (d - c.layer) 1 ≡ true → Off e.first (e.first + e.length) c.value.row)
     → e.first + e.length ≤ length s.facts.captured → e.first + e.length ≤ 4096
-    → (x : ℕ) (c : Live Capture) → get_in (number_list e s).captures.live x ≡ some c → c.layer ≡ d
+    → (x : ℕ) (c : Live Capture) → get_in (number_list e s).captures.live x ≡ Some c → c.layer ≡ d
     → Flagged e.first (e.first + e.length) s (number_list e s) x c.value.row
 unfolding number_list get_in
 flagged-list e d old s h g below apart room few x c k l =
@@ -358,7 +358,7 @@ flagged-list e d old s h g below apart room few x c k l =
       flag = λ m.
           let a = origin lo hi x s u p.top c (p.list_entries c.value.row) m (p.got x) (q.got x)
           (in_newest t.captures.live q.top old q.live below x c k l) in
-          let first : get_in u.captures.live x ≡ some c =
+          let first : get_in u.captures.live x ≡ Some c =
           ap (λ (z : Lives). get_in z x) p.live ∙ get-append p.top old x ∙ ap (λ (z : Option (Live Capture)). or_else z (get_in old x)) a.found in
           kept_flag u t (offset c.value.row) (o.flags x c first l);
     }

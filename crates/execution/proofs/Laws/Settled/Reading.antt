@@ -1,7 +1,7 @@
 -- A name is read or set on a second run: what the row tells, and what is left.
-use Rattle.std.specs.Prelude.{ℕ, suc, List, [], ◌∷◌, Bool, ◌&&◌, ◌≡◌, get_or, eqb}
+use Rattle.std.specs.Prelude.{ℕ, suc, List, [], ◌∷◌, Bool, ◌&&◌, ◌≡◌, get_or, eqb, Option, None, Some}
+use Rattle.std.proofs.lemmas.Option.{none-some, same_Some}
 use Rattle.std.proofs.Math.Bool.{true, false, cond}
-use Rattle.std.proofs.Math.Option.{Option, none, some, some-ne-none, some-injective}
 use Rattle.std.proofs.Math.Path.{refl, ap, subst}
 use Rattle.std.proofs.Common.{sym, ◌∙◌}
 use native.Mathlib.Omega.{arith}
@@ -84,9 +84,9 @@ module _ (classes : List ℕ) (b : Ident) (c : Capture) (x : Ident) (s : State) 
       go true = refl
       go false = refl
 
-used_caught : (C : List ListEntry) (fr : Option Frame) (x : ℕ) (c : Live Capture) → CaughtIn C fr x (some c) → CaughtIn C fr x (some (used_live c))
-used_caught C none x c e = absurd (some-ne-none c e)
-used_caught C (some f) x c (one_of a b n d) = one_of a b n d
+used_caught : (C : List ListEntry) (fr : Option Frame) (x : ℕ) (c : Live Capture) → CaughtIn C fr x (Some c) → CaughtIn C fr x (Some (used_live c))
+used_caught C None x c e = absurd (none-some c (sym e))
+used_caught C (Some f) x c (one_of a b n d) = one_of a b n d
 
 module _ (classes : List ℕ) (S : Script) {own left : ℕ → Type 0} {bottom : List (Live Ident)} {function : Option Node} {fr : Option Frame} {d : ℕ}
     {old : Lives} {p : Place} {s : State}
@@ -114,7 +114,7 @@ module _ (classes : List ℕ) (S : Script) {own left : ℕ → Type 0} {bottom :
       } in
       catch_same same (ap (λ (g : Facts). g.captured) lists) now
     where
-      caught_at : (m : Catch S.C fr d old s) (t : Takes S fr s m.top p x.name b) (l : Lives) → get_in l x.name ≡ some (used_live t.capture)
+      caught_at : (m : Catch S.C fr d old s) (t : Takes S fr s m.top p x.name b) (l : Lives) → get_in l x.name ≡ Some (used_live t.capture)
           → (y : ℕ)
           → (¬ (y ≡ x.name) → get_in l y ≡ get_in m.top y) → Dec (y ≡ x.name) → CaughtIn S.C fr y (get_in l y)
       caught_at m t l here y others (yes e) =
@@ -124,14 +124,14 @@ module _ (classes : List ℕ) (S : Script) {own left : ℕ → Type 0} {bottom :
       caught_at m t l here y others (no e) = subst (CaughtIn S.C fr y) (sym (others e)) (m.caught y)
 
       offsets_in : (gr : Option Frame) (m : Catch S.C fr d old s) (t : Takes S fr s m.top p x.name b) (l : Lives)
-          → get_in l x.name ≡ some (used_live t.capture)
+          → get_in l x.name ≡ Some (used_live t.capture)
           → ((y : ℕ) → ¬ (y ≡ x.name) → get_in l y ≡ get_in m.top y) → OffsetsIn gr m.top s.facts.captured → OffsetsIn gr l s.facts.captured
-      offsets_in none m t l here others o = tt
-      offsets_in (some g) m t l here others o = λ y c e. at y c e (ℕ_discrete y x.name)
+      offsets_in None m t l here others o = tt
+      offsets_in (Some g) m t l here others o = λ y c e. at y c e (ℕ_discrete y x.name)
         where
-          at : (y : ℕ) (c : Live Capture) → get_in l y ≡ some c → Dec (y ≡ x.name) → OffsetsAt g y (get_or s.facts.captured c.value.row no_list_entry).info
+          at : (y : ℕ) (c : Live Capture) → get_in l y ≡ Some c → Dec (y ≡ x.name) → OffsetsAt g y (get_or s.facts.captured c.value.row no_list_entry).info
           at y c e (yes q) =
-              let same = some-injective (used_live t.capture) c (sym here ∙ ap (get_in l) (sym q) ∙ e) in
+              let same = same_Some (used_live t.capture) c (sym here ∙ ap (get_in l) (sym q) ∙ e) in
               subst (λ (z : Live Capture). OffsetsAt g y (get_or s.facts.captured z.value.row no_list_entry).info) same
               (o y t.capture (ap (get_in m.top) q ∙ t.found))
           at y c e (no q) = o y c (sym (others y q) ∙ e)
@@ -246,14 +246,14 @@ module _ (classes : List ℕ) (S : Script) {own : ℕ → Type 0} {bottom : List
 -- What is refused
 module _ (classes : List ℕ) (S : Script) {own : ℕ → Type 0} {bottom : List (Live Ident)} {fr : Option Frame} {p : Place} {s : State} {top : Lives} (x : Ident)
     (is_set : Bool) where
-  by_second : {o : Option Binder} {r : Rule} → Rereads S own fr s top p bottom x.name o r → s.noted.second ≡ none
+  by_second : {o : Option Binder} {r : Rule} → Rereads S own fr s top p bottom x.name o r → s.noted.second ≡ None
       → (read_by classes r x s).noted.second ≡ cond (is_twelve_at S (record { ident = x; is_set = is_set; place = p }) o)
-      (some (record { number = 12; at = x.at })) none
+      (Some (record { number = 12; at = x.at })) None
   unfolding insert amend put_entry
   by_second (again-none g) e = e
   by_second (again_global g h v) e = e
   by_second (again-own {b} k i) e = e ∙ rw (own_twelve S.G p.scope x.name b p.around i)
-  by_second (again_outer {b} k i t) e = go is_refused_here refl ∙ ap (λ (q : Bool). cond q (some (record { number = 12; at = x.at })) none) t.refused
+  by_second (again_outer {b} k i t) e = go is_refused_here refl ∙ ap (λ (q : Bool). cond q (Some (record { number = 12; at = x.at })) None) t.refused
     where
       c : Capture
       c = t.capture.value
@@ -263,7 +263,7 @@ module _ (classes : List ℕ) (S : Script) {own : ℕ → Type 0} {bottom : List
 
       go : (q : Bool) → is_refused_here ≡ q → (cond q (note_second 12 x.at (taken_row classes b.ident c x s))
           (taken_row classes b.ident c x s)).noted.second
-          ≡ cond q (some (record { number = 12; at = x.at })) none
+          ≡ cond q (Some (record { number = 12; at = x.at })) None
       go true q = rw e
       go false q = e
 
@@ -271,7 +271,7 @@ pub read_second : (classes : List ℕ) (S : Script) {own : ℕ → Type 0} {bott
     {old : Lives} {p : Place} {s : State}
     (x : Ident) (is_set : Bool) → Again S own bottom function fr d old p s → FramedIn S.C S.G fr p → All
     (λ k. InnerIn (S.G k) (record { ident = x; is_set = is_set; place = p })) p.around
-    → s.noted.second ≡ none → (read classes x s).noted.second ≡ second_by S (mentions (record { ident = x; is_set = is_set; place = p }) ∷ [])
+    → s.noted.second ≡ None → (read classes x s).noted.second ≡ second_by S (mentions (record { ident = x; is_set = is_set; place = p }) ∷ [])
 unfolding read second_by
 read_second classes S x is_set f w m e = by_second classes S x is_set (rules_again S f w x is_set m) e
 
@@ -285,7 +285,7 @@ module _ (S : Script) {own : ℕ → Type 0} {bottom : List (Live Ident)} {funct
   sets_again z of_none got_none = f
   sets_again z of_none (got_some {e} g) =
       used-again S f e.value.at _ no_part (λ b two k z. absurd (omega (arith, k.depth, g.depth, ap (λ (i : ℕ). (entry_at s i).depth) z)))
-      (set_changes (some e.value) s) refl refl (catch_same refl refl f.captures) refl
+      (set_changes (Some e.value) s) refl refl (catch_same refl refl f.captures) refl
   sets_again z (of_some {b} (a, k)) g =
       used-again S f b.ident.at _ no_part
       (λ c two h w. let g = subst (λ (i : ℕ). HeldAs S.U (entry_at s i) c) w h in record {
@@ -295,7 +295,7 @@ module _ (S : Script) {own : ℕ → Type 0} {bottom : List (Live Ident)} {funct
         captured = g.captured;
         mutated = λ q. ap (λ (j : ℕ). is_set_in j S.U) w ∙ n.set b z refl;
       })
-      (set_changes (some b.ident) s) refl refl (catch_same refl refl f.captures) refl
+      (set_changes (Some b.ident) s) refl refl (catch_same refl refl f.captures) refl
 
   pub mutate-again : Again S own bottom function fr d old p (mutate x.name s)
   unfolding mutate

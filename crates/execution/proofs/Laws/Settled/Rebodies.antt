@@ -1,9 +1,8 @@
 -- A second visit goes into the body of a let or a lambda, and out of it.
 use Prim.Native.Nat.{ℕ, suc, ◌+◌, ◌≤◌, ◌<◌}
 use mathlib.Core.List.{List, [], ◌∷◌, reverse_aux}
-use Rattle.std.specs.Prelude.{Bool, cond, ◌&&◌, ◌≡◌, length, drop, eqb}
+use Rattle.std.specs.Prelude.{Bool, cond, ◌&&◌, ◌≡◌, length, drop, eqb, Option, None, Some}
 use Rattle.std.proofs.Math.Bool.{true, false}
-use Rattle.std.proofs.Math.Option.{Option, none, some}
 use Rattle.std.proofs.Math.Path.{refl, ap, subst}
 use Rattle.std.proofs.Common.{sym, ◌∙◌, arith, get_or-take, get_or-drop}
 use borrow.Author.Tests.{eqb-true}
@@ -30,7 +29,7 @@ use Rattle.pass_laws.specs.Laws.Finds.{lives_of, all_map}
 use Rattle.pass_laws.specs.Laws.Onward.{Parts}
 use Rattle.pass_laws.specs.Laws.Reads.{Only}
 use Rattle.pass_laws.specs.Laws.Enters.{in_scope}
-use Rattle.pass_laws.specs.Laws.Bodies.{None, no_part, around_lambda, around_let, open_row, two_deep, let_aside, all_rest}
+use Rattle.pass_laws.specs.Laws.Bodies.{Nowhere, no_part, around_lambda, around_let, open_row, two_deep, let_aside, all_rest}
 use Rattle.pass_laws.specs.Laws.Idle.{Idle, idle_steps}
 use Rattle.pass_laws.specs.Laws.Preserved.{open_layer_preserves, parameters_preserves, close_layer_preserves, leaving_preserves}
 use Rattle.r7rs.specs.Binding.{Binder, Place, Use, lambda_body, let_body, parameters, let_names}
@@ -66,14 +65,14 @@ heaps_kept T C A U after e j (x ∷ xs) r h l k c =
 
 -- the lambda around a place in the lambdas a has a fact
 abbrev pub FunctionOf : List Row → Option Node → List ℕ → Type 0
-FunctionOf T none a = a ≡ []
-FunctionOf T (some n) a = (is_empty a ≡ false) × ((v : FunctionInformation) × (get_or T n.at Blank ≡ Function v))
+FunctionOf T None a = a ≡ []
+FunctionOf T (Some n) a = (is_empty a ≡ false) × ((v : FunctionInformation) × (get_or T n.at Blank ≡ Function v))
 
 heaps_none : (S : Script) {own : ℕ → Type 0} {bottom : List (Live Ident)} {fr : Option Frame} {d : ℕ} {old : Lives} {p : Place} {s : State}
     (function : Option Node)
     → FunctionOf S.T function p.around → Again S own bottom function fr d old p s → is_none (heaps_around s function) ≡ (true && is_empty p.around)
-heaps_none S {s = s} none fo f = rw fo
-heaps_none S {s = s} (some n) fo f =
+heaps_none S {s = s} None fo f = rw fo
+heaps_none S {s = s} (Some n) fo f =
     let row = key_function (row_at s n.at) (f.inside.0 ∙ ap key fo.1.1) in
     rw row (sym fo.0)
 
@@ -108,15 +107,15 @@ module _ (S : Script) {own : ℕ → Type 0} {bottom : List (Live Ident)} {funct
       }
     where
       inside-opened : (o : Option Node) → FunctionIn S.T own o s → FunctionIn S.T own o (open_scope s)
-      inside-opened none q = tt
-      inside-opened (some n) q = q
+      inside-opened None q = tt
+      inside-opened (Some n) q = q
 
   pub into_let_again : (classes : List ℕ) (cell : Ident → Option Ident) {left : ℕ → Type 0} (after : List Use) (n : Node) (k : ℕ) (xs : List Ident)
       → NumNames k xs → Covers own k (k + length xs)
       → own n.at → ((y : ℕ) → left y → own y) → ((y : ℕ) → left y → k ≤ y → y < k + length xs → ⊥) → LetKept S.T S.C S.A after n xs
       → Closed S.U after xs
       → FunctionOf S.T function p.around → Again S own bottom function fr d old p s → (height : ℕ) → height ≡ p.site.height
-      → (open_let n xs height function s).noted.nine ≡ none
+      → (open_let n xs height function s).noted.nine ≡ None
       → Reentered classes S cell (let_body (length xs) p) bottom function fr d old left (let_names xs p) p.scope k (length xs) s
       (open_let n xs height function s)
   unfolding open_let
@@ -130,7 +129,7 @@ module _ (S : Script) {own : ℕ → Type 0} {bottom : List (Live Ident)} {funct
       let before : let_arguments t (row_at t n.at) ≡ list_in S.A kept.info.arguments =
       ap (let_arguments t) row ∙ ap (λ (q : List ListEntry). list_in q kept.info.arguments) opened.arguments in
       let w = heaps_kept S.T S.C S.A S.U after kept.info.arguments 0 xs _ (omega arith) (omega (arith, kept.many)) kept.names closed in
-      let N : (open_let n xs height function s).noted.nine ≡ none
+      let N : (open_let n xs height function s).noted.nine ≡ None
       → Reentered classes S cell (let_body (length xs) p) bottom function fr d old left (let_names xs p) p.scope k (length xs) t
       (open_let n xs height function s) =
       rw (e, before) (enter-again LetVar p.site.height heaps (list_in S.A kept.info.arguments) true (let_body (length xs) p)
@@ -151,9 +150,9 @@ module _ (S : Script) {own : ℕ → Type 0} {bottom : List (Live Ident)} {funct
     (w : FramedIn S.C S.G fr p) (above : Above hi fr)
     (pending : Pending S.C lo hi s) where
   abbrev opened : State
-  opened = open_scope (open_captures (some kept.info) s)
+  opened = open_scope (open_captures (Some kept.info) s)
 
-  pub numbers : Numbered lo hi (suc d) s.captures.live (with_captures (push_layer s.captures) s) (open_captures (some kept.info) s)
+  pub numbers : Numbered lo hi (suc d) s.captures.live (with_captures (push_layer s.captures) s) (open_captures (Some kept.info) s)
   unfolding open_captures
   numbers =
       let e = kept.info.captured_vars in
@@ -176,7 +175,7 @@ module _ (S : Script) {own : ℕ → Type 0} {bottom : List (Live Ident)} {funct
         arguments = z.arguments;
       }
 
-  opened_offsets : OffsetsIn (some (frame_of fr n lo hi xs p.scope after)) numbers.top (open_captures (some kept.info) s).facts.captured
+  opened_offsets : OffsetsIn (Some (frame_of fr n lo hi xs p.scope after)) numbers.top (open_captures (Some kept.info) s).facts.captured
   unfolding open_captures
   opened_offsets =
       new_offsets S n xs lo hi after kept f w above pending (number_list kept.info.captured_vars (with_captures (push_layer s.captures) s)) refl
@@ -188,13 +187,13 @@ module _ (S : Script) {own : ℕ → Type 0} {bottom : List (Live Ident)} {funct
   open_outside r o = numbers.outside r o
 
   open_layers_again : (own' : ℕ → Type 0) → ((y : ℕ) → own' y → own y) → (own' n.at → ⊥) → own n.at
-      → Again S own' bottom (some n) (some (frame_of fr n lo hi xs p.scope after)) (suc d) s.captures.live (lambda_body n (length xs) p) opened
+      → Again S own' bottom (Some n) (Some (frame_of fr n lo hi xs p.scope after)) (suc d) s.captures.live (lambda_body n (length xs) p) opened
   unfolding open_scope
   open_layers_again own' w a i =
       let q = numbers in
       let m = f.captures in
-      let side = captures_beside (some kept.info) s in
-      let c : Moves None s opened = by (open_changes (some kept.info) s) ⨟ opens in
+      let side = captures_beside (Some kept.info) s in
+      let c : Moves Nowhere s opened = by (open_changes (Some kept.info) s) ⨟ opens in
       let below = subst (Below (suc d)) (sym m.live) (below_all_lem d m.top old m.layer m.below) in
       record {
         tables = tabled (record { written = λ x z. absurd z; kept = w; apart = λ x l z. z }) f.tables c;
@@ -218,7 +217,7 @@ module _ (S : Script) {own : ℕ → Type 0} {bottom : List (Live Ident)} {funct
             (all_map (λ b k. record { held = k.held; apart = λ z. k.apart (w b.ident.at z) }) p.scope f.stands);
       }
 
-  pub function_at : own n.at → function_in (row_at s n.at) ≡ some kept.info
+  pub function_at : own n.at → function_in (row_at s n.at) ≡ Some kept.info
   function_at i = ap function_in (key_function (row_at s n.at) (f.tables.keys n.at i ∙ ap key kept.is))
 
   -- the rows of other lists stay
@@ -226,13 +225,13 @@ module _ (S : Script) {own : ℕ → Type 0} {bottom : List (Live Ident)} {funct
   unfolding open_lambda
   enter-outside i r o =
       subst (λ (v : Option FunctionInformation). list_entry_at (enter_parameters v xs (open_scope (open_captures v s))) r ≡ list_entry_at s r) (sym (function_at i))
-      (ap (λ (g : Facts). get_or g.captured r no_list_entry) (parameters_preserves idle_steps (some kept.info) xs opened) ∙ open_outside r o)
+      (ap (λ (g : Facts). get_or g.captured r no_list_entry) (parameters_preserves idle_steps (Some kept.info) xs opened) ∙ open_outside r o)
 
   pub into_lambda_again : (classes : List ℕ) (cell : Ident → Option Ident) {left : ℕ → Type 0} (k : ℕ) → NumNames k xs → Covers own k (k + length xs)
       → own n.at
       → ((y : ℕ) → left y → own y) → ((y : ℕ) → left y → k ≤ y → y < k + length xs → ⊥) → (left n.at → ⊥) → (n.at < k) → Closed S.U after xs
-      → (open_lambda n xs s).noted.nine ≡ none
-      → Reentered classes S cell (lambda_body n (length xs) p) bottom (some n) (some (frame_of fr n lo hi xs p.scope after)) (suc d) s.captures.live left
+      → (open_lambda n xs s).noted.nine ≡ None
+      → Reentered classes S cell (lambda_body n (length xs) p) bottom (Some n) (Some (frame_of fr n lo hi xs p.scope after)) (suc d) s.captures.live left
       (parameters n xs p) p.scope k (length xs) s
       (open_lambda n xs s)
   unfolding open_lambda enter_parameters
@@ -242,19 +241,19 @@ module _ (S : Script) {own : ℕ → Type 0} {bottom : List (Live Ident)} {funct
       let start = open_layers_again own' (λ y z. z.0) (λ z. z.1 refl) i in
       let before : list_in opened.facts.arguments kept.info.arguments ≡ list_in S.A kept.info.arguments = ap
       (λ (q : List ListEntry). list_in q kept.info.arguments) start.arguments in
-      let N : (open_lambda n xs s).noted.nine ≡ none
-      → Reentered classes S cell (lambda_body n (length xs) p) bottom (some n) (some (frame_of fr n lo hi xs p.scope after)) (suc d) s.captures.live left
+      let N : (open_lambda n xs s).noted.nine ≡ None
+      → Reentered classes S cell (lambda_body n (length xs) p) bottom (Some n) (Some (frame_of fr n lo hi xs p.scope after)) (suc d) s.captures.live left
       (parameters n xs p) p.scope k (length xs)
       opened (open_lambda n xs s) =
-      subst (λ (v : Option FunctionInformation). (enter_parameters v xs (open_scope (open_captures v s))).noted.nine ≡ none
-      → Reentered classes S cell (lambda_body n (length xs) p) bottom (some n) (some (frame_of fr n lo hi xs p.scope after)) (suc d) s.captures.live left
+      subst (λ (v : Option FunctionInformation). (enter_parameters v xs (open_scope (open_captures v s))).noted.nine ≡ None
+      → Reentered classes S cell (lambda_body n (length xs) p) bottom (Some n) (Some (frame_of fr n lo hi xs p.scope after)) (suc d) s.captures.live left
       (parameters n xs p) p.scope k (length xs)
       opened (enter_parameters v xs (open_scope (open_captures v s))))
       (sym (function_at i))
       (rw before (enter-again Local 0 _ (list_in S.A kept.info.arguments) false (lambda_body n (length xs) p) (omega (arith, f.one)) classes S cell
       {left = left} k xs 0 0 m
       (λ y c e. (o y c e, λ z. omega arith)) (λ y z. (l y z, λ q. b (subst left q z))) a refl refl w start)) in
-      record { again = (N nine).again; tells = (N nine).tells; second = λ v. (N nine).second (open_unsaid (some kept.info) s ∙ v) }
+      record { again = (N nine).again; tells = (N nine).tells; second = λ v. (N nine).second (open_unsaid (Some kept.info) s ∙ v) }
 
 -- Out of a let
 
@@ -277,7 +276,7 @@ module _ (S : Script) {own mid left : ℕ → Type 0} {bottom : List (Live Ident
     (q : Place) (bs : List Binder) (f : Again S own bottom function fr d old p s) (parts : Parts mid (Only n.at) left) where
   pub let_left-again : (g : Again S mid bottom function fr d old (in_scope q (reverse_aux bs p.scope)) t) → own n.at → mid n.at → (after : List Use)
       → LetKept S.T S.C S.A after n xs
-      → (b : Bool) (height : ℕ) (fn : Option Node) → b ≡ at_bottom s → (open_let n xs height fn s).noted.nine ≡ none
+      → (b : Bool) (height : ℕ) (fn : Option Node) → b ≡ at_bottom s → (open_let n xs height fn s).noted.nine ≡ None
       → names t ≡ names (open_let n xs height fn s) → Again S left bottom function fr d old p (close_let b n xs height fn t)
   let_left-again g o i after kept b height fn opened e same =
       let en = rw (← opened) at (open_let_lem n xs height fn s (again_layered S f).one e) in

@@ -1,10 +1,9 @@
 -- Names enter on a second run: one that an inner lambda uses and that is set enters as a heap entry.
 use Prim.Native.Nat.{ℕ, suc, ◌+◌, ◌≤◌, ◌<◌}
 use mathlib.Core.List.{List, [], ◌∷◌, reverse_aux}
-use Rattle.std.specs.Prelude.{Bool, ◌&&◌, ◌≡◌, refl, length}
+use Rattle.std.specs.Prelude.{Bool, ◌&&◌, ◌≡◌, refl, length, Option, None, Some}
 use Rattle.std.proofs.Math.Bool.{true, false, cond, and-true, and-false}
 use Rattle.std.proofs.Common.{true≢false, sym, ◌∙◌, get_or-set_same}
-use Rattle.std.proofs.Math.Option.{Option, none, some}
 use Rattle.std.proofs.Math.Path.{ap, subst}
 use native.Mathlib.Omega.{arith}
 use Rattle.std.proofs.Math.ListN.{set, length-set}
@@ -51,12 +50,12 @@ Heaps U before j (x ∷ xs) = (is_heap before j ≡ shared U x.at) × Heaps U be
 -- a note of refusal 11 leaves scope and captures alone
 
 heap_scope : (o : Option ℕ) (x : Ident) (s : State) → (note_heap o x s).scope ≡ s.scope
-heap_scope none x s = refl
-heap_scope (some n) x s = refl
+heap_scope None x s = refl
+heap_scope (Some n) x s = refl
 
 heap_captures : (o : Option ℕ) (x : Ident) (s : State) → (note_heap o x s).captures ≡ s.captures
-heap_captures none x s = refl
-heap_captures (some n) x s = refl
+heap_captures None x s = refl
+heap_captures (Some n) x s = refl
 
 -- the binders bs have entered at the place p, at the n records from k on
 pub record Reentered (classes : List ℕ) (S : Script) (cell : Ident
@@ -64,16 +63,16 @@ pub record Reentered (classes : List ℕ) (S : Script) (cell : Ident
     (left : ℕ → Type 0) (bs sc : List Binder) (k n : ℕ) (s t : State) : Type 0 where
   pub again : Again S left bottom function fr d old (in_scope p (reverse_aux bs sc)) t
   pub tells : (R : List Row) → Agree k (k + n) R t → TellsAll classes S R cell (entering bs sc)
-  pub second : s.noted.second ≡ none → t.noted.second ≡ second_by S (entering bs sc)
+  pub second : s.noted.second ≡ None → t.noted.second ≡ second_by S (entering bs sc)
 
 abbrev pub is_none : Option ℕ → Bool
-is_none none = true
-is_none (some n) = false
+is_none None = true
+is_none (Some n) = false
 
-heap_second : (o : Option ℕ) (x : Ident) (s : State) → s.noted.second ≡ none
-    → (note_heap o x s).noted.second ≡ cond (is_none o) (some (record { number = 11; at = x.at })) none
-heap_second none x s e = rw e
-heap_second (some n) x s e = e
+heap_second : (o : Option ℕ) (x : Ident) (s : State) → s.noted.second ≡ None
+    → (note_heap o x s).noted.second ≡ cond (is_none o) (Some (record { number = 11; at = x.at })) None
+heap_second None x s e = rw e
+heap_second (Some n) x s e = e
 
 module _ (kind : IdentifierStatus) (base : ℕ) (heaps : Option ℕ) (before : List ListEntry) (is_let : Bool) (p : Place) (two : 2 ≤ p.site.layer) where
   abbrev binder_of : ℕ → Ident → Binder
@@ -118,7 +117,7 @@ module _ (kind : IdentifierStatus) (base : ℕ) (heaps : Option ℕ) (before : L
   module _ (S : Script) {own : ℕ → Type 0} {bottom : List (Live Ident)} {function : Option Node} {fr : Option Frame} {d : ℕ} {old : Lives} {sc : List Binder}
       {s : State} where
     name_again : {left : ℕ → Type 0} (q : Bool) (x : Ident) (j h : ℕ) → shared S.U x.at ≡ q → Parts own (Only x.at) left → own x.at
-        → Again S own bottom function fr d old (in_scope p sc) s → (enter_name kind base heaps before q x j h s).noted.nine ≡ none
+        → Again S own bottom function fr d old (in_scope p sc) s → (enter_name kind base heaps before q x j h s).noted.nine ≡ None
         → Again S left bottom function fr d old (in_scope p (binder_of j x ∷ sc)) (enter_name kind base heaps before q x j h s)
     name_again {left} q x j h e parts o f n =
         let t = enter_name kind base heaps before q x j h s in
@@ -176,8 +175,8 @@ module _ (kind : IdentifierStatus) (base : ℕ) (heaps : Option ℕ) (before : L
 
   -- a heap entry outside every lambda is refused
   name_second : (S : Script) (q : Bool) (x : Ident) (j h : ℕ) (s : State) → is_none heaps ≡ (is_let && is_empty p.around) → shared S.U x.at ≡ q
-      → s.noted.second ≡ none
-      → (enter_name kind base heaps before q x j h s).noted.second ≡ cond (is_eleven_by S (binder_of j x)) (some (record { number = 11; at = x.at })) none
+      → s.noted.second ≡ None
+      → (enter_name kind base heaps before q x j h s).noted.second ≡ cond (is_eleven_by S (binder_of j x)) (Some (record { number = 11; at = x.at })) None
   unfolding enter_name
   name_second S true x j h s e g n =
       insert_unsaid x.at _ _ ∙ enter_preserves unsaid_steps x _ (note_heap heaps x s) ∙ heap_second heaps x s n ∙ rw (e, g, and-true (is_let && is_empty p.around))
@@ -188,7 +187,7 @@ module _ (kind : IdentifierStatus) (base : ℕ) (heaps : Option ℕ) (before : L
       {sc : List Binder} {s : State} (k : ℕ) (xs : List Ident) (j h : ℕ) → NumNames k xs → Covers own k (k + length xs) → ((y : ℕ) → left y → own y)
       → ((y : ℕ) → left y → k ≤ y → y < k + length xs → ⊥) → kind ≡ cond is_let LetVar Local → is_none heaps ≡ (is_let && is_empty p.around)
       → Heaps S.U before j xs → Again S own bottom function fr d old (in_scope p sc) s
-      → (enter_names kind base heaps before xs j h s).noted.nine ≡ none
+      → (enter_names kind base heaps before xs j h s).noted.nine ≡ None
       → Reentered classes S cell p bottom function fr d old left (binders is_let base p j xs) sc k (length xs) s (enter_names kind base heaps before xs j h s)
   unfolding enter_names NumNames binders entering second_by
   enter-again classes S cell k [] j h m o l a e z w f n =
@@ -222,8 +221,8 @@ module _ (kind : IdentifierStatus) (base : ℕ) (heaps : Option ℕ) (before : L
             (λ r. (keeps_noted later).first_second r);
       }
     where
-      second_of_lem : {t u rest : Option Refusal} (b : Bool) → t ≡ cond b (some (record { number = 11; at = x.at })) none → (t ≡ none → u ≡ rest)
-          → ((r : Refusal) → t ≡ some r → u ≡ some r)
-          → u ≡ cond b (some (record { number = 11; at = x.at })) rest
+      second_of_lem : {t u rest : Option Refusal} (b : Bool) → t ≡ cond b (Some (record { number = 11; at = x.at })) None → (t ≡ None → u ≡ rest)
+          → ((r : Refusal) → t ≡ Some r → u ≡ Some r)
+          → u ≡ cond b (Some (record { number = 11; at = x.at })) rest
       second_of_lem true e f g = g _ e
       second_of_lem false e f g = f e

@@ -1,7 +1,6 @@
 -- The parts of a second visit, form by form: a name read or set, a let, a lambda.
-use Rattle.std.specs.Prelude.{ℕ, suc, ◌+◌, ◌≤◌, List, [], ◌∷◌, ◌++◌, Bool, true, false, ◌≡◌, length, get_or}
+use Rattle.std.specs.Prelude.{ℕ, suc, ◌+◌, ◌≤◌, List, [], ◌∷◌, ◌++◌, Bool, true, false, ◌≡◌, length, get_or, Option, None, Some}
 use Rattle.std.proofs.Common.{append_assoc, append-nil, ap, sym, subst, ◌∙◌, arith}
-use Rattle.std.proofs.Math.Option.{Option, none, some}
 use Rattle.tree.specs.Tree.{Ident, Node, Tree, Trees, size, sizes}
 use Rattle.scope_map.specs.ScopeMap.{Live}
 use Rattle.semantic.specs.Rows.{Row, no_list_entry}
@@ -111,7 +110,7 @@ module _ (classes : List ℕ) (S : Script) (bottom : List (Live Ident)) (own : �
 
   pub let_did : {u : State} (opened : Bool) → n.at ≡ i → Covers own i (i + 1) → Covers own names_at initials_at → Covers own body_at end
       → LetKept S.T S.C S.A after n xs
-      → opened ≡ at_bottom s → (open_let n xs height function s).noted.nine ≡ none → Again S own bottom function fr d old p s
+      → opened ≡ at_bottom s → (open_let n xs height function s).noted.nine ≡ None → Again S own bottom function fr d old p s
       → Reentered classes S (cell_of bottom) (let_body (length xs) p) bottom function fr d old (Minus own names_at initials_at) (let_names xs p) p.scope names_at
       (length xs) s
       (open_let n xs height function s)
@@ -177,13 +176,13 @@ module _ (classes : List ℕ) (S : Script) (bottom : List (Live Ident)) (own : �
 
   pub lambda_did : {u : State} (escapes : Bool) → n.at ≡ i → Covers own i stop → (kept : LambdaKept S.T S.C S.A mid hi after n xs p.scope)
       → lo ≤ mid → mid ≤ hi → Above hi fr
-      → (open_lambda n xs s).noted.nine ≡ none → (f : Again S own bottom function fr d old p s) → Pending S.C mid hi s
+      → (open_lambda n xs s).noted.nine ≡ None → (f : Again S own bottom function fr d old p s) → Pending S.C mid hi s
       → ((r : ℕ) → Off mid hi r → list_entry_at (open_lambda n xs s) r ≡ list_entry_at s r)
-      → Reentered classes S (cell_of bottom) (lambda_body n (length xs) p) bottom (some n) (some frame) (suc d) s.captures.live AfterNames
+      → Reentered classes S (cell_of bottom) (lambda_body n (length xs) p) bottom (Some n) (Some frame) (suc d) s.captures.live AfterNames
       (parameters n xs p) p.scope params_at (length xs) s
       (open_lambda n xs s)
       → Changes (Off params_at code_at) (open_lambda n xs s) u → Moves own s (close_lambda n xs b escapes u)
-      → Did classes S bottom AfterBody (some n) (some frame) (suc d) s.captures.live code (walk b code) code_at stop lo mid (open_lambda n xs s) u
+      → Did classes S bottom AfterBody (Some n) (Some frame) (suc d) s.captures.live code (walk b code) code_at stop lo mid (open_lambda n xs s) u
       → Did classes S bottom AfterBody function fr d old p (entering (parameters n xs p) p.scope ++ (walk b code ++ (ends n.at xs p.scope ∷ []))) i
       stop lo hi s
       (close_lambda n xs b escapes u)

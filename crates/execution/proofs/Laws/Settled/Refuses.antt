@@ -1,8 +1,8 @@
 -- The offsets of a lambda's list, and which reads they refuse: a name's capture has a read offset and no capture offset exactly if the name is not set
 -- by the lambda's end, is in scope once, and is taken by the lambda around and set by that one's end.
-use Rattle.std.specs.Prelude.{ℕ, zero, suc, ◌+◌, ◌-◌, ◌≤◌, ◌<◌, List, [], ◌∷◌, ◌++◌, Bool, true, false, cond, not, ◌&&◌, ◌≡◌, refl, get_or, eqb, leb}
+use Rattle.std.specs.Prelude.{ℕ, zero, suc, ◌+◌, ◌-◌, ◌≤◌, ◌<◌, List, [], ◌∷◌, ◌++◌, Bool, true, false, cond, not, ◌&&◌, ◌≡◌, refl, get_or, eqb, leb, Option, None, Some}
+use Rattle.std.proofs.lemmas.Option.{same_Some}
 use Rattle.std.proofs.Common.{true≢false, ap, sym, subst, ◌∙◌, arith, eq-eqb, ne_eqb, leb-true}
-use Rattle.std.proofs.Math.Option.{Option, none, some, some-injective}
 use Rattle.std.proofs.Math.Decide.{ℕ_discrete, dec_lt}
 use Rattle.tree.specs.Tree.{Ident, Node}
 use Rattle.scope_map.specs.ScopeMap.{Live, get_in, push_layer}
@@ -24,23 +24,23 @@ use Rattle.execution.proofs.Laws.Settled.Rereads.{count_none, times-some}
 
 -- the list of the lambda around has its rows from `hi` on
 abbrev pub Above : ℕ → Option Frame → Type 0
-Above hi none = Unit {0}
-Above hi (some f) = hi ≤ f.lo
+Above hi None = Unit {0}
+Above hi (Some f) = hi ≤ f.lo
 
 -- a name that the lambda around takes, and that is set by its end
 
 abbrev pub held_of : Frame → Option Binder → Bool
-held_of f none = false
-held_of f (some b) = used_inside b.ident.at f.after && is_set_in b.ident.at f.after
+held_of f None = false
+held_of f (Some b) = used_inside b.ident.at f.after && is_set_in b.ident.at f.after
 
 abbrev pub held_set : Option Frame → ℕ → Bool
-held_set none x = false
-held_set (some f) x = cond (has_name x f.xs) false (held_of f (find f.sc x))
+held_set None x = false
+held_set (Some f) x = cond (has_name x f.xs) false (held_of f (find f.sc x))
 
 -- a read of the name is refused in a lambda where sc is in scope, with the uses `after` by its end, inside the lambda o
 abbrev pub refuses_binder : Option Frame → List Binder → List Use → ℕ → Option Binder → Bool
-refuses_binder o sc after x none = false
-refuses_binder o sc after x (some b) = not (is_set_in b.ident.at after) && (eqb (times_in x sc) 1 && held_set o x)
+refuses_binder o sc after x None = false
+refuses_binder o sc after x (Some b) = not (is_set_in b.ident.at after) && (eqb (times_in x sc) 1 && held_set o x)
 
 abbrev pub refuses_of : Option Frame → List Binder → List Use → ℕ → Bool
 refuses_of o sc after x = refuses_binder o sc after x (find sc x)
@@ -102,7 +102,7 @@ two_rows C x r (suc k) a b h₁ h₂ h₃ e g =
 -- the entry that is taken, by the list
 pub record Held (f : Frame) (x : ℕ) (i : ListEntry) : Type 0 where
   pub binder : Binder
-  pub found : find f.sc x ≡ some binder
+  pub found : find f.sc x ≡ Some binder
   pub outside : has_name x f.xs ≡ false
   pub used : used_inside binder.ident.at f.after ≡ true
   pub mutated : i.info.mutated ≡ is_set_in binder.ident.at f.after
@@ -118,18 +118,18 @@ held-taken {f} {x} t e =
       mutated = t.mutated;
     }
 
-held_is : {f : Frame} {x : ℕ} {i : ListEntry} → Held f x i → held_set (some f) x ≡ i.info.mutated
+held_is : {f : Frame} {x : ℕ} {i : ListEntry} → Held f x i → held_set (Some f) x ≡ i.info.mutated
 held_is h = rw (h.outside, h.found, h.used) (sym h.mutated)
 
 module _ (C : List ListEntry) (G : ℕ → List Use) where
   -- a name that is not in the list is not held
   not-held : (f : Frame) (p : Place) (x : ℕ) → Framed C G f p → ((q : ℕ) → f.lo ≤ q → q < f.hi → ¬ (name_of (get_or C q no_list_entry) ≡ x))
-      → held_set (some f) x ≡ false
+      → held_set (Some f) x ≡ false
   not-held f p x w n = go (has_name x f.xs) refl
     where
       by : (o : Option Binder) → find f.sc x ≡ o → has_name x f.xs ≡ false → held_of f o ≡ false
-      by none e h = refl
-      by (some b) e h = used (used_inside b.ident.at f.after) refl
+      by None e h = refl
+      by (Some b) e h = used (used_inside b.ident.at f.after) refl
         where
           used : (u : Bool) → used_inside b.ident.at f.after ≡ u → (u && is_set_in b.ident.at f.after) ≡ false
           used true q =
@@ -154,29 +154,29 @@ module _ (C : List ListEntry) (G : ℕ → List Use) where
 
       -- older captures are too far
       far : (o : Option (Live Capture)) → get_in old x ≡ o → is_unread (near_in s₀ o) ≡ false
-      far none e = refl
-      far (some c) e = cases (leb (suc s.captures.depth - c.layer) 1) refl
+      far None e = refl
+      far (Some c) e = cases (leb (suc s.captures.depth - c.layer) 1) refl
         where
-          cases : (b : Bool) → leb (suc s.captures.depth - c.layer) 1 ≡ b → is_unread (cond b (some (info_at s c.value.row)) none) ≡ false
+          cases : (b : Bool) → leb (suc s.captures.depth - c.layer) 1 ≡ b → is_unread (cond b (Some (info_at s c.value.row)) None) ≡ false
           cases true q = absurd (omega (arith, leb-true (suc s.captures.depth - c.layer) 1 q, old_layer old m.below x c e, m.depth))
           cases false q = refl
 
       go : (gr : Option Frame) → FramedIn C G gr p → CaughtIn C gr x (get_in m.top x) → MutatedIn C gr s.facts.captured
           → OffsetsIn gr m.top s.facts.captured
           → (o : Option (Live Capture)) → get_in m.top x ≡ o → is_unread (near_in s₀ (or_else (get_in m.top x) (get_in old x))) ≡ held_set gr x
-      go none v k mu os o e = ap (λ (z : Option (Live Capture)). is_unread (near_in s₀ (or_else z (get_in old x)))) k ∙ far (get_in old x) refl
-      go (some f) v k mu os none e =
+      go None v k mu os o e = ap (λ (z : Option (Live Capture)). is_unread (near_in s₀ (or_else z (get_in old x)))) k ∙ far (get_in old x) refl
+      go (Some f) v k mu os None e =
           ap (λ (z : Option (Live Capture)). is_unread (near_in s₀ (or_else z (get_in old x)))) e ∙ far (get_in old x) refl ∙ sym
           (absent (subst (CaughtOf C f.lo f.hi x) e k))
         where
-          absent : CaughtOf C f.lo f.hi x none → held_set (some f) x ≡ false
+          absent : CaughtOf C f.lo f.hi x None → held_set (Some f) x ≡ false
           absent (none_of n) = not-held f p x v n
-      go (some f) v k mu os (some c) e =
+      go (Some f) v k mu os (Some c) e =
           let deep : suc s.captures.depth - c.layer ≡ 1 = omega (arith, get_layer m.top m.layer x c e, m.depth, m.one) in
           ap (λ (z : Option (Live Capture)). is_unread (near_in s₀ (or_else z (get_in old x)))) e ∙ rw deep
           ((os x c e).unread ∙ present (subst (CaughtOf C f.lo f.hi x) e k))
         where
-          present : CaughtOf C f.lo f.hi x (some c) → (info_at s c.value.row).mutated ≡ held_set (some f) x
+          present : CaughtOf C f.lo f.hi x (Some c) → (info_at s c.value.row).mutated ≡ held_set (Some f) x
           present (one_of l h n b) = mu c.value.row l h ∙ sym (held_is (held-taken {f = f} (v.list.taken c.value.row l h) n))
 
 -- The captures of a lambda that is entered
@@ -192,7 +192,7 @@ module _ (S : Script) {own : ℕ → Type 0} {bottom : List (Live Ident)} {funct
   frame = frame_of fr n lo hi xs p.scope after
 
   -- what is near lies in the list of the lambda around
-  apart : (x : ℕ) (c : Live Capture) → get_in s.captures.live x ≡ some c → leb (suc d - c.layer) 1 ≡ true → Off lo hi c.value.row
+  apart : (x : ℕ) (c : Live Capture) → get_in s.captures.live x ≡ Some c → leb (suc d - c.layer) 1 ≡ true → Off lo hi c.value.row
   apart x c e h = go fr above (f.captures.caught x) (ap (λ (l : Lives). get_in l x) f.captures.live ∙ get-append f.captures.top old x)
     where
       m : Catch S.C fr d old s
@@ -200,23 +200,23 @@ module _ (S : Script) {own : ℕ → Type 0} {bottom : List (Live Ident)} {funct
 
       go : (gr : Option Frame) → Above hi gr → CaughtIn S.C gr x (get_in m.top x) → get_in s.captures.live x ≡ or_else (get_in m.top x) (get_in old x)
           → Off lo hi c.value.row
-      go none a k z = absurd (omega (
+      go None a k z = absurd (omega (
         arith,
         leb-true (suc d - c.layer) 1 h,
         old_layer old m.below x c
             (sym (z ∙ ap (λ (o : Option (Live Capture)). or_else o (get_in old x)) k) ∙ e),
       ))
-      go (some g) a k z = inside (get_in m.top x) refl k
+      go (Some g) a k z = inside (get_in m.top x) refl k
         where
           inside : (o : Option (Live Capture)) → get_in m.top x ≡ o → CaughtOf S.C g.lo g.hi x o → Off lo hi c.value.row
-          inside none q t = absurd (omega (
+          inside None q t = absurd (omega (
             arith,
             leb-true (suc d - c.layer) 1 h,
             old_layer old m.below x c
                 (sym (z ∙ ap (λ (o : Option (Live Capture)). or_else o (get_in old x)) q) ∙ e),
           ))
-          inside (some b) q (one_of l u v y) =
-              let same = ap (λ (k : Live Capture). k.value.row) (some-injective b c
+          inside (Some b) q (one_of l u v y) =
+              let same = ap (λ (k : Live Capture). k.value.row) (same_Some b c
               (sym (z ∙ ap (λ (o : Option (Live Capture)). or_else o (get_in old x)) q) ∙ e)) in
               λ i j. omega arith
 
@@ -236,7 +236,7 @@ module _ (S : Script) {own : ℕ → Type 0} {bottom : List (Live Ident)} {funct
     alike q a b e =
         let k = held-taken {f = frame} (kept.taken q a b) e in
         ap (λ (i : ListEntry). i.info.mutated) (pending.at q a b) ∙ k.mutated
-        ∙ ap (λ (c : Binder). is_set_in c.ident.at after) (some-injective k.binder held.binder (sym k.found ∙ held.found))
+        ∙ ap (λ (c : Binder). is_set_in c.ident.at after) (same_Some k.binder held.binder (sym k.found ∙ held.found))
 
     times : count_from S.C x lo kept.info.captured_vars.length ≡ times_in x p.scope
     times = kept.times x held.binder held.outside held.found held.used
@@ -284,16 +284,16 @@ module _ (S : Script) {own : ℕ → Type 0} {bottom : List (Live Ident)} {funct
 
   pub new_offsets : (t : State) → t ≡ number_list kept.info.captured_vars pushed → (top : Lives) → t.captures.live ≡ top ++ s.captures.live
       → InLayer (suc d) top
-      → ((q : ℕ) → Same (list_entry_at pushed q) (list_entry_at t q)) → ((x : ℕ) → CaughtOf S.C lo hi x (get_in top x)) → OffsetsIn (some frame) top t.facts.captured
+      → ((q : ℕ) → Same (list_entry_at pushed q) (list_entry_at t q)) → ((x : ℕ) → CaughtOf S.C lo hi x (get_in top x)) → OffsetsIn (Some frame) top t.facts.captured
   new_offsets t is top live layer list_entries caught x c e = go (subst (CaughtOf S.C lo hi x) e (caught x))
     where
-      go : CaughtOf S.C lo hi x (some c) → OffsetsAt frame x (info_at t c.value.row)
+      go : CaughtOf S.C lo hi x (Some c) → OffsetsAt frame x (info_at t c.value.row)
       go (one_of l h name b) =
           let v = kept.info.captured_vars in
           let m = f.captures in
           let below = subst (Below (suc d)) (sym m.live) (below_all_lem d m.top old m.layer m.below) in
           let ends : v.first + v.length ≡ hi = ap (λ (k : ℕ). k + v.length) kept.from ∙ kept.to in
-          let found : get_in (number_list v pushed).captures.live x ≡ some c =
+          let found : get_in (number_list v pushed).captures.live x ≡ Some c =
           ap (λ (u : State). get_in u.captures.live x) (sym is) ∙ ap (λ (k : Lives). get_in k x) live ∙ get-append top s.captures.live x ∙ ap
           (λ (o : Option (Live Capture)). or_else o (get_in s.captures.live x)) e in
           let flagged = flagged-list v (suc d) s.captures.live pushed (ap suc m.depth) refl below

@@ -1,7 +1,7 @@
 -- A second visit leaves a lambda: its list is written again in its place, and its captures go.
-use Rattle.std.specs.Prelude.{ℕ, zero, suc, ◌+◌, ◌-◌, ◌≤◌, ◌<◌, Bool, true, false, cond, ◌≡◌, length, get_or, take, drop, replicate}
+use Rattle.std.specs.Prelude.{ℕ, zero, suc, ◌+◌, ◌-◌, ◌≤◌, ◌<◌, Bool, true, false, cond, ◌≡◌, length, get_or, take, drop, replicate, Option, None, Some}
+use Rattle.std.proofs.lemmas.Option.{same_Some, none-some}
 use mathlib.Core.List.{List, [], ◌∷◌, ◌++◌, map, reverse_aux}
-use Rattle.std.proofs.Math.Option.{Option, none, some, some-injective, none-ne-some}
 use Rattle.std.proofs.Math.Path.{refl, ap}
 use Rattle.std.proofs.Common.{sym, subst, ◌∙◌, arith, length-append}
 use Rattle.std.proofs.lemmas.List.{length-replicate}
@@ -88,14 +88,14 @@ amends n b now m v s =
     }
 
 function_amends : (o : Option FunctionInformation) (v : FunctionInformation) (n : Node) (b : Tree) (escapes : Bool) (now a : List ListEntry) (m : ScopeMap Capture)
-    (s : State) → o ≡ some v
+    (s : State) → o ≡ Some v
     → Amended v.captured_vars.first (v.captured_vars.first + v.captured_vars.length) s (function_ends o n b escapes now a m s)
 function_amends o v n b escapes now a m s e =
     subst (λ (f : Option FunctionInformation). Amended v.captured_vars.first (v.captured_vars.first + v.captured_vars.length) s
     (function_ends f n b escapes now a m s)) (sym e)
     (amends n b now m v s)
 
-pub lambda_amends : (n : Node) (xs : List Ident) (b : Tree) (escapes : Bool) (v : FunctionInformation) (s : State) → function_in (row_at s n.at) ≡ some v
+pub lambda_amends : (n : Node) (xs : List Ident) (b : Tree) (escapes : Bool) (v : FunctionInformation) (s : State) → function_in (row_at s n.at) ≡ Some v
     → Amended v.captured_vars.first (v.captured_vars.first + v.captured_vars.length) s (close_lambda n xs b escapes s)
 unfolding close_lambda
 lambda_amends n xs b escapes v s e =
@@ -111,36 +111,36 @@ lambda_amends n xs b escapes v s e =
 
 pub mutated_still : (C : List ListEntry) (fr : Option Frame) (lo hi : ℕ) (s t : State) → Above hi fr → ((r : ℕ) → Off lo hi r → list_entry_at t r ≡ list_entry_at s r)
     → MutatedIn C fr s.facts.captured → MutatedIn C fr t.facts.captured
-mutated_still C none lo hi s t a o m = tt
-mutated_still C (some f) lo hi s t a o m = λ r l h. ap (λ (i : ListEntry). i.info.mutated) (o r (λ x y. omega arith)) ∙ m r l h
+mutated_still C None lo hi s t a o m = tt
+mutated_still C (Some f) lo hi s t a o m = λ r l h. ap (λ (i : ListEntry). i.info.mutated) (o r (λ x y. omega arith)) ∙ m r l h
 
 pub offsets_still : (C : List ListEntry) (fr : Option Frame) (lo hi : ℕ) (top : Lives) (s t : State) → Above hi fr
     → ((r : ℕ) → Off lo hi r → list_entry_at t r ≡ list_entry_at s r)
     → ((x : ℕ) → CaughtIn C fr x (get_in top x)) → OffsetsIn fr top s.facts.captured → OffsetsIn fr top t.facts.captured
-offsets_still C none lo hi top s t a o k m = tt
-offsets_still C (some f) lo hi top s t a o k m = λ x c e. subst (λ (i : ListEntry). OffsetsAt f x i.info) (sym (o c.value.row (λ u v. row x c e u v)))
+offsets_still C None lo hi top s t a o k m = tt
+offsets_still C (Some f) lo hi top s t a o k m = λ x c e. subst (λ (i : ListEntry). OffsetsAt f x i.info) (sym (o c.value.row (λ u v. row x c e u v)))
     (m x c e)
   where
-    row : (x : ℕ) (c : Live Capture) → get_in top x ≡ some c → lo ≤ c.value.row → c.value.row < hi → ⊥
+    row : (x : ℕ) (c : Live Capture) → get_in top x ≡ Some c → lo ≤ c.value.row → c.value.row < hi → ⊥
     row x c e u v = go (subst (CaughtOf C f.lo f.hi x) e (k x)) refl
       where
-        go : {z : Option (Live Capture)} → CaughtOf C f.lo f.hi x z → z ≡ some c → ⊥
-        go (none_of n) q = none-ne-some c q
-        go (one_of {c = b} l h n d) q = let same = ap (λ (y : Live Capture). y.value.row) (some-injective b c q) in omega arith
+        go : {z : Option (Live Capture)} → CaughtOf C f.lo f.hi x z → z ≡ Some c → ⊥
+        go (none_of n) q = none-some c q
+        go (one_of {c = b} l h n d) q = let same = ap (λ (y : Live Capture). y.value.row) (same_Some b c q) in omega arith
 
 -- Out of a lambda
 module _ (S : Script) {own mid : ℕ → Type 0} {bottom : List (Live Ident)} {function : Option Node} {fr : Option Frame} {d : ℕ} {old : Lives} {p : Place}
     {s t : State} (n : Node) (xs : List Ident)
     (q : Place) (bs : List Binder) (lo hi : ℕ) (after : List Use) (kept : LambdaKept S.T S.C S.A lo hi after n xs p.scope)
     (f : Again S own bottom function fr d old p s)
-    (g : Again S mid bottom (some n) (some (frame_of fr n lo hi xs p.scope after)) (suc d) s.captures.live (in_scope q (reverse_aux bs p.scope)) t) where
+    (g : Again S mid bottom (Some n) (Some (frame_of fr n lo hi xs p.scope after)) (suc d) s.captures.live (in_scope q (reverse_aux bs p.scope)) t) where
   pub left-outside : (b : Tree) (escapes : Bool) (r : ℕ) → Off lo hi r → list_entry_at (close_lambda n xs b escapes t) r ≡ list_entry_at t r
   left-outside b escapes r o =
       let row = ap function_in (key_function (row_at t n.at) (g.inside.0 ∙ ap key kept.is)) in
       (lambda_amends n xs b escapes kept.info t row).outside r (λ x y. o (omega (arith, kept.from)) (omega (arith, kept.from, kept.to)))
 
   pub lambda_left-again : {left : ℕ → Type 0} → ((y : ℕ) → left y → mid y) → ((y : ℕ) → left y → ¬ (y ≡ n.at)) → ((y : ℕ) → left y → own y)
-      → own n.at → (b : Tree) (escapes : Bool) → (open_lambda n xs s).noted.nine ≡ none
+      → own n.at → (b : Tree) (escapes : Bool) → (open_lambda n xs s).noted.nine ≡ None
       → names t ≡ names (open_lambda n xs s) → Moves own s (close_lambda n xs b escapes t) → MutatedIn S.C fr (close_lambda n xs b escapes t).facts.captured
       → OffsetsIn fr f.captures.top (close_lambda n xs b escapes t).facts.captured
       → Again S left bottom function fr d old p (close_lambda n xs b escapes t)
@@ -176,5 +176,5 @@ module _ (S : Script) {own mid : ℕ → Type 0} {bottom : List (Live Ident)} {f
       }
     where
       still : (z : Option Node) → FunctionIn S.T own z s → FunctionIn S.T left z (close_lambda n xs b escapes t)
-      still none h = tt
-      still (some m) h = (moves_key whole m.at h.1 ∙ h.0, λ l. h.1 (w m.at l))
+      still None h = tt
+      still (Some m) h = (moves_key whole m.at h.1 ∙ h.0, λ l. h.1 (w m.at l))

@@ -1,10 +1,9 @@
 -- A second run over a whole script with no inner define.
 use Prim.Native.Nat.{ℕ, ◌+◌, ◌≤◌, ◌<◌}
 use mathlib.Core.List.{List, [], ◌∷◌, ◌++◌}
-use Rattle.std.specs.Prelude.{Bool, cond, ◌≡◌, get_or}
+use Rattle.std.specs.Prelude.{Bool, cond, ◌≡◌, get_or, Option, None, Some}
 use Rattle.std.proofs.Math.Bool.{true, false}
 use Rattle.std.proofs.Common.{true≢false, sym, ◌∙◌, get_or-set_same}
-use Rattle.std.proofs.Math.Option.{Option, none, some}
 use Rattle.std.proofs.Math.Path.{refl, ap, subst}
 use native.Mathlib.Omega.{arith}
 use Rattle.tree.specs.Tree.{Ident, Node, Tree, Trees, ident, const, if, letin, define, lambda, sequence, call, set!, nil, cons, size, Num}
@@ -53,7 +52,7 @@ use Rattle.execution.proofs.Laws.Settled.Second.{again}
 
 -- at top level, in no lambda
 abbrev pub AgainTop : Script → (ℕ → Type 0) → List (Live Ident) → State → Type 0
-AgainTop S own bottom s = Again S own bottom none none 1 [] top s
+AgainTop S own bottom s = Again S own bottom None None 1 [] top s
 
 -- Defines enter
 
@@ -101,21 +100,21 @@ tops_enter-again classes kind S i j ts p o l a f =
 
 module _ (classes : List ℕ) (S : Script) where
   abbrev DidTop : (ℕ → Type 0) → List (Live Ident) → List Event → ℕ → ℕ → ℕ → ℕ → State → State → Type 0
-  DidTop left bottom l i j lo hi s t = Did classes S bottom left none none 1 [] top l i j lo hi s t
+  DidTop left bottom l i j lo hi s t = Did classes S bottom left None None 1 [] top l i j lo hi s t
 
   module _ {own : ℕ → Type 0} {bottom : List (Live Ident)} {s : State} (lo hi : ℕ) (before : List Use) (f : AgainTop S own bottom s)
       (r : Pending S.C lo hi s) where
     define-top : (k : ℕ) (n : Node) (x : Ident) (b : Tree) (q : Bool) → is_lambda b ≡ q → Num k (define n x b) → defines b ≡ []
         → ((y : ℕ) → k ≤ y → y < k + size (define n x b) → SparedBy (define n x b) y → own y) → Kept S.T S.C S.A lo hi before top b
         → Bounded S.U S.G before top b
-        → Says classes S.T (cell_of (cond q bottom (defined_in x bottom))) before (walk b top) → (visit_top_define classes q x b s).noted.nine ≡ none
+        → Says classes S.T (cell_of (cond q bottom (defined_in x bottom))) before (walk b top) → (visit_top_define classes q x b s).noted.nine ≡ None
         → DidTop (Minus own k (k + size (define n x b))) (cond q bottom (defined_in x bottom)) (walk b top) k (k + size (define n x b)) lo hi s
         (visit_top_define classes q x b s)
     unfolding Num size
     define-top k n x b true l m d o kept bounded says e =
         let s₁ = with_context x.id s in
         let s₂ = visit classes b top_flags s₁ in
-        let B = again classes S bottom (k + 2) b m.2 d top_flags own none 1 [] top s₁ lo hi before refl
+        let B = again classes S bottom (k + 2) b m.2 d top_flags own None 1 [] top s₁ lo hi before refl
         (λ y u v. o y (omega arith) (omega arith) (λ g q. omega arith, tt)) kept bounded says refl refl tt
         (calmly_again S f no_part (λ free. context x.id) refl) (record { at = r.at }) e in
         let C = did_closed {left = Minus own k (k + size (define n x b))} k (k + size (define n x b)) (omega arith) (omega arith)
@@ -128,7 +127,7 @@ module _ (classes : List ℕ) (S : Script) where
         let parts : Parts own (Only x.at) next = record { written = λ y q. subst own (sym q) here; kept = λ y z. z.0; apart = λ y z q. z.1 q } in
         let s₁ = enter_top_level_value classes x b s in
         let idle = value_preserves idle_steps classes x b s in
-        let B = again classes S (defined_in x bottom) (k + 2) b m.2 d top_flags next none 1 [] top s₁ lo hi before refl
+        let B = again classes S (defined_in x bottom) (k + 2) b m.2 d top_flags next None 1 [] top s₁ lo hi before refl
         (λ y u v. (o y (omega arith) (omega arith) (λ g q. omega arith, tt), λ q. omega arith)) kept bounded says refl refl tt
         (value_again classes S x b parts here f)
         (record { at = λ v x y. idle_list-entry s s₁ idle v ∙ r.at v x y }) e in
@@ -141,25 +140,25 @@ module _ (classes : List ℕ) (S : Script) where
 
     top_again : (k : ℕ) (t : Tree) → Num k t → below t ≡ [] → ((y : ℕ) → k ≤ y → y < k + size t → SparedBy t y → own y)
         → Kept S.T S.C S.A lo hi before top t
-        → Bounded S.U S.G before top t → Says classes S.T (cell_of (bottom_for t bottom)) before (walk t top) → (visit_top classes t s).noted.nine ≡ none
+        → Bounded S.U S.G before top t → Says classes S.T (cell_of (bottom_for t bottom)) before (walk t top) → (visit_top classes t s).noted.nine ≡ None
         → DidTop (Minus own k (k + size t)) (bottom_for t bottom) (walk t top) k (k + size t) lo hi s (visit_top classes t s)
     unfolding visit_top visit below defines walk Kept Bounded
-    top_again k (ident x) n d o q b c e = again classes S bottom k (ident x) n d top_flags own none 1 [] top s lo hi before refl (λ y l u. o y l u tt) q b c
+    top_again k (ident x) n d o q b c e = again classes S bottom k (ident x) n d top_flags own None 1 [] top s lo hi before refl (λ y l u. o y l u tt) q b c
         refl refl tt f r e
-    top_again k (const m z) n d o q b c e = again classes S bottom k (const m z) n d top_flags own none 1 [] top s lo hi before refl (λ y l u. o y l u tt) q b c
+    top_again k (const m z) n d o q b c e = again classes S bottom k (const m z) n d top_flags own None 1 [] top s lo hi before refl (λ y l u. o y l u tt) q b c
         refl refl tt f r e
-    top_again k (if m x y z) n d o q b c e = again classes S bottom k (if m x y z) n d top_flags own none 1 [] top s lo hi before refl (λ y l u. o y l u tt) q b
+    top_again k (if m x y z) n d o q b c e = again classes S bottom k (if m x y z) n d top_flags own None 1 [] top s lo hi before refl (λ y l u. o y l u tt) q b
         c refl refl tt f r e
-    top_again k (letin m xs es x) n d o q b c e = again classes S bottom k (letin m xs es x) n d top_flags own none 1 [] top s lo hi before refl
+    top_again k (letin m xs es x) n d o q b c e = again classes S bottom k (letin m xs es x) n d top_flags own None 1 [] top s lo hi before refl
         (λ y l u. o y l u tt) q b c refl refl tt f r e
     top_again k (define m x y) n d o q b c e = define-top k m x y (is_lambda y) refl n d o q b c e
-    top_again k (lambda m xs x) n d o q b c e = again classes S bottom k (lambda m xs x) n d top_flags own none 1 [] top s lo hi before refl
+    top_again k (lambda m xs x) n d o q b c e = again classes S bottom k (lambda m xs x) n d top_flags own None 1 [] top s lo hi before refl
         (λ y l u. o y l u tt) q b c refl refl tt f r e
-    top_again k (sequence m es) n d o q b c e = again classes S bottom k (sequence m es) n d top_flags own none 1 [] top s lo hi before refl (λ y l u. o y l u tt) q b
+    top_again k (sequence m es) n d o q b c e = again classes S bottom k (sequence m es) n d top_flags own None 1 [] top s lo hi before refl (λ y l u. o y l u tt) q b
         c refl refl tt f r e
-    top_again k (call m h es) n d o q b c e = again classes S bottom k (call m h es) n d top_flags own none 1 [] top s lo hi before refl (λ y l u. o y l u tt) q
+    top_again k (call m h es) n d o q b c e = again classes S bottom k (call m h es) n d top_flags own None 1 [] top s lo hi before refl (λ y l u. o y l u tt) q
         b c refl refl tt f r e
-    top_again k (set! m x y) n d o q b c e = again classes S bottom k (set! m x y) n d top_flags own none 1 [] top s lo hi before refl (λ y l u. o y l u tt) q b
+    top_again k (set! m x y) n d o q b c e = again classes S bottom k (set! m x y) n d top_flags own None 1 [] top s lo hi before refl (λ y l u. o y l u tt) q b
         c refl refl tt f r e
 
   -- what the rows tell, tree by tree
@@ -169,11 +168,11 @@ module _ (classes : List ℕ) (S : Script) where
 
   pub record Toplevel (R : List Row) (bottom : List (Live Ident)) (ts : Trees) (s t : State) : Type 0 where
     pub tells : TellsTops R bottom ts
-    pub second : s.noted.second ≡ none → t.noted.second ≡ second_by S (walk_all ts top)
+    pub second : s.noted.second ≡ None → t.noted.second ≡ second_by S (walk_all ts top)
 
   pub tops_again : (i j : ℕ) (ts : Trees) → Spread i j ts → below_all ts ≡ [] → (bottom : List (Live Ident)) (s : State) (lo hi : ℕ) (before : List Use)
       → KeptAll S.T S.C S.A lo hi before top ts → BoundedAll S.U S.G before top ts → SaysTops classes S.T before bottom ts
-      → AgainTop S (Left i j ts) bottom s → Pending S.C lo hi s → (visit_tops classes ts s).noted.nine ≡ none → (R : List Row)
+      → AgainTop S (Left i j ts) bottom s → Pending S.C lo hi s → (visit_tops classes ts s).noted.nine ≡ None → (R : List Row)
       → Agree i j R (visit_tops classes ts s) → Toplevel R bottom ts s (visit_tops classes ts s)
   unfolding visit_tops below_all Kept Bounded walk second_by
   tops_again i j nil p d bottom s lo hi before k b q f r e R ag = record { tells = tt; second = λ v. v }
@@ -211,8 +210,8 @@ module _ (classes : List ℕ) (S : Script) where
   tells_cell R c d (mentions m ∷ l) e p = (go (meant m) p.0, tells_cell R c d l e.1 p.1)
     where
       go : (o : Option Binder) → TellsOf classes S R c m o → TellsOf classes S R d m o
-      go none q = subst (SaysCell classes R c m.ident m.place.site.layer) e.0 q
-      go (some b) q = q
+      go None q = subst (SaysCell classes R c m.ident m.place.site.layer) e.0 q
+      go (Some b) q = q
   tells_cell R c d (ends i xs sc ∷ l) e p = tells_cell R c d l e p
 
   pub tops_tell : (ts : Trees) (R : List Row) (us : Trees) (l : List (Live Ident)) → CellsTops ts l us → TellsTops R l us

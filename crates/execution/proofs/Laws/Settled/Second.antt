@@ -1,7 +1,6 @@
 -- A second visit of a tree without define: its rows tell of each name what is to be told after what the first run left.
-use Rattle.std.specs.Prelude.{ℕ, suc, ◌+◌, ◌≤◌, ◌≡◌, refl, length, eqb}
+use Rattle.std.specs.Prelude.{ℕ, suc, ◌+◌, ◌≤◌, ◌≡◌, refl, length, eqb, Option, None, Some}
 use mathlib.Core.List.{List, [], ◌∷◌, ◌++◌, cons-ne-nil}
-use Rattle.std.proofs.Math.Option.{Option, none, some}
 use Rattle.std.proofs.Common.{ap, sym, subst, arith}
 use Rattle.tree.specs.Tree.{Ident, Tree, Trees, ident, const, if, letin, define, lambda, sequence, call, set!, nil, cons, many, size, sizes, Num, Nums, begins, ands, whens}
 use Rattle.tree.specs.Define.{defines, defines_in}
@@ -84,7 +83,7 @@ module _ (classes : List ℕ) (S : Script) (bottom : List (Live Ident)) where
         → f.height ≡ p.site.height → Covers own i (i + size t) → Kept S.T S.C S.A lo hi before p t → Bounded S.U S.G before p t
         → SaysT before (walk t p)
         → FramedIn S.C S.G fr p → FunctionOf S.T f.function p.around → Above hi fr → Again S own bottom f.function fr d old p s
-        → Pending S.C lo hi s → (visit classes t f s).noted.nine ≡ none
+        → Pending S.C lo hi s → (visit classes t f s).noted.nine ≡ None
         → Did classes S bottom (Minus own i (i + size t)) f.function fr d old p (walk t p) i (i + size t) lo hi s (visit classes t f s)
     again i (ident x) n z f own fr d old p s lo hi before h o k b q w fo a g r e = did_read classes S bottom before i lo hi x n o b w q g
     again i (const m c) n z f own fr d old p s lo hi before h o k b q w fo a g r e =
@@ -163,12 +162,12 @@ module _ (classes : List ℕ) (S : Script) (bottom : List (Live Ident)) where
         lambda_case classes S bottom i m xs c f.escape f.function own fr d old p s s₂ lo mid hi after n.0 n.1 o k.1 k.2 k.4 b.2 e₁ a w
         g r (λ own w. past i₂ c n.2 w l s₁ h₁)
         (by (past i (lambda m xs c) n o f s h₀))
-        (λ g₁ r₁ o a. again i₂ c n.2 z l (Minus own i i₂) (some (frame_of fr m mid hi xs p.scope after)) (suc d) s.captures.live body s₁ lo mid before
+        (λ g₁ r₁ o a. again i₂ c n.2 z l (Minus own i i₂) (Some (frame_of fr m mid hi xs p.scope after)) (suc d) s.captures.live body s₁ lo mid before
         refl
         o k.3 b.0 q₂.0 (framed_lambda S.C S.G fr m xs p mid hi after b.1 k.4 w (all_map (λ c q. q.most) p.scope g.around))
         (refl, (k.4.info, k.4.is)) a g₁ r₁ e₂)
     again i (sequence (begins m) es) n z f own fr d old p s lo hi before h o k b q w fo a g r e =
-        subst (λ (u : State). (visit_children classes es (in_begin f) u).noted.nine ≡ none
+        subst (λ (u : State). (visit_children classes es (in_begin f) u).noted.nine ≡ None
         → Did classes S bottom (Minus own i (i + size (sequence (begins m) es))) f.function fr d old p (walk_all es p) i (i + size (sequence (begins m) es)) lo hi s
         (visit_children classes es (in_begin f) u))
         (sym (none-entered classes es s z))
@@ -217,7 +216,7 @@ module _ (classes : List ℕ) (S : Script) (bottom : List (Live Ident)) where
         → f.height ≡ p.site.height → Covers own i (i + sizes ts) → KeptIn S.T S.C S.A lo hi before p ts → BoundedIn S.U S.G before p ts
         → SaysT before (walk_arguments ts p)
         → FramedIn S.C S.G fr p → FunctionOf S.T f.function p.around → Above hi fr → Again S own bottom f.function fr d old p s
-        → Pending S.C lo hi s → (visit_arguments classes ts f s).noted.nine ≡ none
+        → Pending S.C lo hi s → (visit_arguments classes ts f s).noted.nine ≡ None
         → Did classes S bottom (Minus own i (i + sizes ts)) f.function fr d old p (walk_arguments ts p) i (i + sizes ts) lo hi s
         (visit_arguments classes ts f s)
     again_in i nil n z f own fr d old p s lo hi before h o k b q w fo a g r e =
@@ -243,7 +242,7 @@ module _ (classes : List ℕ) (S : Script) (bottom : List (Live Ident)) where
         → f.height ≡ p.site.height → Covers own i (i + sizes ts) → KeptAll S.T S.C S.A lo hi before p ts → BoundedAll S.U S.G before p ts
         → SaysT before (walk_all ts p)
         → FramedIn S.C S.G fr p → FunctionOf S.T f.function p.around → Above hi fr → Again S own bottom f.function fr d old p s
-        → Pending S.C lo hi s → (visit_tested classes ts f s).noted.nine ≡ none
+        → Pending S.C lo hi s → (visit_tested classes ts f s).noted.nine ≡ None
         → Did classes S bottom (Minus own i (i + sizes ts)) f.function fr d old p (walk_all ts p) i (i + sizes ts) lo hi s (visit_tested classes ts f s)
     again-tested i nil n z f own fr d old p s lo hi before h o k b q w fo a g r e =
         record { again = fewer_again S (λ x y. y.0) g; outside = λ r x. refl; tells = λ R ag. tt; second = λ v. v }
@@ -255,7 +254,7 @@ module _ (classes : List ℕ) (S : Script) (bottom : List (Live Ident)) where
         let i₁ = i + size c in
         let q₁ = split before (walk c p) (walk_all ts p) q in
         let rest-none = none_right (defines c) (defines_in ts) z in
-        subst (λ (u : State). (visit_children classes ts (in_begin f) u).noted.nine ≡ none
+        subst (λ (u : State). (visit_children classes ts (in_begin f) u).noted.nine ≡ None
         → Did classes S bottom (Minus own i (i + sizes (cons c ts))) f.function fr d old p (walk_all (cons c ts) p) i (i + sizes (cons c ts)) lo hi s
         (visit_children classes ts (in_begin f) u))
         (sym (none-entered classes ts s₁ rest-none))
@@ -273,7 +272,7 @@ module _ (classes : List ℕ) (S : Script) (bottom : List (Live Ident)) where
         → f.height ≡ p.site.height → Covers own i (i + sizes ts) → KeptAll S.T S.C S.A lo hi before p ts → BoundedAll S.U S.G before p ts
         → SaysT before (walk_all ts p)
         → FramedIn S.C S.G fr p → FunctionOf S.T f.function p.around → Above hi fr → Again S own bottom f.function fr d old p s
-        → Pending S.C lo hi s → (visit_children classes ts f s).noted.nine ≡ none
+        → Pending S.C lo hi s → (visit_children classes ts f s).noted.nine ≡ None
         → Did classes S bottom (Minus own i (i + sizes ts)) f.function fr d old p (walk_all ts p) i (i + sizes ts) lo hi s (visit_children classes ts f s)
     again-all i nil n z f own fr d old p s lo hi before h o k b q w fo a g r e =
         record { again = fewer_again S (λ x y. y.0) g; outside = λ r x. refl; tells = λ R ag. tt; second = λ v. v }

@@ -1,7 +1,7 @@
 -- A fresh run puts each list after those before it: what a let and a lambda leave in the tables at their end.
-use Rattle.std.specs.Prelude.{ℕ, zero, suc, ◌+◌, ◌≤◌, ◌<◌, Bool, true, false, cond, ◌≡◌, refl, length, get_or, set, ltb}
+use Rattle.std.specs.Prelude.{ℕ, zero, suc, ◌+◌, ◌≤◌, ◌<◌, Bool, true, false, cond, ◌≡◌, refl, length, get_or, set, ltb, Option, None, Some}
+use Rattle.std.proofs.lemmas.Option.{none-some}
 use mathlib.Core.List.{List, [], ◌∷◌, ◌++◌, map, reverse_aux, append_assoc, append-nil}
-use Rattle.std.proofs.Math.Option.{Option, none, some, some-ne-none}
 use Rattle.std.proofs.Common.{ap, sym, subst, ◌∙◌, arith, ltb-false, ne_eqb, eq-eqb, length-set, get_or-set_same, get_or-set_other}
 use Rattle.std.proofs.lemmas.List.Edits.{sets}
 use Rattle.tree.specs.Tree.{Ident, Node, Tree}
@@ -66,7 +66,7 @@ record Stored (l : List ListEntry) (s t : State) : Type 0 where
   arguments : t.facts.arguments ≡ s.facts.arguments
   arguments_top : arguments_of t ≡ arguments_of s
 
-stored : (i : ℕ) (l : List ListEntry) (s : State) → (store_captured i l s).noted.ten ≡ none → Stored l s (store_captured i l s)
+stored : (i : ℕ) (l : List ListEntry) (s : State) → (store_captured i l s).noted.ten ≡ None → Stored l s (store_captured i l s)
 unfolding store_captured
 stored i l s e = go (ltb captured_most (top_of s + length l)) refl e
   where
@@ -79,12 +79,12 @@ stored i l s e = go (ltb captured_most (top_of s + length l)) refl e
       arguments_top = s.facts.arguments_top;
     }
 
-    go : (full : Bool) → ltb captured_most (top_of s + length l) ≡ full → (cond full (note_ten i (with_facts (f full) s)) (with_facts (f full) s)).noted.ten ≡ none
+    go : (full : Bool) → ltb captured_most (top_of s + length l) ≡ full → (cond full (note_ten i (with_facts (f full) s)) (with_facts (f full) s)).noted.ten ≡ None
         → Stored l s (cond full (note_ten i (with_facts (f full) s)) (with_facts (f full) s))
     go true q n = absurd (not_noted s.noted.ten i n)
     go false q n = record { captured = refl; top = refl; fits = ltb-false captured_most (top_of s + length l) q; arguments = refl; arguments_top = refl }
 
-make_ended : (n : Node) (escapes : Bool) (l a : List ListEntry) (s : State) → (make_function n escapes l a s).noted.ten ≡ none
+make_ended : (n : Node) (escapes : Bool) (l a : List ListEntry) (s : State) → (make_function n escapes l a s).noted.ten ≡ None
     → n.at < length (make_function n escapes l a s).facts.rows → Ended n l a s (make_function n escapes l a s)
 unfolding make_function insert store_arguments
 make_ended n escapes l a s e h =
@@ -116,14 +116,14 @@ earlier_ended {l = l} {a} r s t i e =
       arguments_at = e.arguments_at ∙ ap (λ (g : Facts). span g.arguments_top a) i;
     }
 
-function_ended : (o : Option FunctionInformation) (n : Node) (b : Tree) (escapes : Bool) (now a : List ListEntry) (m : ScopeMap Capture) (s : State) → o ≡ none
-    → (function_ends o n b escapes now a m s).noted.ten ≡ none → n.at < length (function_ends o n b escapes now a m s).facts.rows
+function_ended : (o : Option FunctionInformation) (n : Node) (b : Tree) (escapes : Bool) (now a : List ListEntry) (m : ScopeMap Capture) (s : State) → o ≡ None
+    → (function_ends o n b escapes now a m s).noted.ten ≡ None → n.at < length (function_ends o n b escapes now a m s).facts.rows
     → Ended n (sort_by_id now) a s (function_ends o n b escapes now a m s)
-function_ended none n b escapes now a m s r e h = make_ended n escapes (sort_by_id now) a s e h
-function_ended (some v) n b escapes now a m s r e h = absurd (some-ne-none v r)
+function_ended None n b escapes now a m s r e h = make_ended n escapes (sort_by_id now) a s e h
+function_ended (Some v) n b escapes now a m s r e h = absurd (none-some v (sym r))
 
 pub lambda_ended : (n : Node) (xs : List Ident) (b : Tree) (escapes : Bool) (s : State) → row_at s n.at ≡ Blank → n.at < length s.facts.rows
-    → (close_lambda n xs b escapes s).noted.ten ≡ none
+    → (close_lambda n xs b escapes s).noted.ten ≡ None
     → Ended n (sort_by_id (captured_vars (map name_in xs) s)) (list_entries_of s (newest_layer (names s))) s (close_lambda n xs b escapes s)
 unfolding close_lambda
 lambda_ended n xs b escapes s r h e =
@@ -196,10 +196,10 @@ let_ended b n xs height function s r h =
     }
 
 -- A fresh lambda is entered
-fresh_idle : (o : Option FunctionInformation) (xs : List Ident) (s : State) → o ≡ none → Idle s (enter_parameters o xs (open_scope (open_captures o s)))
+fresh_idle : (o : Option FunctionInformation) (xs : List Ident) (s : State) → o ≡ None → Idle s (enter_parameters o xs (open_scope (open_captures o s)))
 unfolding open_scope open_captures
-fresh_idle none xs s e = parameters_preserves idle_steps none xs (open_scope (open_captures none s))
-fresh_idle (some v) xs s e = absurd (some-ne-none v e)
+fresh_idle None xs s e = parameters_preserves idle_steps None xs (open_scope (open_captures None s))
+fresh_idle (Some v) xs s e = absurd (none-some v (sym e))
 
 pub open_lambda_idle : (n : Node) (xs : List Ident) (s : State) → row_at s n.at ≡ Blank → Idle s (open_lambda n xs s)
 unfolding open_lambda

@@ -1,6 +1,5 @@
 -- What the rows of a second run tell of each name, event by event of R7RS's walk.
-use Rattle.std.specs.Prelude.{ℕ, List, [], ◌∷◌, ◌++◌, true, cond, ◌≡◌}
-use Rattle.std.proofs.Math.Option.{Option, none, some}
+use Rattle.std.specs.Prelude.{ℕ, List, [], ◌∷◌, ◌++◌, true, cond, ◌≡◌, Option, None, Some}
 use Rattle.tree.specs.Tree.{Ident}
 use Rattle.semantic.specs.Information.{NONE}
 use Rattle.semantic.specs.Rows.{Row}
@@ -27,8 +26,8 @@ told_binder S b = cond (shared S.U b.ident.at) HeapAllocated (binder_kind b)
 
 module _ (classes : List ℕ) (S : Script) (R : List Row) (cell : Ident → Option Ident) where
   abbrev pub TellsOf : Mention → Option Binder → Type 0
-  TellsOf m none = SaysCell classes R cell m.ident m.place.site.layer (cell m.ident)
-  TellsOf m (some b) = Tells R m.ident.at (told_kind S m b) b.ident.id m.place.site.layer (told_slot S m b)
+  TellsOf m None = SaysCell classes R cell m.ident m.place.site.layer (cell m.ident)
+  TellsOf m (Some b) = Tells R m.ident.at (told_kind S m b) b.ident.id m.place.site.layer (told_slot S m b)
 
   abbrev pub TellsAll : List Event → Type 0
   TellsAll [] = Unit {0}
@@ -44,9 +43,9 @@ module _ (classes : List ℕ) (S : Script) (R : List Row) (cell : Ident → Opti
 
 -- an inner mention m is among the uses W
 abbrev pub InnerIn : List Use → Mention → Type 0
-InnerIn W m = (b : Binder) → meant m ≡ some b → is_inner m b ≡ true → used_inside b.ident.at W ≡ true
+InnerIn W m = (b : Binder) → meant m ≡ Some b → is_inner m b ≡ true → used_inside b.ident.at W ≡ true
 
 -- the mention m is among them
 pub record Noticed (W : List Use) (m : Mention) : Type 0 where
   pub inner : InnerIn W m
-  pub set : (b : Binder) → meant m ≡ some b → m.is_set ≡ true → is_set_in b.ident.at W ≡ true
+  pub set : (b : Binder) → meant m ≡ Some b → m.is_set ≡ true → is_set_in b.ident.at W ≡ true

@@ -1,6 +1,5 @@
 -- The steps that note neither refusal 11 nor 12.
-use Rattle.std.specs.Prelude.{ℕ, ◌+◌, List, map, Bool, true, false, cond, ◌≡◌, refl, length, ltb}
-use Rattle.std.proofs.Math.Option.{Option, none, some}
+use Rattle.std.specs.Prelude.{ℕ, ◌+◌, List, map, Bool, true, false, cond, ◌≡◌, refl, length, ltb, Option, None, Some}
 use Rattle.std.proofs.Common.{ap, ◌∙◌}
 use Rattle.tree.specs.Tree.{Ident, Node, Tree}
 use Rattle.tree.specs.Check.{Refusal}
@@ -61,8 +60,8 @@ stored_unsaid i l s = either (ltb captured_most (s.facts.captured_top + length l
 function_unsaid : (o : Option FunctionInformation) (n : Node) (b : Tree) (escapes : Bool) (now a : List ListEntry) (m : ScopeMap Capture) (s : State)
     → Unsaid s (function_ends o n b escapes now a m s)
 unfolding make_function amend_function insert store_arguments rewrite_captured
-function_unsaid none n b escapes now a m s = stored_unsaid n.at (sort_by_id now) s
-function_unsaid (some v) n b escapes now a m s = refl
+function_unsaid None n b escapes now a m s = stored_unsaid n.at (sort_by_id now) s
+function_unsaid (Some v) n b escapes now a m s = refl
 
 pub close_lambda_unsaid : (n : Node) (xs : List Ident) (b : Tree) (escapes : Bool) (s : State) → Unsaid s (close_lambda n xs b escapes s)
 unfolding close_lambda close_captures close_scope

@@ -1,7 +1,6 @@
 -- The rows of a settled run tell what is to be told, along the whole walk.
-use Rattle.std.specs.Prelude.{ℕ, ◌+◌, ◌≤◌, ◌<◌, ◌≡◌}
+use Rattle.std.specs.Prelude.{ℕ, ◌+◌, ◌≤◌, ◌<◌, ◌≡◌, None}
 use mathlib.Core.List.{List, [], ◌++◌, append-nil}
-use Rattle.std.proofs.Math.Option.{none}
 use Rattle.std.proofs.Math.Path.{refl, ap, sym, subst}
 use Rattle.std.proofs.Common.{◌∙◌, arith}
 use Rattle.std.proofs.Math.ListN.{length, get_or, length-replicate}
@@ -155,10 +154,10 @@ module _ (classes : List ℕ) (ts : Trees) (n : Nums 0 ts) (few : sizes ts ≤ r
       rows_most_lem : length (start no_facts).facts.rows ≡ rows_most
       rows_most_lem = length-replicate rows_most Blank
 
-      none_found : (x : ℕ) → get_in {A = Capture} [] x ≡ none
+      none_found : (x : ℕ) → get_in {A = Capture} [] x ≡ None
       none_found x = refl
 
-  settled_nine : (settled classes ts).noted.nine ≡ none
+  settled_nine : (settled classes ts).noted.nine ≡ None
   unfolding settled fresh
   settled_nine = run_nine classes ts F plain ∙ sym (run_nine classes ts no_facts plain) ∙ unnoted.nine
 

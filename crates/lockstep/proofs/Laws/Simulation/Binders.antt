@@ -1,10 +1,8 @@
 -- Where the parameters and let names of an accepted tree stand: the record that has a name's id is the name's own, and it tells the name's slot.
-use Rattle.std.specs.Prelude.{ℕ, suc, ◌+◌, ◌≡◌, refl, length}
+use Rattle.std.specs.Prelude.{ℕ, suc, ◌+◌, ◌≡◌, refl, length, Option, None, Some, slice_get}
 use mathlib.Core.List.{List, [], ◌∷◌, ◌++◌, map, map-append}
-use Rattle.std.proofs.Math.Option.{Option, none, some}
 use Rattle.std.proofs.Common.{ap, sym, ◌∙◌}
 use native.Mathlib.Omega.{arith}
-use Rattle.std.proofs.Math.ListN.{get_elem?}
 use Rattle.std.proofs.lemmas.List.{length-map}
 use Rattle.tree.specs.Record.{Record}
 use Rattle.tree.specs.Tree.{Ident, Tree, Trees, ident, const, if, letin, define, lambda, sequence, call, set!, nil, cons, many, head, named, bit, flat, flats, size, sizes, NumNames, Num, Nums, node_in, form_in}
@@ -86,15 +84,15 @@ length_rising es h = sym (length-map (marks_rising es h) record_of) ∙ ap lengt
 
 -- the slot of the name that the record i binds
 abbrev slot_in : Option (Record × ℕ) → ℕ
-slot_in none = 0
-slot_in (some m) = m.1
+slot_in None = 0
+slot_in (Some m) = m.1
 
 unfoldable pub slot_at : Trees → ℕ → ℕ
-slot_at ts i = slot_in (get_elem? (marks_all ts 0) i)
+slot_at ts i = slot_in (slice_get (marks_all ts 0) i)
 
 -- l stands in L from the place i on
 record From {A : Type 0} (L : List A) (i : ℕ) (l : List A) : Type 0 where
-  at : (j : ℕ) (a : A) → get_elem? l j ≡ some a → get_elem? L (i + j) ≡ some a
+  at : (j : ℕ) (a : A) → slice_get l j ≡ Some a → slice_get L (i + j) ≡ Some a
 
 module _ {A : Type 0} {L : List A} {i : ℕ} where
   from_tail : {a : A} {l : List A} → From L i (a ∷ l) → From L (i + 1) l
@@ -142,7 +140,7 @@ module _ (ts : Trees) (T : List Row) where
     PlacedAll nil h = Unit {0}
     PlacedAll (cons e es) h = Placed e h × PlacedAll es h
 
-  module _ (L : List (Record × ℕ)) (known : (x : Ident) (s : ℕ) → get_elem? L x.at ≡ some (named x, s) → Stands x s) where
+  module _ (L : List (Record × ℕ)) (known : (x : Ident) (s : ℕ) → slice_get L x.at ≡ Some (named x, s) → Stands x s) where
     stand_all : (xs : List Ident) (s i : ℕ) → NumNames i xs → From L i (mark_names xs s) → StandAll xs s
     unfolding NumNames mark_names
     stand_all [] s i n f = tt

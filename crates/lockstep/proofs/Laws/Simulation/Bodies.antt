@@ -1,8 +1,6 @@
 -- A body begins: a let's, or a procedure's. A procedure is made.
-use Rattle.std.specs.Prelude.{ℕ, suc, ◌+◌, ◌-◌, ◌≤◌, ◌<◌, List, [], ◌∷◌, ◌++◌, Bool, true, false, ◌≡◌, refl, length, take}
+use Rattle.std.specs.Prelude.{ℕ, suc, ◌+◌, ◌-◌, ◌≤◌, ◌<◌, List, [], ◌∷◌, ◌++◌, Bool, true, false, ◌≡◌, refl, length, take, Some, slice_get}
 use Rattle.std.proofs.Common.{true≢false, ap, sym, ◌∙◌, arith, length-append, length-take, length-drop}
-use Rattle.std.proofs.Math.Option.{some}
-use Rattle.std.proofs.Math.ListN.{get_elem?}
 use Rattle.tree.specs.Tree.{Ident, Tree, Trees}
 use Rattle.tree.specs.Site.{let_layer}
 use Rattle.tree.proofs.Laws.Site.{let_two}
@@ -33,7 +31,7 @@ module _ (ts : Trees) (T : List Row) (M : ℕ → Bool) where
   -- the names xs take the values us, which lie in the frame F from the slot s on, and ws, which move into new locations
   names_begin : {σ : Store} {d lo hi : ℕ} {Γ : Ctx} {ρ : Env} {us : List SVal} {ws : List PVal} (C : List (List SVal)) (F : List SVal) (xs : List Ident)
       (s : ℕ) → length C ≡ d - 2 → length xs ≡ length us → AlikeAll ts T M σ us ws → lo ≤ length σ → hi ≤ length σ
-      → ((j : ℕ) (v : SVal) → get_elem? us j ≡ some v → get_elem? F (s + j) ≡ some v) → Names ts T M σ (C ++ (F ∷ [])) d lo hi Γ ρ
+      → ((j : ℕ) (v : SVal) → slice_get us j ≡ Some v → slice_get F (s + j) ≡ Some v) → Names ts T M σ (C ++ (F ∷ [])) d lo hi Γ ρ
       → Names ts T M (σ ++ locations xs ws) (C ++ (F ∷ [])) d lo (length (σ ++ locations xs ws)) (enter_all xs d s Γ) (bind_env xs (length σ) ρ)
   names_begin {σ} {d} {us = us} {ws = ws} C F xs s deep len vs lo hi lie ns =
       let new = locations xs ws in
@@ -96,13 +94,13 @@ module _ (ts : Trees) (T : List Row) (M : ℕ → Bool) where
   -- a procedure is made: it keeps the names that may not be set
 
   keep_fixed : {σ : Store} {Gs : List (List SVal)} {d lo hi : ℕ} {e : Bound} {Γ : Ctx} {p : ℕ × ℕ} {ρ : Env} {v : SVal} {w : PVal} (b : Bool)
-      → M e.binder.at ≡ b → e.binder.name ≡ p.0 → p.1 < hi → e.depth < d → read_in Gs e ≡ some v
-      → get_elem? σ p.1 ≡ some (e.binder.at, w) → Alike ts T M σ v w → Names ts T M σ Gs d lo p.1 Γ ρ → Names ts T M σ Gs d lo hi (e ∷ Γ) (p ∷ ρ)
+      → M e.binder.at ≡ b → e.binder.name ≡ p.0 → p.1 < hi → e.depth < d → read_in Gs e ≡ Some v
+      → slice_get σ p.1 ≡ Some (e.binder.at, w) → Alike ts T M σ v w → Names ts T M σ Gs d lo p.1 Γ ρ → Names ts T M σ Gs d lo hi (e ∷ Γ) (p ∷ ρ)
   keep_fixed {w = w} true m n l out r lk a ns = skip n l (w, lk) m out ns
   keep_fixed false m n l out r lk a ns = keep n l (λ m'. absurd (true≢false (sym m' ∙ m))) r lk a ns
 
   names_close : {σ : Store} {Fs Gs : List (List SVal)} {d h lo lo' hi : ℕ} {Γ : Ctx} {ρ : Env}
-      → ((e : Bound) (v : SVal) → 2 ≤ e.depth → e.depth ≤ d → read_in Fs e ≡ some v → read_in Gs e ≡ some v)
+      → ((e : Bound) (v : SVal) → 2 ≤ e.depth → e.depth ≤ d → read_in Fs e ≡ Some v → read_in Gs e ≡ Some v)
       → Scope ts T d h Γ → Names ts T M σ Fs d lo hi Γ ρ → Names ts T M σ Gs (suc d) lo' hi Γ ρ
   names_close f sc_nil no_names = no_names
   names_close f (sc_own {e = e} r own b s) (keep n l o rd lk a ns) =

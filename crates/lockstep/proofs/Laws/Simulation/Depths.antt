@@ -1,7 +1,6 @@
 -- The facts of a body's identifiers are of the body's depth, or of a greater one in a lambda inside.
-use Rattle.std.specs.Prelude.{ℕ, ◌≤◌, List, [], ◌++◌, Bool, false, ◌≡◌}
+use Rattle.std.specs.Prelude.{ℕ, ◌≤◌, List, [], ◌++◌, Bool, false, ◌≡◌, Option}
 use Rattle.std.proofs.Common.{true≢false, sym, subst, ◌∙◌, arith}
-use Rattle.std.proofs.Math.Option.{Option}
 use Rattle.tree.specs.Tree.{Tree, Trees}
 use Rattle.tree.specs.Accepted.{All}
 use Rattle.tree.proofs.Laws.Acceptance.Tests.{all_map}

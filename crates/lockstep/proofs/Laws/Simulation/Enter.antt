@@ -1,6 +1,5 @@
 -- An expression is entered: the hands hold like values after it too.
-use Rattle.std.specs.Prelude.{ℕ, List, [], Bool, false, refl, length}
-use Rattle.std.proofs.Math.Option.{Option}
+use Rattle.std.specs.Prelude.{ℕ, List, [], Bool, false, refl, length, Option}
 use Rattle.std.proofs.Common.{arith}
 use Rattle.tree.specs.Tree.{Tree, Trees}
 use Rattle.r7rs.specs.Machine.{Cells, kend}

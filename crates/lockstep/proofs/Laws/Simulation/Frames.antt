@@ -1,9 +1,7 @@
 -- A body's frame grows and shrinks, and its names keep their values.
-use Rattle.std.specs.Prelude.{ℕ, suc, ◌+◌, ◌-◌, ◌≤◌, ◌<◌, Bool, ◌≡◌, refl, length, drop}
+use Rattle.std.specs.Prelude.{ℕ, suc, ◌+◌, ◌-◌, ◌≤◌, ◌<◌, Bool, ◌≡◌, refl, length, drop, Some, slice_get}
 use mathlib.Core.List.{List, [], ◌∷◌, ◌++◌, tail}
 use Rattle.std.proofs.Common.{⊎_elim, ap, sym, ◌∙◌, add-zero, arith, length-append, length-take}
-use Rattle.std.proofs.Math.Option.{some}
-use Rattle.std.proofs.Math.ListN.{get_elem?}
 use Rattle.tree.specs.Tree.{Ident, Trees}
 use Rattle.tree.specs.Site.{let_layer}
 use Rattle.tree.proofs.Laws.Site.{let_cases}
@@ -36,8 +34,8 @@ module _ (ts : Trees) (T : List Row) (M : ℕ → Bool) (σ : Store) where
   -- the names xs take values: us, which lie in the body's frame from the slot s on, and ws, in the store from n on
   pub names_bind : {Fs : List (List SVal)} {d lo hi : ℕ} {Γ : Ctx} {ρ : Env} {us : List SVal} {ws : List PVal} (xs : List Ident) (s n hi' : ℕ)
       → AlikeAll ts T M σ us ws → length xs ≡ length us → lo ≤ n → hi ≤ n → n + length xs ≤ hi'
-      → ((j : ℕ) (v : SVal) → get_elem? us j ≡ some v → slot_of (get_elem? Fs (d - 2)) (s + j) ≡ some v)
-      → ((j : ℕ) (c : ℕ × PVal) → get_elem? (locations xs ws) j ≡ some c → get_elem? σ (n + j) ≡ some c)
+      → ((j : ℕ) (v : SVal) → slice_get us j ≡ Some v → slot_of (slice_get Fs (d - 2)) (s + j) ≡ Some v)
+      → ((j : ℕ) (c : ℕ × PVal) → slice_get (locations xs ws) j ≡ Some c → slice_get σ (n + j) ≡ Some c)
       → Names ts T M σ Fs d lo hi Γ ρ → Names ts T M σ Fs d lo hi' (enter_all xs d s Γ) (bind_env xs n ρ)
   names_bind [] s n hi' alike_nil len lo hi top slot store ns = names_up (omega arith) ns
   names_bind [] s n hi' (alike_cons a l) len lo hi top slot store ns = absurd (omega arith)
@@ -51,8 +49,8 @@ module _ (ts : Trees) (T : List Row) (M : ℕ → Bool) (σ : Store) where
 
   -- the frames change, and what the names read does not
   pub names-move : {Fs Gs : List (List SVal)} {d h lo hi : ℕ} {Γ : Ctx} {ρ : Env}
-      → ((e : Bound) (v : SVal) → e.depth ≡ d → e.slot < h → read_in Fs e ≡ some v → read_in Gs e ≡ some v)
-      → ((e : Bound) (v : SVal) → 2 ≤ e.depth → e.depth < d → read_in Fs e ≡ some v → read_in Gs e ≡ some v)
+      → ((e : Bound) (v : SVal) → e.depth ≡ d → e.slot < h → read_in Fs e ≡ Some v → read_in Gs e ≡ Some v)
+      → ((e : Bound) (v : SVal) → 2 ≤ e.depth → e.depth < d → read_in Fs e ≡ Some v → read_in Gs e ≡ Some v)
       → Scope ts T d h Γ → Names ts T M σ Fs d lo hi Γ ρ → Names ts T M σ Gs d lo hi Γ ρ
   names-move f g sc_nil no_names = no_names
   names-move f g (sc_own {e = e} r own b s) (keep n l o rd lk a ns) =
@@ -63,7 +61,7 @@ module _ (ts : Trees) (T : List Row) (M : ℕ → Bool) (σ : Store) where
 
   -- the body's own frame changes
   names-frame : {d h lo hi : ℕ} {Γ : Ctx} {ρ : Env} (C : List (List SVal)) (F G : List SVal) → length C ≡ d - 2
-      → ((s : ℕ) (v : SVal) → s < h → get_elem? F s ≡ some v → get_elem? G s ≡ some v)
+      → ((s : ℕ) (v : SVal) → s < h → slice_get F s ≡ Some v → slice_get G s ≡ Some v)
       → Scope ts T d h Γ → Names ts T M σ (C ++ (F ∷ [])) d lo hi Γ ρ → Names ts T M σ (C ++ (G ∷ [])) d lo hi Γ ρ
   names-frame C F G deep f =
       names-move

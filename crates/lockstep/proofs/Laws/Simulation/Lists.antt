@@ -1,63 +1,61 @@
 -- Lists read by place: after one more is put on, after a place is set, and their last n. What holds of all of a list.
-use Rattle.std.specs.Prelude.{ℕ, zero, suc, ◌+◌, ◌-◌, ◌≤◌, ◌<◌, ◌≡◌, refl, length, take, drop, set}
+use Rattle.std.specs.Prelude.{ℕ, zero, suc, ◌+◌, ◌-◌, ◌≤◌, ◌<◌, ◌≡◌, refl, length, take, drop, set, Some, option_map, slice_get}
+use Rattle.std.proofs.lemmas.Option.{same_Some, none-some}
 use mathlib.Core.List.{List, [], ◌∷◌, ◌++◌, map, tail}
 use mathlib.Core.List.{Memᴰ as Member}
-use Rattle.std.proofs.Math.Option
-use Rattle.std.proofs.Math.Option.{some, some-injective, none-ne-some}
 use Rattle.std.proofs.Common.{ap, subst, not-suc-le-zero, le_of_suc-le-suc, arith, length-append, length-set, drop-set-lt}
 use Rattle.std.proofs.Math.Path.{subst⁻¹}
-use Rattle.std.proofs.Math.ListN.{get_elem?}
 use Rattle.std.proofs.Math.Seq.{take-length, drop-length, take-set-lt}
 use Rattle.std.proofs.lemmas.List.{take-append-le, drop-append-le, take-set-le}
 use Rattle.tree.specs.Accepted.{All}
 use Rattle.r7rs.specs.Machine.{last_n, but_n}
 
 module _ {A : Type 0} where
-  pub inside : (l : List A) (i : ℕ) {a : A} → get_elem? l i ≡ some a → i < length l
-  inside [] i {a} e = absurd (none-ne-some a e)
+  pub inside : (l : List A) (i : ℕ) {a : A} → slice_get l i ≡ Some a → i < length l
+  inside [] i {a} e = absurd (none-some a e)
   inside (x ∷ l) zero e = omega arith
   inside (x ∷ l) (suc i) e = let h = inside l i e in omega arith
 
-  pub present : (l : List A) (i : ℕ) → i < length l → (a : A) × (get_elem? l i ≡ some a)
+  pub present : (l : List A) (i : ℕ) → i < length l → (a : A) × (slice_get l i ≡ Some a)
   present [] i h = absurd (not-suc-le-zero h)
   present (x ∷ l) zero h = (x, refl)
   present (x ∷ l) (suc i) h = present l i (le_of_suc-le-suc h)
 
-  pub at-append : (l r : List A) (i : ℕ) {a : A} → get_elem? l i ≡ some a → get_elem? (l ++ r) i ≡ some a
-  at-append [] r i {a} e = absurd (none-ne-some a e)
+  pub at-append : (l r : List A) (i : ℕ) {a : A} → slice_get l i ≡ Some a → slice_get (l ++ r) i ≡ Some a
+  at-append [] r i {a} e = absurd (none-some a e)
   at-append (x ∷ l) r zero e = e
   at-append (x ∷ l) r (suc i) e = at-append l r i e
 
-  pub at_seam : (l r : List A) (i : ℕ) → get_elem? (l ++ r) (length l + i) ≡ get_elem? r i
-  at_seam [] r i = ap (get_elem? r) (omega arith)
+  pub at_seam : (l r : List A) (i : ℕ) → slice_get (l ++ r) (length l + i) ≡ slice_get r i
+  at_seam [] r i = ap (slice_get r) (omega arith)
   at_seam (x ∷ l) r i = let e : suc (length l) + i ≡ suc (length l + i) = omega arith in rw e (at_seam l r i)
 
-  pub at_take : (l : List A) (n i : ℕ) → i < n → get_elem? (take n l) i ≡ get_elem? l i
+  pub at_take : (l : List A) (n i : ℕ) → i < n → slice_get (take n l) i ≡ slice_get l i
   at_take l zero i h = absurd (not-suc-le-zero h)
   at_take [] (suc n) i h = refl
   at_take (x ∷ l) (suc n) zero h = refl
   at_take (x ∷ l) (suc n) (suc i) h = at_take l n i (le_of_suc-le-suc h)
 
-  pub at_drop : (l : List A) (n i : ℕ) → get_elem? (drop n l) i ≡ get_elem? l (n + i)
-  at_drop l zero i = ap (get_elem? l) (omega arith)
+  pub at_drop : (l : List A) (n i : ℕ) → slice_get (drop n l) i ≡ slice_get l (n + i)
+  at_drop l zero i = ap (slice_get l) (omega arith)
   at_drop [] (suc n) i = refl
   at_drop (x ∷ l) (suc n) i = let e : suc n + i ≡ suc (n + i) = omega arith in rw e (at_drop l n i)
 
-  pub at_set_same : (l : List A) (i : ℕ) (b : A) {a : A} → get_elem? l i ≡ some a → get_elem? (set l i b) i ≡ some b
-  at_set_same [] i b {a} e = absurd (none-ne-some a e)
+  pub at_set_same : (l : List A) (i : ℕ) (b : A) {a : A} → slice_get l i ≡ Some a → slice_get (set l i b) i ≡ Some b
+  at_set_same [] i b {a} e = absurd (none-some a e)
   at_set_same (x ∷ l) zero b e = refl
   at_set_same (x ∷ l) (suc i) b e = at_set_same l i b e
 
-  pub at_set_other : (l : List A) (i j : ℕ) (b : A) → ¬ (i ≡ j) → get_elem? (set l i b) j ≡ get_elem? l j
+  pub at_set_other : (l : List A) (i j : ℕ) (b : A) → ¬ (i ≡ j) → slice_get (set l i b) j ≡ slice_get l j
   at_set_other [] i j b h = refl
   at_set_other (x ∷ l) zero zero b h = absurd (h refl)
   at_set_other (x ∷ l) zero (suc j) b h = refl
   at_set_other (x ∷ l) (suc i) zero b h = refl
   at_set_other (x ∷ l) (suc i) (suc j) b h = at_set_other l i j b (λ e. h (ap suc e))
 
-  pub at_map : {B : Type 0} (f : A → B) (l : List A) (i : ℕ) {a : A} → get_elem? l i ≡ some a → get_elem? (map f l) i ≡ some (f a)
-  at_map f [] i {a} e = absurd (none-ne-some a e)
-  at_map f (x ∷ l) zero e = ap (Option.map f) e
+  pub at_map : {B : Type 0} (f : A → B) (l : List A) (i : ℕ) {a : A} → slice_get l i ≡ Some a → slice_get (map f l) i ≡ Some (f a)
+  at_map f [] i {a} e = absurd (none-some a e)
+  at_map f (x ∷ l) zero e = ap (option_map f) e
   at_map f (x ∷ l) (suc i) e = at_map f l i e
 
   pub drop_tail : (n : ℕ) (l : List A) → drop (suc n) l ≡ tail (drop n l)
@@ -104,9 +102,9 @@ module _ {A : Type 0} (P : A → Type 0) where
   all_append [] r h k = k
   all_append (x ∷ l) r h k = (h.0, all_append l r h.1 k)
 
-  pub all-at : (l : List A) (i : ℕ) {a : A} → All P l → get_elem? l i ≡ some a → P a
-  all-at [] i {a} h e = absurd (none-ne-some a e)
-  all-at (x ∷ l) zero {a} h e = subst P (some-injective x a e) h.0
+  pub all-at : (l : List A) (i : ℕ) {a : A} → All P l → slice_get l i ≡ Some a → P a
+  all-at [] i {a} h e = absurd (none-some a e)
+  all-at (x ∷ l) zero {a} h e = subst P (same_Some x a e) h.0
   all-at (x ∷ l) (suc i) h e = all-at l i h.1 e
 
   pub all-member : {a : A} {l : List A} → Member a l → All P l → P a

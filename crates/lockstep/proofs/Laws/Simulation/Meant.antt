@@ -1,9 +1,8 @@
 -- What the facts say of an identifier that means a parameter or let name by R7RS: where the name's value lies.
-use Rattle.std.specs.Prelude.{ℕ, suc, ◌+◌, ◌-◌, ◌≤◌, Bool, true, false, cond, ◌≡◌, length, eqb}
+use Rattle.std.specs.Prelude.{ℕ, suc, ◌+◌, ◌-◌, ◌≤◌, Bool, true, false, cond, ◌≡◌, length, eqb, Option, None, Some}
 use mathlib.Core.List.{List, [], ◌∷◌, ◌++◌, reverse_aux}
 use Rattle.std.proofs.Common.{true≢false, ap, sym, ◌∙◌, arith}
 use Rattle.std.proofs.lemmas.Bool.{false≢true}
-use Rattle.std.proofs.Math.Option.{Option, none, some}
 use Rattle.std.proofs.Math.Path.{refl}
 use Rattle.tree.specs.Tree.{Ident, Tree, Trees, many}
 use Rattle.tree.specs.Accepted.{All}
@@ -40,8 +39,8 @@ module _ (ts : Trees) (T : List Row) (M : ℕ → Bool) where
     pub is : row_of T i ≡ Variable fact
     pub is_name : is_cell fact.kind ≡ false
     pub frame : ℕ
-    pub frame_is : frame_in (row_of T b) ≡ some frame
-    pub home : home ts T fact ≡ some (frame, slot_at ts b)
+    pub frame_is : frame_in (row_of T b) ≡ Some frame
+    pub home : home ts T fact ≡ Some (frame, slot_at ts b)
     pub own : M b ≡ true → fact.depth ≡ frame + 2
 
   says : {i d : ℕ} {v : SemanticInformation} {e : Bound} → row_of T i ≡ Variable v → is_cell v.kind ≡ false → Housed ts T e → Refers d v e
@@ -52,7 +51,7 @@ module _ (ts : Trees) (T : List Row) (M : ℕ → Bool) where
     is_name = n;
     frame = e.depth - 2;
     frame_is = r.frame;
-    home = home_of ts T v r f ∙ ap (λ (s : ℕ). some (e.depth - 2, s)) (sym r.slot);
+    home = home_of ts T v r f ∙ ap (λ (s : ℕ). Some (e.depth - 2, s)) (sym r.slot);
     own = λ m. omega (arith, f.depth, own m, r.two);
   }
 
@@ -76,11 +75,11 @@ module _ (ts : Trees) (T : List Row) (M : ℕ → Bool) where
 
   -- what a name finds in both
   data Side : Option Binder → Option Bound → Type 0 where
-    side_none : Side none none
-    side_some : {b : Binder} {e : Bound} → b.ident ≡ e.binder → Housed ts T e → Side (some b) (some e)
+    side_none : Side None None
+    side_some : {b : Binder} {e : Bound} → b.ident ≡ e.binder → Housed ts T e → Side (Some b) (Some e)
 
-  pick : {b : Binder} {e : Bound} {o : Option Binder} {q : Option Bound} (t u : Bool) → t ≡ u → Side (some b) (some e) → Side o q
-      → Side (cond t (some b) o) (cond u (some e) q)
+  pick : {b : Binder} {e : Bound} {o : Option Binder} {q : Option Bound} (t u : Bool) → t ≡ u → Side (Some b) (Some e) → Side o q
+      → Side (cond t (Some b) o) (cond u (Some e) q)
   pick true true p f g = f
   pick true false p f g = absurd (true≢false p)
   pick false true p f g = absurd (false≢true p)
@@ -94,8 +93,8 @@ module _ (ts : Trees) (T : List Row) (M : ℕ → Bool) where
   -- Each identifier's fact says what the identifier means
 
   abbrev SaysOf : ℕ → Option Binder → Type 0
-  SaysOf i none = Unit {0}
-  SaysOf i (some b) = Says i b.ident.at
+  SaysOf i None = Unit {0}
+  SaysOf i (Some b) = Says i b.ident.at
 
   abbrev Told : Event → Type 0
   Told (enters b sc) = Unit {0}
@@ -175,8 +174,8 @@ module _ (ts : Trees) (T : List Row) (M : ℕ → Bool) where
   Used u = Says u.at u.binder
 
   told_use : (m : Mention) (o : Option Binder) → SaysOf m.ident.at o → All Used (use_of m o)
-  told_use m none s = tt
-  told_use m (some b) s = (s, tt)
+  told_use m None s = tt
+  told_use m (Some b) s = (s, tt)
 
   told-uses : (l : List Event) → All Told l → All Used (uses_of (mentions_in l))
   told-uses [] s = tt

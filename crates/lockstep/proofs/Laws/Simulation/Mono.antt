@@ -1,8 +1,6 @@
 -- What is alike stays alike when the plain machine's store grows, and when a location is written that is another body's own.
-use Rattle.std.specs.Prelude.{ℕ, ◌≤◌, ◌<◌, List, ◌++◌, Bool, true, ◌≡◌, length}
-use Rattle.std.proofs.Math.Option.{Option, some}
+use Rattle.std.specs.Prelude.{ℕ, ◌≤◌, ◌<◌, List, ◌++◌, Bool, true, ◌≡◌, length, Option, Some, slice_get}
 use Rattle.std.proofs.Common.{arith, length-append}
-use Rattle.std.proofs.Math.ListN.{get_elem?}
 use Rattle.tree.specs.Tree.{Trees}
 use Rattle.r7rs.specs.Machine.{After, Cells}
 use Rattle.r7rs.specs.Plain.{Env, PVal, Store, PKont}
@@ -16,7 +14,7 @@ module _ (ts : Trees) (T : List Row) (M : ℕ → Bool) where
   -- τ holds what σ holds wherever it may not be set or lies below lim, and locations stay those of the same names
   pub record Grown (lim : ℕ) (σ τ : Store) : Type 0 where
     pub longer : length σ ≤ length τ
-    pub kept : (ℓ b : ℕ) (w : PVal) → (M b ≡ true → ℓ < lim) → get_elem? σ ℓ ≡ some (b, w) → get_elem? τ ℓ ≡ some (b, w)
+    pub kept : (ℓ b : ℕ) (w : PVal) → (M b ≡ true → ℓ < lim) → slice_get σ ℓ ≡ Some (b, w) → slice_get τ ℓ ≡ Some (b, w)
     pub tags : (ℓ b : ℕ) → Tag σ ℓ b → Tag τ ℓ b
 
   pub grown_append : (lim : ℕ) (σ new : Store) → Grown lim σ (σ ++ new)

@@ -1,10 +1,9 @@
 -- What the relation comes to in the claim's own words: the two machines are in step.
-use Rattle.std.specs.Prelude.{ℕ, zero, suc, ◌-◌, ◌<◌, List, [], ◌∷◌, ◌++◌, Bool, true, ◌≡◌, refl, length}
+use Rattle.std.specs.Prelude.{ℕ, zero, suc, ◌-◌, ◌<◌, List, [], ◌∷◌, ◌++◌, Bool, true, ◌≡◌, refl, length, Option, Some, slice_get}
+use Rattle.std.proofs.lemmas.Option.{same_Some, none-some}
 use Rattle.std.proofs.Common.{append_assoc, append-nil, ap, sym, subst, ◌∙◌, arith, take-append-drop}
 use mathlib.Core.List.Memᴰ
 use mathlib.Core.List.{Memᴰ as Member}
-use Rattle.std.proofs.Math.Option.{Option, some, some-injective, none-ne-some}
-use Rattle.std.proofs.Math.ListN.{get_elem?}
 use Rattle.tree.specs.Tree.{Tree, Trees}
 use Rattle.r7rs.specs.Binding.{Means}
 use Rattle.r7rs.specs.Machine.{After, Moment, waiting, Cells, state, last_n, but_n}
@@ -27,28 +26,28 @@ module _ (ts : Trees) (T : List Row) (M : ℕ → Bool) (told : (i b : ℕ) → 
   module _ (σ : Store) where
     -- a value in packed frames
 
-    like_in : (F : Frame) (s : ℕ) (v : SVal) (w : PVal) → get_elem? (unpack_frame F) s ≡ some v → Like ts T σ v w → LikeIn ts T σ F s w
-    like_in vnil s v w e l = absurd (none-ne-some v e)
-    like_in (vcons u F) zero v w e l = subst (λ (x : SVal). Like ts T σ x w) (sym (some-injective u v e)) l
+    like_in : (F : Frame) (s : ℕ) (v : SVal) (w : PVal) → slice_get (unpack_frame F) s ≡ Some v → Like ts T σ v w → LikeIn ts T σ F s w
+    like_in vnil s v w e l = absurd (none-some v e)
+    like_in (vcons u F) zero v w e l = subst (λ (x : SVal). Like ts T σ x w) (sym (same_Some u v e)) l
     like_in (vcons u F) (suc s) v w e l = like_in F s v w e l
 
-    like_at : (C : Frames) (f s : ℕ) (v : SVal) (w : PVal) → slot_of (get_elem? (unpack C) f) s ≡ some v → Like ts T σ v w → LikeAt ts T σ C f s w
-    like_at fnil f s v w e l = absurd (none-ne-some v e)
+    like_at : (C : Frames) (f s : ℕ) (v : SVal) (w : PVal) → slot_of (slice_get (unpack C) f) s ≡ Some v → Like ts T σ v w → LikeAt ts T σ C f s w
+    like_at fnil f s v w e l = absurd (none-some v e)
     like_at (fcons F C) zero s v w e l = like_in F s v w e l
     like_at (fcons F C) (suc f) s v w e l = like_at C f s v w e l
 
     -- what a location of an environment comes to: the name bound at the record b, whose value is w
     data Place (Fs : List (List SVal)) (d b : ℕ) (w : PVal) : Type 0 where
-      is_kept_lem : (e : Bound) (v : SVal) → e.binder.at ≡ b → Housed ts T e → read_in Fs e ≡ some v → Like ts T σ v w → Place Fs d b w
+      is_kept_lem : (e : Bound) (v : SVal) → e.binder.at ≡ b → Housed ts T e → read_in Fs e ≡ Some v → Like ts T σ v w → Place Fs d b w
       is_skipped : (e : Bound) → e.binder.at ≡ b → Housed ts T e → M b ≡ true → e.depth < d → Place Fs d b w
 
     -- the record tells the frame and the slot
-    same_home : {b : ℕ} (e : Bound) (f : ℕ) → e.binder.at ≡ b → Housed ts T e → frame_in (row_of T b) ≡ some f → (f ≡ e.depth - 2) × (slot_at ts b ≡ e.slot)
-    same_home e f q r g = (some-injective f (e.depth - 2) (sym g ∙ rw (← q) r.frame), rw (← q) r.slot)
+    same_home : {b : ℕ} (e : Bound) (f : ℕ) → e.binder.at ≡ b → Housed ts T e → frame_in (row_of T b) ≡ Some f → (f ≡ e.depth - 2) × (slot_at ts b ≡ e.slot)
+    same_home e f q r g = (same_Some f (e.depth - 2) (sym g ∙ rw (← q) r.frame), rw (← q) r.slot)
 
     -- the names of a body, or of a procedure
     names_like : {Fs : List (List SVal)} {d : ℕ} {e : Tree} {ρ : Env} (C : Frames) → unpack C ≡ Fs → Deep ts T M d e
-        → ((p : ℕ × ℕ) → Member p ρ → (b : ℕ) (w : PVal) → get_elem? σ p.1 ≡ some (b, w) → Place Fs d b w)
+        → ((p : ℕ × ℕ) → Member p ρ → (b : ℕ) (w : PVal) → slice_get σ p.1 ≡ Some (b, w) → Place Fs d b w)
         → EachName ts T σ e ρ (λ f s w. LikeAt ts T σ C f s w)
     names_like {Fs} {d} C u dp f i b p w m q mp lk = go (told i b q) (all-member (DeepAt ts T M d) m dp.depths) (f p mp b w lk)
       where
@@ -60,16 +59,16 @@ module _ (ts : Trees) (T : List Row) (M : ℕ → Bool) (told : (i b : ℕ) → 
             let (fr, sl) = same_home e s.frame eb r s.frame_is in
             absurd (let l = dp s.fact s.is s.is_name (omega (arith, s.own mt)) in omega (arith, s.own mt, r.two))
 
-    tag_of : {m : Option (ℕ × PVal)} {x y : ℕ × PVal} → m ≡ some x → m ≡ some y → x ≡ y
-    tag_of {x = x} {y = y} e q = some-injective x y (sym e ∙ q)
+    tag_of : {m : Option (ℕ × PVal)} {x y : ℕ × PVal} → m ≡ Some x → m ≡ Some y → x ≡ y
+    tag_of {x = x} {y = y} e q = same_Some x y (sym e ∙ q)
 
-    kept_place : {Fs : List (List SVal)} {d : ℕ} {e : Bound} {v : SVal} {w u : PVal} {p p' : ℕ × ℕ} {b : ℕ} → p ≡ p' → get_elem? σ p.1 ≡ some (b, w)
-        → get_elem? σ p'.1 ≡ some (e.binder.at, u) → Housed ts T e → read_in Fs e ≡ some v → Like ts T σ v u → Place Fs d b w
+    kept_place : {Fs : List (List SVal)} {d : ℕ} {e : Bound} {v : SVal} {w u : PVal} {p p' : ℕ × ℕ} {b : ℕ} → p ≡ p' → slice_get σ p.1 ≡ Some (b, w)
+        → slice_get σ p'.1 ≡ Some (e.binder.at, u) → Housed ts T e → read_in Fs e ≡ Some v → Like ts T σ v u → Place Fs d b w
     kept_place {e = e} {v} q lk lk' r rd l =
         let pair = tag_of lk' (rw q at lk) in
         is_kept_lem e v (ap (λ (x : ℕ × PVal). x.0) pair) r rd (subst (Like ts T σ v) (ap (λ (x : ℕ × PVal). x.1) pair) l)
 
-    skip_place : {Fs : List (List SVal)} {d : ℕ} {e : Bound} {w : PVal} {p p' : ℕ × ℕ} {b : ℕ} → p ≡ p' → get_elem? σ p.1 ≡ some (b, w)
+    skip_place : {Fs : List (List SVal)} {d : ℕ} {e : Bound} {w : PVal} {p p' : ℕ × ℕ} {b : ℕ} → p ≡ p' → slice_get σ p.1 ≡ Some (b, w)
         → Tag σ p'.1 e.binder.at → Housed ts T e → M e.binder.at ≡ true → e.depth < d → Place Fs d b w
     skip_place {e = e} q lk (u, lk') r mt lt =
         let eb = ap (λ (x : ℕ × PVal). x.0) (tag_of lk' (rw q at lk)) in
@@ -83,7 +82,7 @@ module _ (ts : Trees) (T : List Row) (M : ℕ → Bool) (told : (i b : ℕ) → 
           (refl, refl, refl, names_like C refl (deep_body ts T M lam.facts) (λ p m c w e. places ns lam.scope p m c w e))
 
       places : {Fs : List (List SVal)} {d h lo hi : ℕ} {Γ : Ctx} {ρ : Env} → Names ts T M σ Fs d lo hi Γ ρ → Scope ts T d h Γ
-          → (p : ℕ × ℕ) → Member p ρ → (b : ℕ) (w : PVal) → get_elem? σ p.1 ≡ some (b, w) → Place Fs d b w
+          → (p : ℕ × ℕ) → Member p ρ → (b : ℕ) (w : PVal) → slice_get σ p.1 ≡ Some (b, w) → Place Fs d b w
       places (keep n l o rd at a ns) (sc_own r own bd s) p (Member.head q) b w lk = kept_place q lk at r rd (like a)
       places (keep n l o rd at a ns) (sc_own r own bd s) p (Member.tail m) b w lk = places ns s p m b w lk
       places (keep n l o rd at a ns) (sc_outer r out s) p (Member.head q) b w lk = kept_place q lk at r rd (like a)

@@ -1,8 +1,6 @@
 -- A set! fills what a read would find: a cell, or a name of the body itself.
-use Rattle.std.specs.Prelude.{ℕ, List, [], ◌∷◌, ◌++◌, Bool, ◌≡◌, length, set}
-use Rattle.std.proofs.Math.Option.{Option, some}
+use Rattle.std.specs.Prelude.{ℕ, List, [], ◌∷◌, ◌++◌, Bool, ◌≡◌, length, set, Option, Some, slice_get}
 use Rattle.std.proofs.Common.{sym, ◌∙◌, arith, lt-ltb}
-use Rattle.std.proofs.Math.ListN.{get_elem?}
 use Rattle.tree.specs.Tree.{Ident, Tree, Trees}
 use Rattle.r7rs.specs.Machine.{Got, got, missing, on, Cells}
 use Rattle.r7rs.specs.Plain.{Env, PVal, Store, PMem, PBody, PKont, POut, mem, body, locate, pput_at}
@@ -38,7 +36,7 @@ module _ (ts : Trees) (T : List Row) (M : ℕ → Bool) where
       → Puts σ Γ d h lo F o ρ S (sput (spot_by ts T u.kind u) x v (frames F C) c) (pput_at q x w (body o ρ S) (mem σ c'))
   puts_found F C c c' u x (aim_cell k) f_none r a cs = rw (cell_spot ts T u u.kind k) (put-cell x (cs x) r a cs)
   puts_found {σ = σ} {lo = lo} F C {v = v} {w = w} c c' u x (aim_own {e = e} k f p m) (f_keep {ℓ = ℓ} {v = v₀} {w = w₀} s own rd lk y) r a cs =
-      let here : get_elem? F e.slot ≡ some v₀ = sym (own_read C F e (omega (arith, r.deep))) ∙ rd in
+      let here : slice_get F e.slot ≡ Some v₀ = sym (own_read C F e (omega (arith, r.deep))) ∙ rd in
       let g = grown_set ts T M ℓ e.binder.at σ w₀ w lk lo (own m).1 m in
       rw (own_spot ts T u u.kind k, f.slot, lt-ltb e.slot (length F) (inside F e.slot here), lk)
       (p_got (held-set ts T M e ℓ s p m (own m).1 here lk a r)

@@ -1,9 +1,7 @@
 -- A name is read: both machines find like values, or both an unbound cell.
-use Rattle.std.specs.Prelude.{ℕ, ◌+◌, ◌-◌, ◌≤◌, ◌<◌, List, [], ◌∷◌, ◌++◌, Bool, true, false, cond, ◌≡◌, refl, length, eqb}
+use Rattle.std.specs.Prelude.{ℕ, ◌+◌, ◌-◌, ◌≤◌, ◌<◌, List, [], ◌∷◌, ◌++◌, Bool, true, false, cond, ◌≡◌, refl, length, eqb, Option, None, Some, slice_get}
 use Rattle.std.proofs.Common.{true≢false, ap, sym, ◌∙◌, arith}
 use Rattle.std.proofs.lemmas.Bool.{false≢true}
-use Rattle.std.proofs.Math.Option.{Option, none, some}
-use Rattle.std.proofs.Math.ListN.{get_elem?}
 use Rattle.tree.specs.Tree.{Ident, Trees}
 use Rattle.r7rs.specs.Machine.{Got, got, missing, on, Cells, in_cell}
 use Rattle.r7rs.specs.Plain.{Env, PVal, Store, POut, mem, locate, pget_at}
@@ -20,13 +18,13 @@ use Rattle.lockstep.proofs.Laws.Simulation.Relation.{presumed, slot_of, read_in,
 
 -- a name of the body's own depth lies in the last frame, any other before it
 
-pub last_frame : (C : List (List SVal)) (F : List SVal) (n s : ℕ) → length C ≡ n → slot_of (get_elem? (C ++ (F ∷ [])) n) s ≡ get_elem? F s
+pub last_frame : (C : List (List SVal)) (F : List SVal) (n s : ℕ) → length C ≡ n → slot_of (slice_get (C ++ (F ∷ [])) n) s ≡ slice_get F s
 last_frame C F n s p =
     let m : length C + 0 ≡ n = omega arith in
-    let q : get_elem? (C ++ (F ∷ [])) n ≡ some F = rw (← m) (at_seam C (F ∷ []) 0) in
+    let q : slice_get (C ++ (F ∷ [])) n ≡ Some F = rw (← m) (at_seam C (F ∷ []) 0) in
     ap (λ (o : Option (List SVal)). slot_of o s) q
 
-pub own_read : (C : List (List SVal)) (F : List SVal) (e : Bound) → length C ≡ e.depth - 2 → read_in (C ++ (F ∷ [])) e ≡ get_elem? F e.slot
+pub own_read : (C : List (List SVal)) (F : List SVal) (e : Bound) → length C ≡ e.depth - 2 → read_in (C ++ (F ∷ [])) e ≡ slice_get F e.slot
 own_read C F e = last_frame C F (e.depth - 2) e.slot
 
 pub outer_read : (C : List (List SVal)) (F : List SVal) (e : Bound) → e.depth - 2 < length C → read_in (C ++ (F ∷ [])) e ≡ read_in C e
@@ -35,8 +33,8 @@ outer_read C F e h =
     ap (λ (o : Option (List SVal)). slot_of o e.slot) (at-append C (F ∷ []) (e.depth - 2) q ∙ sym q)
 
 in_outer_lem : (o : Option (List SVal)) (s : ℕ) → in_outer o s ≡ in_frame (slot_of o s)
-in_outer_lem none s = refl
-in_outer_lem (some F) s = refl
+in_outer_lem None s = refl
+in_outer_lem (Some F) s = refl
 
 -- The spot that a fact gives
 
@@ -60,7 +58,7 @@ module _ (ts : Trees) (T : List Row) (v : SemanticInformation) where
   own_spot HeapAllocated e = refl
 
   -- the frame and slot of the name that it refers to
-  pub home_of : {d : ℕ} {e : Bound} → Housed ts T e → Refers d v e → home ts T v ≡ some (e.depth - 2, e.slot)
+  pub home_of : {d : ℕ} {e : Bound} → Housed ts T e → Refers d v e → home ts T v ≡ Some (e.depth - 2, e.slot)
   unfolding home
   home_of r f = rw (f.refers, r.row, r.frame, f.slot)
 
@@ -79,14 +77,14 @@ at_in (at_there s) = in_there (at_in s)
 module _ (ts : Trees) (T : List Row) (M : ℕ → Bool) (σ : Store) where
   -- what a name finds in a scope, and in the environment
   pub data Found (Fs : List (List SVal)) (d lo hi : ℕ) (Γ : Ctx) (ρ : Env) : Option Bound → Option ℕ → Type 0 where
-    f_none : Found Fs d lo hi Γ ρ none none
+    f_none : Found Fs d lo hi Γ ρ None None
     f_keep : {e : Bound} {ℓ : ℕ} {v : SVal} {w : PVal} → At e ℓ Γ ρ → (M e.binder.at ≡ true → (e.depth ≡ d) × (lo ≤ ℓ))
-        → read_in Fs e ≡ some v → get_elem? σ ℓ ≡ some (e.binder.at, w) → Alike ts T M σ v w → Found Fs d lo hi Γ ρ (some e) (some ℓ)
-    f_skip : {e : Bound} {ℓ : ℕ} → M e.binder.at ≡ true → e.depth < d → Found Fs d lo hi Γ ρ (some e) (some ℓ)
+        → read_in Fs e ≡ Some v → slice_get σ ℓ ≡ Some (e.binder.at, w) → Alike ts T M σ v w → Found Fs d lo hi Γ ρ (Some e) (Some ℓ)
+    f_skip : {e : Bound} {ℓ : ℕ} → M e.binder.at ≡ true → e.depth < d → Found Fs d lo hi Γ ρ (Some e) (Some ℓ)
 
   module _ {Fs : List (List SVal)} {d lo : ℕ} where
     pick : {hi : ℕ} {Γ : Ctx} {ρ : Env} {e : Bound} {ℓ : ℕ} {o : Option Bound} {q : Option ℕ} (b : Bool)
-        → Found Fs d lo hi Γ ρ (some e) (some ℓ) → Found Fs d lo hi Γ ρ o q → Found Fs d lo hi Γ ρ (cond b (some e) o) (cond b (some ℓ) q)
+        → Found Fs d lo hi Γ ρ (Some e) (Some ℓ) → Found Fs d lo hi Γ ρ o q → Found Fs d lo hi Γ ρ (cond b (Some e) o) (cond b (Some ℓ) q)
     pick true f g = f
     pick false f g = g
 
@@ -120,12 +118,12 @@ module _ (ts : Trees) (T : List Row) (M : ℕ → Bool) (σ : Store) where
       → AlikeCells ts T M σ c c' → Gets (sget (spot_by ts T v.kind v) x (frames F C) c) (pget_at q x (mem σ c'))
   reads_found F C v c c' x deep sc (ref-cell k) f_none r = rw (cell_spot ts T v v.kind k) (in_cell_lem (r x))
   reads_found F C v c c' x deep sc (ref-own {e = e} k f p) (f_keep {v = u} s o rd lk a) r =
-      let here : get_elem? F e.slot ≡ some u = sym (own_read C F e (omega arith)) ∙ rd in
+      let here : slice_get F e.slot ≡ Some u = sym (own_read C F e (omega arith)) ∙ rd in
       rw (own_spot ts T v v.kind k, f.slot, here, lk) (g_got a)
   reads_found F C v c c' x deep sc (ref-own k f p) (f_skip m l) r = absurd (omega arith)
   reads_found F C v c c' x deep sc (ref_outer {e = e} k f two l m) (f_keep {v = u} s o rd lk a) r =
-      let there : read_in C e ≡ some u = sym (outer_read C F e (omega arith)) ∙ rd in
-      rw (outer_spot ts T v k (in_housed (at_in s) sc).0 f, in_outer_lem (get_elem? C (e.depth - 2)) e.slot, there, lk) (g_got a)
+      let there : read_in C e ≡ Some u = sym (outer_read C F e (omega arith)) ∙ rd in
+      rw (outer_spot ts T v k (in_housed (at_in s) sc).0 f, in_outer_lem (slice_get C (e.depth - 2)) e.slot, there, lk) (g_got a)
   reads_found F C v c c' x deep sc (ref_outer k f two l m) (f_skip m' _) r = absurd (true≢false (sym m' ∙ m))
 
   pub reads : {lo hi d h : ℕ} {Γ : Ctx} {F : List SVal} {C : List (List SVal)} {ρ : Env} (x : Ident) (v : SemanticInformation) (c : SMem) (c' : Cells PVal)

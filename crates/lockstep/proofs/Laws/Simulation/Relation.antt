@@ -1,8 +1,6 @@
 -- How the two machines stand to each other after the same moments: like values, the names of a body, what waits, and whole states.
 -- M says of each parameter and let name, by its record, whether a set! may be made of it.
-use Rattle.std.specs.Prelude.{ℕ, suc, ◌+◌, ◌-◌, ◌≤◌, ◌<◌, List, [], ◌∷◌, ◌++◌, Bool, true, false, ◌≡◌, length, drop}
-use Rattle.std.proofs.Math.Option.{Option, none, some}
-use Rattle.std.proofs.Math.ListN.{get_elem?}
+use Rattle.std.specs.Prelude.{ℕ, suc, ◌+◌, ◌-◌, ◌≤◌, ◌<◌, List, [], ◌∷◌, ◌++◌, Bool, true, false, ◌≡◌, length, drop, Option, None, Some, slice_get}
 use Rattle.tree.specs.Tree.{Ident, Tree, Trees, nil, cons, many}
 use Rattle.tree.specs.Accepted.{All}
 use Rattle.tree.specs.Site.{let_layer}
@@ -25,15 +23,15 @@ presumed M = record { ReadInside = λ x. M x.at ≡ false; SetOwn = λ x. M x.at
 -- the value of a name in the frames of depths 2 and up
 
 abbrev pub slot_of : Option (List SVal) → ℕ → Option SVal
-slot_of none s = none
-slot_of (some F) s = get_elem? F s
+slot_of None s = None
+slot_of (Some F) s = slice_get F s
 
 abbrev pub read_in : List (List SVal) → Bound → Option SVal
-read_in Fs e = slot_of (get_elem? Fs (e.depth - 2)) e.slot
+read_in Fs e = slot_of (slice_get Fs (e.depth - 2)) e.slot
 
 -- the location ℓ is one of the name at the record b
 abbrev pub Tag : Store → ℕ → ℕ → Type 0
-Tag σ ℓ b = (w : PVal) × (get_elem? σ ℓ ≡ some (b, w))
+Tag σ ℓ b = (w : PVal) × (slice_get σ ℓ ≡ Some (b, w))
 
 module _ (ts : Trees) (T : List Row) (M : ℕ → Bool) where
   abbrev pub Expr : Ctx → ℕ → ℕ → Bool → Tree → Type 0
@@ -68,7 +66,7 @@ module _ (ts : Trees) (T : List Row) (M : ℕ → Bool) where
       no_names : {Fs : List (List SVal)} {d lo hi : ℕ} → Names σ Fs d lo hi [] []
       keep : {Fs : List (List SVal)} {d lo hi : ℕ} {e : Bound} {Γ : Ctx} {p : ℕ × ℕ} {ρ : Env} {v : SVal} {w : PVal}
           → e.binder.name ≡ p.0 → p.1 < hi → (M e.binder.at ≡ true → (e.depth ≡ d) × (lo ≤ p.1))
-          → read_in Fs e ≡ some v → get_elem? σ p.1 ≡ some (e.binder.at, w) → Alike σ v w
+          → read_in Fs e ≡ Some v → slice_get σ p.1 ≡ Some (e.binder.at, w) → Alike σ v w
           → Names σ Fs d lo p.1 Γ ρ → Names σ Fs d lo hi (e ∷ Γ) (p ∷ ρ)
       skip : {Fs : List (List SVal)} {d lo hi : ℕ} {e : Bound} {Γ : Ctx} {p : ℕ × ℕ} {ρ : Env}
           → e.binder.name ≡ p.0 → p.1 < hi → Tag σ p.1 e.binder.at → M e.binder.at ≡ true → e.depth < d
@@ -79,8 +77,8 @@ module _ (ts : Trees) (T : List Row) (M : ℕ → Bool) where
     alike_cons : {v : SVal} {w : PVal} {vs : List SVal} {ws : List PVal} → Alike σ v w → AlikeAll σ vs ws → AlikeAll σ (v ∷ vs) (w ∷ ws)
 
   pub data AlikeHand (σ : Store) : Option SVal → Option PVal → Type 0 where
-    neither : AlikeHand σ none none
-    each : {v : SVal} {w : PVal} → Alike σ v w → AlikeHand σ (some v) (some w)
+    neither : AlikeHand σ None None
+    each : {v : SVal} {w : PVal} → Alike σ v w → AlikeHand σ (Some v) (Some w)
 
   abbrev pub AlikeCells : Store → Cells SVal → Cells PVal → Type 0
   AlikeCells σ c c' = (x : ℕ) → AlikeHand σ (c x) (c' x)
@@ -156,7 +154,7 @@ module _ (ts : Trees) (T : List Row) (M : ℕ → Bool) where
   -- the two machines after the same moment
   pub data Both (σ : Store) : Moment → Option SVal → SBody → SKont → SMem → Option PVal → PBody → PKont → Cells PVal → Type 0 where
     b_start : {es : Trees} {c : SMem} {c' : Cells PVal} → Top T (presumed M) es → PlacedAll ts T es 0 → AlikeCells σ c c'
-        → Both σ (start es) none (frames [] []) (kend nil) c none (body no_body [] []) (kend nil) c'
+        → Both σ (start es) None (frames [] []) (kend nil) c None (body no_body [] []) (kend nil) c'
     b_enter : {o e : Tree} {t : Bool} {Γ : Ctx} {d h lo : ℕ} {F : List SVal} {C : List (List SVal)} {ρ : Env} {S : List PVal} {sk : SKont} {pk : PKont}
         {v : Option SVal} {w : Option PVal} {c : SMem} {c' : Cells PVal} → Expr Γ d h t e → Placed ts T e h → Deep d o
         → Held σ lo (length σ) Γ d h F C ρ → Waits σ t Γ d h lo F ρ S sk pk → AlikeHand σ v w → AlikeCells σ c c'

@@ -1,7 +1,6 @@
 -- The scope of a body: its names with their rows and slots, and how deep and high each lies.
-use Rattle.std.specs.Prelude.{ℕ, zero, suc, ◌+◌, ◌-◌, ◌≤◌, ◌<◌, List, [], ◌∷◌, ◌⊎◌, ◌≡◌, refl, length}
+use Rattle.std.specs.Prelude.{ℕ, zero, suc, ◌+◌, ◌-◌, ◌≤◌, ◌<◌, List, [], ◌∷◌, ◌⊎◌, ◌≡◌, refl, length, Some}
 use Rattle.std.proofs.Common.{inl, inr, ⊎_elim, ap, ◌∙◌, arith}
-use Rattle.std.proofs.Math.Option.{some}
 use Rattle.tree.specs.Tree.{Ident, Trees}
 use Rattle.tree.specs.Site.{let_layer}
 use Rattle.tree.proofs.Laws.Site.{let_cases}
@@ -23,17 +22,17 @@ let_same d p l = ⊎_elim (λ c. omega arith) (λ c. omega arith) (let_cases d)
 pub let_deep : (d : ℕ) → let_layer d - 2 ≡ d - 2
 let_deep d = ⊎_elim (λ c. omega arith) (λ c. omega arith) (let_cases d)
 
-frame_two : (d : ℕ) → 2 ≤ d → frame_of d ≡ some (d - 2)
+frame_two : (d : ℕ) → 2 ≤ d → frame_of d ≡ Some (d - 2)
 frame_two zero l = absurd (omega arith)
 frame_two (suc zero) l = absurd (omega arith)
-frame_two (suc (suc d)) l = ap some (omega arith)
+frame_two (suc (suc d)) l = ap Some (omega arith)
 
 module _ (ts : Trees) (T : List Row) where
   -- a name of a body: its row gives its frame, and is the one that its id finds; its record gives its slot
   pub record Housed (e : Bound) : Type 0 where
     pub two : 2 ≤ e.depth
     pub row : row_of_id ts T e.binder.id ≡ row_of T e.binder.at
-    pub frame : frame_in (row_of T e.binder.at) ≡ some (e.depth - 2)
+    pub frame : frame_in (row_of T e.binder.at) ≡ Some (e.depth - 2)
     pub slot : slot_at ts e.binder.at ≡ e.slot
 
   housed : {x : Ident} {d s : ℕ} → 2 ≤ d → DepthAt T x d → Stands ts T x s → Housed (bound x d s)

@@ -1,9 +1,7 @@
 -- A name of the body itself is set, in the frame and in the store: what waits is unharmed. Cells are filled.
-use Rattle.std.specs.Prelude.{ℕ, ◌+◌, ◌-◌, ◌≤◌, ◌<◌, List, [], ◌∷◌, ◌++◌, Bool, true, false, cond, ◌⊎◌, ◌≡◌, refl, length, set, eqb}
+use Rattle.std.specs.Prelude.{ℕ, ◌+◌, ◌-◌, ◌≤◌, ◌<◌, List, [], ◌∷◌, ◌++◌, Bool, true, false, cond, ◌⊎◌, ◌≡◌, refl, length, set, eqb, Some, slice_get}
 use Rattle.std.proofs.Common.{inl, inr, ap, sym, subst, ◌∙◌, arith, length-set}
-use Rattle.std.proofs.Math.Option.{some}
 use Rattle.std.proofs.Math.Decide.{ℕ_discrete}
-use Rattle.std.proofs.Math.ListN.{get_elem?}
 use Rattle.tree.specs.Tree.{Trees, many}
 use Rattle.tree.specs.Site.{let_layer}
 use Rattle.r7rs.specs.Machine.{After, Cells, fill, last_n, but_n}
@@ -25,7 +23,7 @@ module _ (ts : Trees) (T : List Row) (M : ℕ → Bool) where
       → AlikeCells ts T M σ (fill c x v) (fill c' x w)
   cells_fill {σ} {c} {c'} {v} {w} x a r y = go (eqb x y)
     where
-      go : (b : Bool) → AlikeHand ts T M σ (cond b (some v) (c y)) (cond b (some w) (c' y))
+      go : (b : Bool) → AlikeHand ts T M σ (cond b (Some v) (c y)) (cond b (Some w) (c' y))
       go true = each a
       go false = r y
 
@@ -75,9 +73,9 @@ module _ (ts : Trees) (T : List Row) (M : ℕ → Bool) where
 
   -- a location of the body's own is written
 
-  module _ (ℓ b : ℕ) (σ : Store) (w w' : PVal) (was : get_elem? σ ℓ ≡ some (b, w)) where
+  module _ (ℓ b : ℕ) (σ : Store) (w w' : PVal) (was : slice_get σ ℓ ≡ Some (b, w)) where
     -- the location holds one name
-    same_tag : (j c : ℕ) (u : PVal) → ℓ ≡ j → get_elem? σ j ≡ some (c, u) → b ≡ c
+    same_tag : (j c : ℕ) (u : PVal) → ℓ ≡ j → slice_get σ j ≡ Some (c, u) → b ≡ c
     same_tag j c u q e =
         let pair : ◌≡◌ {A = ℕ × PVal} (b, w) (c, u) = cc in
         ap (λ (p : ℕ × PVal). p.0) pair
@@ -89,7 +87,7 @@ module _ (ts : Trees) (T : List Row) (M : ℕ → Bool) where
       tags = λ j c t. tag j c t (ℕ_discrete ℓ j);
     }
       where
-        kept : (j c : ℕ) (u : PVal) → (M c ≡ true → j < lo) → get_elem? σ j ≡ some (c, u) → Dec (ℓ ≡ j) → get_elem? (set σ ℓ (b, w')) j ≡ some (c, u)
+        kept : (j c : ℕ) (u : PVal) → (M c ≡ true → j < lo) → slice_get σ j ≡ Some (c, u) → Dec (ℓ ≡ j) → slice_get (set σ ℓ (b, w')) j ≡ Some (c, u)
         kept j c u own e (no h) = at_set_other σ ℓ j (b, w') h ∙ e
         kept j c u own e (yes q) = absurd (let k : j < lo = own (rw (← same_tag j c u q e) m) in omega arith)
 
@@ -110,23 +108,23 @@ module _ (ts : Trees) (T : List Row) (M : ℕ → Bool) where
     Gs = C ++ (set F x.slot v ∷ [])
 
     same_read : {d : ℕ} (e : Bound) (u : SVal) → length C ≡ d - 2 → 2 ≤ e.depth → e.depth ≤ d → (e.depth ≡ d → ¬ (x.slot ≡ e.slot))
-        → read_in (C ++ (F ∷ [])) e ≡ some u → read_in Gs e ≡ some u
+        → read_in (C ++ (F ∷ [])) e ≡ Some u → read_in Gs e ≡ Some u
     same_read {d} e u deep two le ne r = go (ℕ_discrete e.depth d)
       where
-        go : Dec (e.depth ≡ d) → read_in Gs e ≡ some u
+        go : Dec (e.depth ≡ d) → read_in Gs e ≡ Some u
         go (yes q) =
             let k : length C ≡ e.depth - 2 = omega arith in
             own_read C (set F x.slot v) e k ∙ at_set_other F x.slot e.slot v (ne q) ∙ sym (own_read C F e k) ∙ r
         go (no q) = let k : e.depth - 2 < length C = omega arith in outer_read C (set F x.slot v) e k ∙ sym (outer_read C F e k) ∙ r
 
-    same_store : (j b : ℕ) (u : PVal) → ¬ (ℓ ≡ j) → get_elem? σ j ≡ some (b, u) → get_elem? τ j ≡ some (b, u)
+    same_store : (j b : ℕ) (u : PVal) → ¬ (ℓ ≡ j) → slice_get σ j ≡ Some (b, u) → slice_get τ j ≡ Some (b, u)
     same_store j b u ne e = rw made (at_set_other σ ℓ j (x.binder.at, w') ne ∙ e)
 
     -- another name keeps its values
     keep_other : {d hi : ℕ} {e : Bound} {Γ : Ctx} {p : ℕ × ℕ} {ρ : Env} {u : SVal} {w : PVal} → length C ≡ d - 2 → Housed ts T e → e.depth ≤ d
         → (e.depth ≡ d → ¬ (x.slot ≡ e.slot)) → ¬ (ℓ ≡ p.1) → e.binder.name ≡ p.0 → p.1 < hi
-        → (M e.binder.at ≡ true → (e.depth ≡ d) × (lo ≤ p.1)) → read_in (C ++ (F ∷ [])) e ≡ some u
-        → get_elem? σ p.1 ≡ some (e.binder.at, w) → Alike ts T M σ u w → Names ts T M τ Gs d lo p.1 Γ ρ → Names ts T M τ Gs d lo hi (e ∷ Γ) (p ∷ ρ)
+        → (M e.binder.at ≡ true → (e.depth ≡ d) × (lo ≤ p.1)) → read_in (C ++ (F ∷ [])) e ≡ Some u
+        → slice_get σ p.1 ≡ Some (e.binder.at, w) → Alike ts T M σ u w → Names ts T M τ Gs d lo p.1 Γ ρ → Names ts T M τ Gs d lo hi (e ∷ Γ) (p ∷ ρ)
     keep_other {e = e} {p = p} deep r le ne far n b o rd lk a ns =
         keep n b o (same_read e _ deep r.two le ne rd) (same_store p.1 _ _ far lk) (Mono.alike ts T M lo σ τ g a) ns
 
@@ -141,8 +139,8 @@ module _ (ts : Trees) (T : List Row) (M : ℕ → Bool) where
         keep_other deep r (omega arith) (λ q _. omega arith) (λ q. omega arith) n b' o rd lk a (names_under deep h (omega arith) s ns)
     names_under deep h l (sc_outer r out s) (skip n b' t m o ns) = skip n b' (g.tags _ _ t) m o (names_under deep h (omega arith) s ns)
 
-    names-set : {d h hi : ℕ} {Γ : Ctx} {ρ : Env} → length C ≡ d - 2 → x.depth ≡ d → Alike ts T M τ v w' → read_in Gs x ≡ some v
-        → get_elem? τ ℓ ≡ some (x.binder.at, w') → Scope ts T d h Γ → At x ℓ Γ ρ → Names ts T M σ (C ++ (F ∷ [])) d lo hi Γ ρ
+    names-set : {d h hi : ℕ} {Γ : Ctx} {ρ : Env} → length C ≡ d - 2 → x.depth ≡ d → Alike ts T M τ v w' → read_in Gs x ≡ Some v
+        → slice_get τ ℓ ≡ Some (x.binder.at, w') → Scope ts T d h Γ → At x ℓ Γ ρ → Names ts T M σ (C ++ (F ∷ [])) d lo hi Γ ρ
         → Names ts T M τ Gs d lo hi Γ ρ
     names-set deep dp a rd lk (sc_own r own b s) (at_here q) (keep n b' o _ _ _ ns) =
         keep n b' o rd (rw (← q) at lk) a (names_under deep (omega arith) (omega arith) s ns)
@@ -161,7 +159,7 @@ module _ (ts : Trees) (T : List Row) (M : ℕ → Bool) where
     names-set deep dp a rd lk sc_nil sp ns = elim sp [ ]
 
   pub held-set : {σ : Store} {lo d h : ℕ} {Γ : Ctx} {F : List SVal} {C : List (List SVal)} {ρ : Env} {v v₀ : SVal} {w w₀ : PVal} (e : Bound) (ℓ : ℕ)
-      → At e ℓ Γ ρ → e.depth ≡ d → M e.binder.at ≡ true → lo ≤ ℓ → get_elem? F e.slot ≡ some v₀ → get_elem? σ ℓ ≡ some (e.binder.at, w₀)
+      → At e ℓ Γ ρ → e.depth ≡ d → M e.binder.at ≡ true → lo ≤ ℓ → slice_get F e.slot ≡ Some v₀ → slice_get σ ℓ ≡ Some (e.binder.at, w₀)
       → Alike ts T M σ v w → Held ts T M σ lo (length σ) Γ d h F C ρ
       → Held ts T M (set σ ℓ (e.binder.at, w)) lo (length (set σ ℓ (e.binder.at, w))) Γ d h (set F e.slot v) C ρ
   held-set {σ} {lo} {F = F} {C = C} {v = v} {w = w} {w₀ = w₀} e ℓ sp dp m l rd lk a r =

@@ -1,8 +1,7 @@
 -- A moment of both machines, and n moments.
 use Prim.Native.Nat.{ℕ, zero, suc, ◌+◌, ◌≤◌}
 use mathlib.Core.List.{List, [], ◌∷◌, ◌++◌, tail}
-use Rattle.std.specs.Prelude.{Bool, ◌≡◌, refl, length, drop}
-use Rattle.std.proofs.Math.Option.{Option}
+use Rattle.std.specs.Prelude.{Bool, ◌≡◌, refl, length, drop, Option}
 use Rattle.std.proofs.Common.{ap, ◌∙◌, arith}
 use Rattle.tree.specs.Tree.{Ident, Tree, Trees, many}
 use Rattle.tree.proofs.Laws.Site.{let_two}

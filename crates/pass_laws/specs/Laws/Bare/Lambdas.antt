@@ -1,9 +1,7 @@
 -- Lambdas.
-use Rattle.std.specs.Prelude.{ℕ, Bool, cond, ◌≡◌}
+use Rattle.std.specs.Prelude.{ℕ, Bool, cond, ◌≡◌, Option, None, Some, option_map}
 use mathlib.Core.List.{List, [], ◌∷◌, map}
 use Rattle.std.proofs.Math.Bool.{true, false}
-use Rattle.std.proofs.Math.Option
-use Rattle.std.proofs.Math.Option.{Option, none, some}
 use Rattle.std.proofs.Math.Path.{refl}
 use Rattle.std.proofs.Common.{ap, sym, ◌∙◌}
 use Rattle.std.proofs.lemmas.List.{length-map}
@@ -31,8 +29,8 @@ bare_is_heap l j = rw (get_or-map bare_list_entry l j no_list_entry)
 
 bare_note_heap : (o : Option ℕ) (x : Ident) → note_heap o x ↝ note_heap o (bare_ident x)
 unfolding bare_state
-bare_note_heap none x s = refl
-bare_note_heap (some n) x s = refl
+bare_note_heap None x s = refl
+bare_note_heap (Some n) x s = refl
 
 module _ (kind : IdentifierStatus) (base : ℕ) (heaps : Option ℕ) (before : List ListEntry) where
   enter_name_lem : (b : Bool) (x : Ident) (j h : ℕ)
@@ -68,8 +66,8 @@ bare_arguments s v = bare-list s.facts.arguments v.arguments
 
 bare_open_captures : (o : Option FunctionInformation) → open_captures o ↝ open_captures o
 unfolding open_captures bare_state
-bare_open_captures none s = refl
-bare_open_captures (some v) s = ap (with_context (cond v.escapes _ s.context)) (bare-number v.captured_vars _)
+bare_open_captures None s = refl
+bare_open_captures (Some v) s = ap (with_context (cond v.escapes _ s.context)) (bare-number v.captured_vars _)
 
 pub bare_open : open_scope ↝ open_scope
 unfolding open_scope bare_state
@@ -77,8 +75,8 @@ bare_open s = refl
 
 bare-parameters : (o : Option FunctionInformation) (xs : List Ident) → enter_parameters o xs ↝ enter_parameters o (map bare_ident xs)
 unfolding enter_parameters
-bare-parameters none xs s = simp bare-names
-bare-parameters (some v) xs s = simp (bare-names, bare_captured, bare_arguments, bare_heaps)
+bare-parameters None xs s = simp bare-names
+bare-parameters (Some v) xs s = simp (bare-names, bare_captured, bare_arguments, bare_heaps)
 
 pub bare_open_lambda : (n : Node) (xs : List Ident) → open_lambda n xs ↝ open_lambda (bare_node n) (map bare_ident xs)
 unfolding open_lambda
@@ -86,9 +84,9 @@ bare_open_lambda n xs s = simp (bare-parameters, bare_open, bare_open_captures, 
 
 -- Names leave
 
-pub bare_mark_last : (o : Option Ident) → mark_last o ↝ mark_last (Option.map bare_ident o)
-bare_mark_last none s = refl
-bare_mark_last (some x) s = simp steps
+pub bare_mark_last : (o : Option Ident) → mark_last o ↝ mark_last (option_map bare_ident o)
+bare_mark_last None s = refl
+bare_mark_last (Some x) s = simp steps
 
 list_entries_of_lem : (s : State) (l : List (Live Ident)) → list_entries_of (bare_state s) (map_live bare_ident l) ≡ map bare_list_entry (list_entries_of s l)
 unfolding map_live
@@ -108,9 +106,9 @@ bare_close_captures : close_captures ↝ close_captures
 unfolding close_captures bare_state
 bare_close_captures s = ap (λ (m : ScopeMap Capture). with_captures m (bare_state s)) (map-pop_layer bare_capture s.captures)
 
-ended_fact_lem : (n : ℕ) (o : Option Ident) → ended_fact n (Option.map bare_ident o) ≡ ended_fact n o
-ended_fact_lem n none = refl
-ended_fact_lem n (some x) = refl
+ended_fact_lem : (n : ℕ) (o : Option Ident) → ended_fact n (option_map bare_ident o) ≡ ended_fact n o
+ended_fact_lem n None = refl
+ended_fact_lem n (Some x) = refl
 
 end-parameters : (xs : List Ident) → end_parameters xs ↝ end_parameters (map bare_ident xs)
 unfolding end_parameters
@@ -136,8 +134,8 @@ amend_function_lem n b now m v s = simp (steps, bare_rewrite, now_used_lem, kept
 
 function_ends_lem : (o : Option FunctionInformation) (n : Node) (b : Tree) (e : Bool) (now a : List ListEntry) (m : ScopeMap Capture)
     → function_ends o n b e now a m ↝ function_ends o (bare_node n) (bare b) e (map bare_list_entry now) (map bare_list_entry a) (map_values bare_capture m)
-function_ends_lem none n b e now a m s = simp (make_function_lem, bare_sort)
-function_ends_lem (some v) n b e now a m s = amend_function_lem n b now m v s
+function_ends_lem None n b e now a m s = simp (make_function_lem, bare_sort)
+function_ends_lem (Some v) n b e now a m s = amend_function_lem n b now m v s
 
 names_in_lem : (xs : List Ident) → map name_in (map bare_ident xs) ≡ map name_in xs
 names_in_lem [] = refl

@@ -1,7 +1,5 @@
 -- Lets.
-use Rattle.std.specs.Prelude.{ℕ, List, [], ◌∷◌, map, Bool, true, false, ◌≡◌, refl}
-use Rattle.std.proofs.Math.Option
-use Rattle.std.proofs.Math.Option.{Option, none, some}
+use Rattle.std.specs.Prelude.{ℕ, List, [], ◌∷◌, map, Bool, true, false, ◌≡◌, refl, Option, None, Some, option_map}
 use Rattle.std.proofs.Common.{ap, ◌∙◌}
 use Rattle.std.proofs.lemmas.List.{length-map}
 use Rattle.tree.specs.Tree.{Ident, Node}
@@ -27,12 +25,12 @@ let_arguments_lem s (CallSite v) = refl
 let_arguments_lem s (Let v) = bare-list s.facts.arguments v.arguments
 
 heaps_in_lem : (s : State) (o : Option FunctionInformation) → heaps_in (bare_state s) o ≡ heaps_in s o
-heaps_in_lem s none = refl
-heaps_in_lem s (some v) = rw (bare_captured s v, bare_heaps)
+heaps_in_lem s None = refl
+heaps_in_lem s (Some v) = rw (bare_captured s v, bare_heaps)
 
-heaps_around_lem : (s : State) (o : Option Node) → heaps_around (bare_state s) (Option.map bare_node o) ≡ heaps_around s o
-heaps_around_lem s none = refl
-heaps_around_lem s (some n) = rw (bare-row s n.at, bare_function (row_at s n.at)) (heaps_in_lem s (function_in (row_at s n.at)))
+heaps_around_lem : (s : State) (o : Option Node) → heaps_around (bare_state s) (option_map bare_node o) ≡ heaps_around s o
+heaps_around_lem s None = refl
+heaps_around_lem s (Some n) = rw (bare-row s n.at, bare_function (row_at s n.at)) (heaps_in_lem s (function_in (row_at s n.at)))
 
 open_layer_lem : (b : Bool) → open_layer b ↝ open_layer b
 unfolding open_layer
@@ -48,7 +46,7 @@ close_layer_lem false s = refl
 let_names : Node → List Ident → ℕ → Option Node → State → State
 let_names n xs h o s = enter_names LetVar h (heaps_around s o) (let_arguments s (row_at s n.at)) xs 0 0 s
 
-let_names_lem : (n : Node) (xs : List Ident) (h : ℕ) (o : Option Node) → let_names n xs h o ↝ let_names (bare_node n) (map bare_ident xs) h (Option.map bare_node o)
+let_names_lem : (n : Node) (xs : List Ident) (h : ℕ) (o : Option Node) → let_names n xs h o ↝ let_names (bare_node n) (map bare_ident xs) h (option_map bare_node o)
 unfolding let_names
 let_names_lem n xs h o s = simp (bare-names, heaps_around_lem, steps, let_arguments_lem)
 
@@ -57,7 +55,7 @@ unfolding open_let let_names
 is_entered n xs h o s = refl
 
 pub bare_open_let : (n : Node) (xs : List Ident) (h : ℕ) (o : Option Node)
-    → open_let n xs h o ↝ open_let (bare_node n) (map bare_ident xs) h (Option.map bare_node o)
+    → open_let n xs h o ↝ open_let (bare_node n) (map bare_ident xs) h (option_map bare_node o)
 bare_open_let n xs h o s = simp (is_entered, let_names_lem, open_layer_lem, steps)
 
 bare-remove : (x : Ident) (s : State)
@@ -75,12 +73,12 @@ unfolding entered
 bare-entered [] s = refl
 bare-entered (x ∷ xs) s = rw (bare-entered xs s, bare-entry s x.at, bare-list-entry_of x (entry_at s x.at))
 
-function_id_lem : (o : Option Node) → function_id (Option.map bare_node o) ≡ function_id o
-function_id_lem none = refl
-function_id_lem (some n) = refl
+function_id_lem : (o : Option Node) → function_id (option_map bare_node o) ≡ function_id o
+function_id_lem None = refl
+function_id_lem (Some n) = refl
 
 make_let_lem : (r : Row) (n : Node) (l : List ListEntry) (h : ℕ) (o : Option Node)
-    → make_let r n l h o ↝ make_let (bare_row r) (bare_node n) (map bare_list_entry l) h (Option.map bare_node o)
+    → make_let r n l h o ↝ make_let (bare_row r) (bare_node n) (map bare_list_entry l) h (option_map bare_node o)
 make_let_lem Blank n l h o s = simp (steps, bare_store_arguments, function_id_lem, length-map)
 make_let_lem (Variable v) n l h o s = refl
 make_let_lem (Function v) n l h o s = refl
@@ -89,6 +87,6 @@ make_let_lem (Let v) n l h o s = refl
 
 -- `s` is the state before the let
 pub bare_close_let : (s : State) (n : Node) (xs : List Ident) (h : ℕ) (o : Option Node) (t : State)
-    → bare_state (close_let (at_bottom s) n xs h o t) ≡ close_let (at_bottom (bare_state s)) (bare_node n) (map bare_ident xs) h (Option.map bare_node o) (bare_state t)
+    → bare_state (close_let (at_bottom s) n xs h o t) ≡ close_let (at_bottom (bare_state s)) (bare_node n) (map bare_ident xs) h (option_map bare_node o) (bare_state t)
 unfolding close_let
 bare_close_let s n xs h o t = simp (close_layer_lem, make_let_lem, leave_names_lem, bare-entered, steps)

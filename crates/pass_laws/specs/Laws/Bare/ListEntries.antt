@@ -1,9 +1,7 @@
 -- Captured lists and captures.
 use Prim.Native.Nat.{ℕ, zero, suc, ◌+◌}
 use mathlib.Core.List.{List, [], ◌∷◌, map, map-append}
-use Rattle.std.specs.Prelude.{Bool, true, false, not, ◌&&◌, ◌≡◌, length, set, eqb, ltb}
-use Rattle.std.proofs.Math.Option
-use Rattle.std.proofs.Math.Option.{Option, none, some}
+use Rattle.std.specs.Prelude.{Bool, true, false, not, ◌&&◌, ◌≡◌, length, set, eqb, ltb, Option, None, Some, option_map}
 use Rattle.std.proofs.Math.Path.{refl}
 use Rattle.std.proofs.Common.{ap, sym, ◌∙◌}
 use Rattle.std.proofs.lemmas.List.{length-map}
@@ -29,10 +27,10 @@ pub bare-list-entry_of : (b : Ident) (e : Entry) → list_entry_of (bare_ident b
 bare-list-entry_of b e = rw (bare_id e.last_used)
 
 add_captured_lem : (b : Bool) (s : State) (o : Option Ident) (l : List ListEntry)
-    → add_captured b (bare_state s) (Option.map bare_ident o) (map bare_list_entry l) ≡ map bare_list_entry (add_captured b s o l)
+    → add_captured b (bare_state s) (option_map bare_ident o) (map bare_list_entry l) ≡ map bare_list_entry (add_captured b s o l)
 add_captured_lem false s o l = refl
-add_captured_lem true s none l = refl
-add_captured_lem true s (some b) l = simp (steps, map_cond (map bare_list_entry))
+add_captured_lem true s None l = refl
+add_captured_lem true s (Some b) l = simp (steps, map_cond (map bare_list_entry))
 
 captured_in_lem : (ps : List ℕ) (s : State) (l : List (Live Ident)) → captured_in ps (bare_state s) (map_live bare_ident l) ≡ map bare_list_entry (captured_in ps s l)
 unfolding captured_in map_live
@@ -75,9 +73,9 @@ bare_rewrite e l s = simp (length-map, map_sets, map-append, map-replicate)
 bare-near : (s : State) (x : ℕ) → near (bare_state s) x ≡ near s x
 bare-near s x = rw bare-capture (go (get s.captures x))
   where
-    go : (o : Option (Live Capture)) → near_in (bare_state s) (Option.map (map_value bare_capture) o) ≡ near_in s o
-    go none = refl
-    go (some c) = simp steps
+    go : (o : Option (Live Capture)) → near_in (bare_state s) (option_map (map_value bare_capture) o) ≡ near_in s o
+    go None = refl
+    go (Some c) = simp steps
 
 -- captures and captured entries changed together
 bare-take : (m : ScopeMap Capture) (l : List ListEntry) (s : State) {k : ScopeMap Capture} {r : List ListEntry} → map_values bare_capture m ≡ k → map bare_list_entry l ≡ r
@@ -128,23 +126,23 @@ unfolding count_of
 bare-count x [] = refl
 bare-count x (i ∷ l) = rw (bare-count x l)
 
-bare-find : (x : ℕ) (l : List ListEntry) → first_of x (map bare_list_entry l) ≡ Option.map bare_list_entry (first_of x l)
+bare-find : (x : ℕ) (l : List ListEntry) → first_of x (map bare_list_entry l) ≡ option_map bare_list_entry (first_of x l)
 unfolding first_of
 bare-find x [] = refl
-bare-find x (i ∷ l) = rw (bare-find x l) (sym (map_cond (Option.map bare_list_entry) (eqb (name_of i) x) _ _))
+bare-find x (i ∷ l) = rw (bare-find x l) (sym (map_cond (option_map bare_list_entry) (eqb (name_of i) x) _ _))
 
 bare_enclosing : (m : ScopeMap Capture) (x : ℕ) → enclosing_of (get (map_values bare_capture m) x) ≡ enclosing_of (get m x)
 bare_enclosing m x = rw (map_get bare_capture) (go (get m x))
   where
-    go : (o : Option (Live Capture)) → enclosing_of (Option.map (map_value bare_capture) o) ≡ enclosing_of o
-    go none = refl
-    go (some c) = refl
+    go : (o : Option (Live Capture)) → enclosing_of (option_map (map_value bare_capture) o) ≡ enclosing_of o
+    go None = refl
+    go (Some c) = refl
 
 module _ (now : List ListEntry) (m : ScopeMap Capture) where
   kept_list-entry : (o : Option ListEntry) (i : ListEntry)
-      → kept_list_entry (map bare_list_entry now) (map_values bare_capture m) (Option.map bare_list_entry o) (bare_list_entry i) ≡ bare_list_entry (kept_list_entry now m o i)
-  kept_list-entry none i = refl
-  kept_list-entry (some v) i = rw (bare-count (name_of i) now, bare_enclosing m (name_of i))
+      → kept_list_entry (map bare_list_entry now) (map_values bare_capture m) (option_map bare_list_entry o) (bare_list_entry i) ≡ bare_list_entry (kept_list_entry now m o i)
+  kept_list-entry None i = refl
+  kept_list-entry (Some v) i = rw (bare-count (name_of i) now, bare_enclosing m (name_of i))
 
   pub bare-amend-list : (seen : List ℕ) (l : List ListEntry)
       → amend_list (map bare_list_entry now) (map_values bare_capture m) seen (map bare_list_entry l) ≡ map bare_list_entry (amend_list now m seen l)

@@ -1,7 +1,6 @@
 -- Names that are read, set, or enter the scope.
-use Rattle.std.specs.Prelude.{ℕ, suc, List, [], ◌∷◌, Bool, cond, ◌&&◌, ◌≡◌, eqb}
+use Rattle.std.specs.Prelude.{ℕ, suc, List, [], ◌∷◌, Bool, cond, ◌&&◌, ◌≡◌, eqb, Option, None, Some, option_map}
 use Rattle.std.proofs.Math.Bool.{true, false}
-use Rattle.std.proofs.Math.Option.{Option, none, some, map}
 use Rattle.std.proofs.Math.Path.{refl}
 use Rattle.std.proofs.Common.{ap, ◌∙◌}
 use Rattle.tree.specs.Tree.{Ident, Tree}
@@ -82,9 +81,9 @@ module _ (classes : List ℕ) (k : IdentifierStatus) (a : ℕ) where
   bare-enter-define x b s = simp (steps, bare-enter, define_fact_lem)
 
 module _ (classes : List ℕ) where
-  bare-shadow : (o : Option Ident) → shadow classes o ↝ shadow classes (map bare_ident o)
-  bare-shadow none s = refl
-  bare-shadow (some b) s = bare-amend (shadow_if_builtin classes) (λ v. bare_mark v.builtin mark_shadowed v (λ w. refl)) b.at s
+  bare-shadow : (o : Option Ident) → shadow classes o ↝ shadow classes (option_map bare_ident o)
+  bare-shadow None s = refl
+  bare-shadow (Some b) s = bare-amend (shadow_if_builtin classes) (λ v. bare_mark v.builtin mark_shadowed v (λ w. refl)) b.at s
 
   pub bare-enter_value : (x : Ident) (b : Tree) → enter_top_level_value classes x b ↝ enter_top_level_value classes (bare_ident x) (bare b)
   unfolding enter_top_level_value
@@ -99,13 +98,13 @@ bare_rule (current_layer b) = current_layer (bare_ident b)
 bare_rule (taken_capture b c) = taken_capture (bare_ident b) (bare_capture c)
 bare_rule (home_slot b) = home_slot (bare_ident b)
 
-capture_rule_lem : (b : Ident) (o : Option (Live Capture)) → capture_rule (bare_ident b) (map (map_value bare_capture) o) ≡ bare_rule (capture_rule b o)
-capture_rule_lem b none = refl
-capture_rule_lem b (some c) = refl
+capture_rule_lem : (b : Ident) (o : Option (Live Capture)) → capture_rule (bare_ident b) (option_map (map_value bare_capture) o) ≡ bare_rule (capture_rule b o)
+capture_rule_lem b None = refl
+capture_rule_lem b (Some c) = refl
 
-entry_rule_lem : (s : State) (x : ℕ) (o : Option Ident) → entry_rule (bare_state s) x (map bare_ident o) ≡ bare_rule (entry_rule s x o)
-entry_rule_lem s x none = refl
-entry_rule_lem s x (some b) = simp (steps, map_cond bare_rule, bare-capture, capture_rule_lem)
+entry_rule_lem : (s : State) (x : ℕ) (o : Option Ident) → entry_rule (bare_state s) x (option_map bare_ident o) ≡ bare_rule (entry_rule s x o)
+entry_rule_lem s x None = refl
+entry_rule_lem s x (Some b) = simp (steps, map_cond bare_rule, bare-capture, capture_rule_lem)
 
 bare_rule_lem : (s : State) (x : ℕ) → rule_of (bare_state s) x ≡ bare_rule (rule_of s x)
 unfolding rule_of
@@ -187,9 +186,9 @@ module _ (classes : List ℕ) where
 
 -- A name is set
 
-mutate-at : (o : Option Ident) → mutate_at o ↝ mutate_at (map bare_ident o)
-mutate-at none s = refl
-mutate-at (some b) s = simp steps
+mutate-at : (o : Option Ident) → mutate_at o ↝ mutate_at (option_map bare_ident o)
+mutate-at None s = refl
+mutate-at (Some b) s = simp steps
 
 pub bare-mutate : (x : ℕ) → mutate x ↝ mutate x
 unfolding mutate

@@ -1,6 +1,5 @@
 -- A state read and changed at one place.
-use Rattle.std.specs.Prelude.{ℕ, List, ◌≡◌}
-use Rattle.std.proofs.Math.Option.{Option, none, some, map}
+use Rattle.std.specs.Prelude.{ℕ, List, ◌≡◌, Option, None, Some, option_map}
 use Rattle.std.proofs.Math.Path.{refl}
 use Rattle.std.proofs.Common.{ap, ◌∙◌}
 use Rattle.std.proofs.Math.ListN.{get_or-map}
@@ -32,19 +31,19 @@ module _ (s : State) where
   pub bare_info : (r : ℕ) → info_at (bare_state s) r ≡ info_at s r
   bare_info r = ap (λ (i : ListEntry). i.info) (bare-list-entry r)
 
-  pub bare-newest : (x : ℕ) → newest (bare_state s) x ≡ map bare_ident (newest s x)
+  pub bare-newest : (x : ℕ) → newest (bare_state s) x ≡ option_map bare_ident (newest s x)
   unfolding bare_state
   bare-newest x = rw (map_get bare_ident) (go (get s.scope.names x))
     where
-      go : (o : Option (Live Ident)) → binder_in (map (map_value bare_ident) o) ≡ map bare_ident (binder_in o)
-      go none = refl
-      go (some e) = refl
+      go : (o : Option (Live Ident)) → binder_in (option_map (map_value bare_ident) o) ≡ option_map bare_ident (binder_in o)
+      go None = refl
+      go (Some e) = refl
 
   pub bare-depth : depth (bare_state s) ≡ depth s
   unfolding bare_state
   bare-depth = refl
 
-  pub bare-capture : (x : ℕ) → get (bare_state s).captures x ≡ map (map_value bare_capture) (get s.captures x)
+  pub bare-capture : (x : ℕ) → get (bare_state s).captures x ≡ option_map (map_value bare_capture) (get s.captures x)
   unfolding bare_state
   bare-capture x = map_get bare_capture s.captures x
 
@@ -96,9 +95,9 @@ bare-amend f h i s = bare-insert i (amended f (row_at s i)) s ∙ rw bare-row (a
     go (CallSite v) = refl
     go (Let v) = refl
 
-pub bare_id : (o : Option Ident) → id_of (map bare_ident o) ≡ id_of o
-bare_id none = refl
-bare_id (some x) = refl
+pub bare_id : (o : Option Ident) → id_of (option_map bare_ident o) ≡ id_of o
+bare_id None = refl
+bare_id (Some x) = refl
 
 -- for `simp`
 pub ruleset reads = (bare-row, bare-entry, bare-list-entry, bare_info, bare-newest, bare_id, bare-depth, bare-capture, bare_layers)

@@ -1,7 +1,6 @@
 -- The visits.
-use Rattle.std.specs.Prelude.{ℕ, List, Bool, cond, ◌≡◌, length}
+use Rattle.std.specs.Prelude.{ℕ, List, Bool, cond, ◌≡◌, length, Option, None, Some, option_map}
 use Rattle.std.proofs.Math.Bool.{true, false}
-use Rattle.std.proofs.Math.Option.{Option, none, some, map}
 use Rattle.std.proofs.Math.Path.{refl, ap}
 use Rattle.std.proofs.Common.{sym, ◌∙◌}
 use Rattle.std.proofs.Math.ListN.{length-map}
@@ -27,19 +26,19 @@ bare_flags f = record {
   escape = f.escape;
   height = f.height;
   counter = f.counter;
-  function = map bare_node f.function;
+  function = option_map bare_node f.function;
   direct = f.direct;
 }
 
 -- Call
 
-last_use : (s : State) (o : Option Ident) → last_use_of (bare_state s) (map bare_ident o) ≡ map bare_ident (last_use_of s o)
-last_use s none = refl
-last_use s (some b) = ap (λ (e : Entry). e.last_used) (bare-entry s b.at)
+last_use : (s : State) (o : Option Ident) → last_use_of (bare_state s) (option_map bare_ident o) ≡ option_map bare_ident (last_use_of s o)
+last_use s None = refl
+last_use s (Some b) = ap (λ (e : Entry). e.last_used) (bare-entry s b.at)
 
-same_ident_lem : (o : Option Ident) (x : Ident) → same_ident (map bare_ident o) (bare_ident x) ≡ same_ident o x
-same_ident_lem none x = refl
-same_ident_lem (some y) x = refl
+same_ident_lem : (o : Option Ident) (x : Ident) → same_ident (option_map bare_ident o) (bare_ident x) ≡ same_ident o x
+same_ident_lem None x = refl
+same_ident_lem (Some y) x = refl
 
 mark_argument_lem : (t : Tree) → mark_argument t ↝ mark_argument (bare t)
 unfolding bare

@@ -1,7 +1,6 @@
 -- The expansion of a tree uses the same names, holds the same lambdas and the same defines.
-use Rattle.std.specs.Prelude.{List, Bool, true, false, ◌||◌, ◌≡◌, refl}
+use Rattle.std.specs.Prelude.{List, Bool, true, false, ◌||◌, ◌≡◌, refl, Option, None, Some}
 use Rattle.std.proofs.Common.{append-nil, sym, ◌∙◌}
-use Rattle.std.proofs.Math.Option.{Option, none, some}
 use Rattle.tree.specs.Tree.{Ident, Node, Tree, Trees, ident, const, if, letin, define, lambda, sequence, call, set!, nil, cons, begins, ands, whens}
 use Rattle.tree.specs.Define.{defines, defines_in}
 use Rattle.tree.specs.Expand.{expand, expands, expand_and, expand_tested}
@@ -119,5 +118,5 @@ ends n xs b c e s p q = go _ _ _ _ (function_in (row_at s n.at))
   where
     go : (now arguments : List ListEntry) (m : ScopeMap Capture) (u : State) (o : Option FunctionInformation)
         → function_ends o n b e now arguments m u ≡ function_ends o n c e now arguments m u
-    go now arguments m u none = refl
-    go now arguments m u (some v) = rw (p, q)
+    go now arguments m u None = refl
+    go now arguments m u (Some v) = rw (p, q)

@@ -1,6 +1,5 @@
 -- The end of a call, the start of a set!, and what stands before and after a define's body.
-use Rattle.std.specs.Prelude.{ℕ, List, Bool, true, false, ◌&&◌}
-use Rattle.std.proofs.Math.Option.{some}
+use Rattle.std.specs.Prelude.{ℕ, List, Bool, true, false, ◌&&◌, Some}
 use Rattle.std.proofs.Math.Dec.{ltb}
 use Rattle.tree.specs.Tree.{Ident, Node, Tree, Trees, nil, cons}
 use Rattle.semantic.specs.Information.{NONE}
@@ -18,7 +17,7 @@ module _ {Q : Property} (lawful : Lawful Q) {F : ℕ → Type 0} (unused : F 0) 
   pub each_marks : (ts : Trees) {s : State} → Each Q F s → Each Q F (mark_arguments ts s)
   unfolding mark_arguments
   each_marks nil h = h
-  each_marks (cons t ts) h = each_marks ts (by_argument (λ s u. Each Q F s → Each Q F u) (λ s h. h) (λ x s h. each_last lawful unused (some x) h) t _ h)
+  each_marks (cons t ts) h = each_marks ts (by_argument (λ s u. Each Q F s → Each Q F u) (λ s h. h) (λ x s h. each_last lawful unused (Some x) h) t _ h)
 
   each_tail : (b : Bool) (ts : Trees) {s : State} → Each Q F s → Each Q F (mark_if_tail b ts s)
   each_tail true ts h = each_marks ts h

@@ -1,6 +1,5 @@
 -- `Counted` of what functions of the pass answer: a set! adds 1 to the bound on counts of uses, nothing else here adds to it.
-use Rattle.std.specs.Prelude.{ℕ, suc, ◌≤◌, List}
-use Rattle.std.proofs.Math.Option.{Option, none, some}
+use Rattle.std.specs.Prelude.{ℕ, suc, ◌≤◌, List, Option, None, Some}
 use Rattle.std.proofs.Common.{arith}
 use Rattle.tree.specs.Tree.{Ident, Node, Tree}
 use Rattle.tree.specs.Accepted.{All}
@@ -29,8 +28,8 @@ pub counted_grow : {k m : ℕ} {s : State} → k ≤ m → Counted k s → Count
 counted_grow {k} {m} e h = each_grow counting k m e h
 
 pub any_listed : (f : Option FunctionInformation) → Listed (λ r. Unit {0}) f
-any_listed none = tt
-any_listed (some v) = λ r a b. tt
+any_listed None = tt
+any_listed (Some v) = λ r a b. tt
 
 pub any-names : (xs : List Ident) → All (λ x. Unit {0}) xs
 any-names xs = all_of _ (λ x. tt) xs

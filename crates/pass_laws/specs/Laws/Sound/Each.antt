@@ -1,6 +1,5 @@
 -- The small changes of a state, each with what must hold of what it writes.
-use Rattle.std.specs.Prelude.{ℕ, Bool, true, false, cond, ◌≡◌, set}
-use Rattle.std.proofs.Math.Option.{Option, none, some}
+use Rattle.std.specs.Prelude.{ℕ, Bool, true, false, cond, ◌≡◌, set, Option, None, Some}
 use Rattle.std.proofs.Common.{sym, ◌∙◌}
 use Rattle.std.proofs.Math.Decide.{ℕ_discrete}
 use Rattle.std.proofs.Math.ListN.{get_or}
@@ -29,8 +28,8 @@ amended-uses F G f z p (CallSite v) q = z
 amended-uses F G f z p (Let v) q = z
 
 binder_held : (P : Ident → Type 0) (o : Option (Live Ident)) → Maybe (λ e. P e.value) o → Maybe P (binder_in o)
-binder_held P none p = tt
-binder_held P (some e) p = p
+binder_held P None p = tt
+binder_held P (Some e) p = p
 
 module _ {Q : Property} {F : ℕ → Type 0} where
   -- by a test
@@ -127,13 +126,13 @@ module _ {Q : Property} {F : ℕ → Type 0} where
   newest-held x {s} h = binder_held Q.ident (get s.scope.names x) (get_value Q.ident s.scope.names.live x h.binders)
 
   -- a binder's entry
-  pub each_put : (b : Ident) (e : Entry) {s : State} → Q.ident b → ((y : Ident) → e.last_used ≡ some y → Q.ident y) → F e.usage_count → Each Q F s
+  pub each_put : (b : Ident) (e : Entry) {s : State} → Q.ident b → ((y : Ident) → e.last_used ≡ Some y → Q.ident y) → F e.usage_count → Each Q F s
       → Each Q F (put_entry b.at e s)
   unfolding put_entry
   each_put b e {s} o p q h = record {
     named = h.named;
     binders = h.binders;
-    lasts = set_each (λ (d : Entry). (y : Ident) → d.last_used ≡ some y → Q.ident y) no_entry s.scope.entries b.at e p h.lasts;
+    lasts = set_each (λ (d : Entry). (y : Ident) → d.last_used ≡ Some y → Q.ident y) no_entry s.scope.entries b.at e p h.lasts;
     list_entries = h.list_entries;
     taken = h.taken;
     entry_uses = set_each (λ (d : Entry). F d.usage_count) no_entry s.scope.entries b.at e q h.entry_uses;

@@ -1,6 +1,5 @@
 -- `Sound` of what functions of the pass answer: identifiers held are of P, and rows lie inside the table.
-use Rattle.std.specs.Prelude.{ℕ, ◌+◌, ◌≤◌, ◌<◌, List, ◌≡◌, refl}
-use Rattle.std.proofs.Math.Option.{Option, none, some}
+use Rattle.std.specs.Prelude.{ℕ, ◌+◌, ◌≤◌, ◌<◌, List, ◌≡◌, refl, Option, None, Some}
 use Rattle.std.proofs.Common.{◌∙◌, arith}
 use Rattle.tree.specs.Tree.{Ident, Node, Tree}
 use Rattle.tree.specs.Accepted.{All}
@@ -27,8 +26,8 @@ pub covered : (e : ListAt) → e.first + e.length ≤ captured_most → OverRows
 covered e h r a b = omega arith
 
 pub inside_listed : (f : Option FunctionInformation) → Inside f → Listed (λ r. r < captured_most) f
-inside_listed none h = tt
-inside_listed (some v) h = covered v.captured_vars h
+inside_listed None h = tt
+inside_listed (Some v) h = covered v.captured_vars h
 
 -- no count is asked for
 pub uncounted : Counting (λ k n. Unit {0})
@@ -45,10 +44,10 @@ module _ {P : Ident → Type 0} (small : (x : Ident) → P x → x.at < rows_mos
 
   -- What is found
 
-  pub sound_newest : (x : ℕ) (b : Ident) {s : State} → Sound P s → newest s x ≡ some b → P b
+  pub sound_newest : (x : ℕ) (b : Ident) {s : State} → Sound P s → newest s x ≡ Some b → P b
   sound_newest x b h e = maybe_some P (newest-held x h) e
 
-  pub sound_capture : (x : ℕ) (c : Live Capture) {s : State} → Sound P s → get s.captures x ≡ some c
+  pub sound_capture : (x : ℕ) (c : Live Capture) {s : State} → Sound P s → get s.captures x ≡ Some c
       → (c.value.row < captured_most) × (c.value.binder.at < rows_most)
   sound_capture x c {s} h e =
       maybe_some (λ (e : Live Capture). (e.value.row < captured_most) × (e.value.binder.at < rows_most))

@@ -1,8 +1,7 @@
 -- What holds of every entry of a list holds of the list sorted, kept in part, or amended.
-use Rattle.std.specs.Prelude.{ℕ, Bool, cond, ◌&&◌, ◌≡◌, refl, get_or, drop, ltb}
+use Rattle.std.specs.Prelude.{ℕ, Bool, cond, ◌&&◌, ◌≡◌, refl, get_or, drop, ltb, Option, None, Some}
 use mathlib.Core.List.{List, [], ◌∷◌}
 use Rattle.std.proofs.Math.Bool.{true, false, not}
-use Rattle.std.proofs.Math.Option.{Option, none, some}
 use Rattle.tree.specs.Tree.{Ident}
 use Rattle.tree.specs.Check.{member}
 use Rattle.tree.specs.Accepted.{All}
@@ -36,8 +35,8 @@ module _ (P : ListEntry → Type 0) where
       (on : (x : ListEntry) (v : ScopeInfo) → v.id ≡ x.info.id → v.usage_count ≡ x.info.usage_count → P x → P (record { binder = x.binder; info = v }))
     where
       kept_list-entry : (now : List ListEntry) (m : ScopeMap Capture) (o : Option ListEntry) (i : ListEntry) → P i → P (kept_list_entry now m o i)
-      kept_list-entry now m none i p = p
-      kept_list-entry now m (some v) i p = on i _ refl refl p
+      kept_list-entry now m None i p = p
+      kept_list-entry now m (Some v) i p = on i _ refl refl p
 
       pub amended-list_entries : (now : List ListEntry) (m : ScopeMap Capture) (seen : List ℕ) (l : List ListEntry) → All P l → All P (amend_list now m seen l)
       unfolding amend_list
@@ -54,8 +53,8 @@ module _ {Q : Property} (lawful : Lawful Q) {F : ℕ → Type 0} where
   added-list_entries : (b : Bool) {s : State} → Each Q F s → (o : Option Ident) (l : List ListEntry) → Maybe Q.ident o → All (Fine Q F) l
       → All (Fine Q F) (add_captured b s o l)
   added-list_entries false h o l p q = q
-  added-list_entries true h none l p q = q
-  added-list_entries true {s} h (some b) l p q =
+  added-list_entries true h None l p q = q
+  added-list_entries true {s} h (Some b) l p q =
       let e = entry_at s b.at in
       all_either (Fine Q F) e.captured (list_entry_of b e ∷ l) l ((lawful.made b e p, h.entry_uses b.at), q) q
 

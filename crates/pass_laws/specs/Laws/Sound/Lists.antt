@@ -1,7 +1,6 @@
 -- What holds of every element of a table or of a list of live names holds after it is changed, if it holds of what is written.
-use Rattle.std.specs.Prelude.{ℕ, zero, suc, ◌-◌, Bool, true, false, cond, ◌≡◌, get_or, take, drop, set, replicate, eqb, ltb}
+use Rattle.std.specs.Prelude.{ℕ, zero, suc, ◌-◌, Bool, true, false, cond, ◌≡◌, get_or, take, drop, set, replicate, eqb, ltb, Option, None, Some}
 use mathlib.Core.List.{List, [], ◌∷◌}
-use Rattle.std.proofs.Math.Option.{Option, none, some}
 use Rattle.std.proofs.lemmas.List.Edits.{sets}
 use Rattle.tree.specs.Accepted.{All}
 use Rattle.scope_map.specs.ScopeMap.{ScopeMap, Live, is_at, replace_in, remove_in, below_layer, get_in, has_at_top, define, remove, pop_layer}
@@ -52,10 +51,10 @@ module _ {A : Type 0} (P : A → Type 0) where
 
 -- what an option holds
 abbrev pub Maybe : {A : Type 0} → (A → Type 0) → Option A → Type 0
-Maybe P none = Unit {0}
-Maybe P (some a) = P a
+Maybe P None = Unit {0}
+Maybe P (Some a) = P a
 
-pub maybe_some : {A : Type 0} (P : A → Type 0) {o : Option A} {a : A} → Maybe P o → o ≡ some a → P a
+pub maybe_some : {A : Type 0} (P : A → Type 0) {o : Option A} {a : A} → Maybe P o → o ≡ Some a → P a
 maybe_some P p e = rw e at p
 
 pub maybe_either : {A : Type 0} (P : A → Type 0) (b : Bool) (o q : Option A) → Maybe P o → Maybe P q → Maybe P (cond b o q)
@@ -102,7 +101,7 @@ module _ {A : Type 0} (P : A → Type 0) where
   pub get_value : (l : List (Live A)) (x : ℕ) → Values l → Maybe (λ e. P e.value) (get_in l x)
   unfolding get_in
   get_value [] x p = tt
-  get_value (e ∷ l) x p = maybe_either (λ e. P e.value) (eqb e.name x) (some e) (get_in l x) p.0 (get_value l x p.1)
+  get_value (e ∷ l) x p = maybe_either (λ e. P e.value) (eqb e.name x) (Some e) (get_in l x) p.0 (get_value l x p.1)
 
   pub defined_values : (x : ℕ) (v : A) (m : ScopeMap A) → P v → Values m.live → Values (define x v m).live
   defined_values x v m q p = defined_live (λ e. P e.value) x v m q p

@@ -1,7 +1,7 @@
 -- A name is read, set, or enters.
-use Rattle.std.specs.Prelude.{ℕ, suc, ◌≤◌, Bool, true, false, cond, ◌&&◌, ◌≡◌, ltb}
+use Rattle.std.specs.Prelude.{ℕ, suc, ◌≤◌, Bool, true, false, cond, ◌&&◌, ◌≡◌, ltb, Option, None, Some}
+use Rattle.std.proofs.lemmas.Option.{none-some, same_Some}
 use mathlib.Core.List.{List, [], ◌∷◌}
-use Rattle.std.proofs.Math.Option.{Option, none, some, none-ne-some, some-injective}
 use Rattle.std.proofs.Math.Path.{refl}
 use Rattle.std.proofs.Common.{sym, subst, ◌∙◌, arith}
 use Rattle.std.proofs.Math.Dec.{eqb}
@@ -27,11 +27,11 @@ marked_uses true f v e = e
 marked_uses false f v e = refl
 
 -- a last use
-pub last_none : (P : Ident → Type 0) {o : Option Ident} → o ≡ none → (y : Ident) → o ≡ some y → P y
-last_none P e y q = absurd (none-ne-some y (sym e ∙ q))
+pub last_none : (P : Ident → Type 0) {o : Option Ident} → o ≡ None → (y : Ident) → o ≡ Some y → P y
+last_none P e y q = absurd (none-some y (sym e ∙ q))
 
-pub last_some : (P : Ident → Type 0) (x : Ident) → P x → (y : Ident) → some x ≡ some y → P y
-last_some P x p y q = subst P (some-injective x y q) p
+pub last_some : (P : Ident → Type 0) (x : Ident) → P x → (y : Ident) → Some x ≡ Some y → P y
+last_some P x p y q = subst P (same_Some x y q) p
 
 -- A name enters
 
@@ -44,7 +44,7 @@ module _ {Q : Property} {F : ℕ → Type 0} (unused : F 0) where
   live_noted true i h = each_noted _ h
   live_noted false i h = h
 
-  pub each_enter : (x : Ident) (e : Entry) {s : State} → Q.ident x → e.last_used ≡ none → F e.usage_count → Each Q F s → Each Q F (enter x e s)
+  pub each_enter : (x : Ident) (e : Entry) {s : State} → Q.ident x → e.last_used ≡ None → F e.usage_count → Each Q F s → Each Q F (enter x e s)
   unfolding enter
   each_enter x e {s} p n u h =
       each_put x e p (last_none Q.ident n) u
@@ -57,8 +57,8 @@ module _ {Q : Property} {F : ℕ → Type 0} (unused : F 0) where
     each_define k a x b {s} p h = each_insert x.at _ (rw (define-uses classes k a x b s) unused) (each_enter x top_level_entry p refl unused h)
 
     each_shadow : (o : Option Ident) {s : State} → Each Q F s → Each Q F (shadow classes o s)
-    each_shadow none h = h
-    each_shadow (some b) h = each_mark (shadow_if_builtin classes) b.at unused (λ v q. subst F (sym (marked_uses v.builtin mark_shadowed v refl)) q) h
+    each_shadow None h = h
+    each_shadow (Some b) h = each_mark (shadow_if_builtin classes) b.at unused (λ v q. subst F (sym (marked_uses v.builtin mark_shadowed v refl)) q) h
 
     pub each_value : (x : Ident) (b : Tree) {s : State} → Q.ident x → Each Q F s → Each Q F (enter_top_level_value classes x b s)
     unfolding enter_top_level_value
@@ -116,12 +116,12 @@ module _ (R : Ident → Type 0) (P : Capture → Type 0) where
   found_either false q r f g = g
 
   found_capture : (b : Ident) (o : Option (Live Capture)) → R b → Maybe (λ e. P e.value) o → Found R P (capture_rule b o)
-  found_capture b none r p = r
-  found_capture b (some c) r p = (r, p)
+  found_capture b None r p = r
+  found_capture b (Some c) r p = (r, p)
 
   found_entry : (s : State) (x : ℕ) (o : Option Ident) → Maybe R o → Values P s.captures.live → Found R P (entry_rule s x o)
-  found_entry s x none r p = tt
-  found_entry s x (some b) r p =
+  found_entry s x None r p = tt
+  found_entry s x (Some b) r p =
       found_either (eqb (entry_at s b.at).depth 1) _ _ r
       (found_either (eqb (entry_at s b.at).depth (depth s)) _ _ r (found_capture b (get s.captures x) r (get_value P s.captures.live x p)))
 
@@ -169,8 +169,8 @@ module _ {Q : Property} {F : ℕ → ℕ → Type 0} (counting : Counting F) (k 
     each_read x {s} p h = each_by (rule_of s x.name) x s p (found Q.ident (λ c. F k c.usage_count) s x.name (newest-held x.name h) h.capture_uses) h
 
   each_set : (o : Option Ident) {s : State} → Maybe Q.ident o → Each Q (F k) s → Each Q (F (suc k)) (mutate_at o s)
-  each_set none o h = up counting k h
-  each_set (some b) o h =
+  each_set None o h = up counting k h
+  each_set (Some b) o h =
       each_mark mark_set b.at (counting.none (suc k)) (λ v q. q)
       (each_put b _ o (h.lasts b.at) (counting.more k _ (h.entry_uses b.at)) (up counting k h))
 

@@ -1,9 +1,8 @@
 -- How many names and layers there are after each function of the pass.
 use Prim.Native.Nat.{ℕ, zero, suc, ◌+◌, ◌≤◌}
 use mathlib.Core.List.{List, [], ◌∷◌}
-use Rattle.std.specs.Prelude.{Bool, cond, ◌&&◌, ◌≡◌, length, eqb, ltb}
+use Rattle.std.specs.Prelude.{Bool, cond, ◌&&◌, ◌≡◌, length, eqb, ltb, Option, None, Some}
 use Rattle.std.proofs.Math.Bool.{true, false}
-use Rattle.std.proofs.Math.Option.{Option, none, some}
 use Rattle.std.proofs.Math.Path.{refl}
 use Rattle.std.proofs.Common.{ap, ◌∙◌, arith, lt-ltb}
 use Rattle.tree.specs.Tree.{Ident, Node, Tree}
@@ -78,8 +77,8 @@ grows_read classes x s = by_grows classes (rule_of s x.name) x s
 
 set_grows : (o : Option Ident) (s : State) → Grows 0 0 s (mutate_at o s)
 unfolding insert amend put_entry
-set_grows none s = grows_none
-set_grows (some b) s = grows_by (omega arith) refl refl
+set_grows None s = grows_none
+set_grows (Some b) s = grows_by (omega arith) refl refl
 
 pub grows_mutate : (x : ℕ) (s : State) → Grows 0 0 s (mutate x s)
 unfolding mutate
@@ -113,8 +112,8 @@ module _ (kind : IdentifierStatus) (base : ℕ) (heaps : Option ℕ) (before : L
   grows_name true x j n s = grows_row x.at _ (grows_then (heap_grows heaps) (grows_enter x _ _))
     where
       heap_grows : (o : Option ℕ) → Grows 0 0 s (note_heap o x s)
-      heap_grows none = grows_by (omega arith) refl refl
-      heap_grows (some h) = grows_none
+      heap_grows None = grows_by (omega arith) refl refl
+      heap_grows (Some h) = grows_none
   grows_name false x j n s = grows_row x.at _ (grows_enter x _ s)
 
   pub grows_names : (xs : List Ident) (j n : ℕ) (s : State) → Grows 0 (length xs) s (enter_names kind base heaps before xs j n s)
@@ -168,15 +167,15 @@ grows_close_captures {s = s} {t} p = record {
 
 pub grows_open : (f : Option FunctionInformation) (s : State) → Grows 0 0 (with_captures (push_layer s.captures) s) (open_captures f s)
 unfolding open_captures
-grows_open none s = grows_none
-grows_open (some v) s =
+grows_open None s = grows_none
+grows_open (Some v) s =
     let p = grows_number v.captured_vars (with_captures (push_layer s.captures) s) in
     record { live = p.live; layers = p.layers; capture_layers = p.capture_layers }
 
 pub grows_parameters : (f : Option FunctionInformation) (xs : List Ident) (s : State) → Grows 0 (length xs) s (enter_parameters f xs s)
 unfolding enter_parameters
-grows_parameters none xs s = grows_names _ _ _ _ xs 0 0 s
-grows_parameters (some v) xs s = grows_names _ _ _ _ xs 0 0 s
+grows_parameters None xs s = grows_names _ _ _ _ xs 0 0 s
+grows_parameters (Some v) xs s = grows_names _ _ _ _ xs 0 0 s
 
 -- the whole of a lambda
 pub grows_lambda : {a c : ℕ} (n : Node) (xs : List Ident) (b : Tree) (escapes : Bool) (s : State) {t : State} → Grows a c (open_lambda n xs s) t

@@ -1,6 +1,5 @@
 -- `Sound` and `Counted` from the start of a run to its end, and which entries a run makes.
-use Rattle.std.specs.Prelude.{ℕ, ◌+◌, ◌≤◌, ◌<◌, List, Bool, true, false, ◌≡◌, get_or}
-use Rattle.std.proofs.Math.Option.{Option, some}
+use Rattle.std.specs.Prelude.{ℕ, ◌+◌, ◌≤◌, ◌<◌, List, Bool, true, false, ◌≡◌, get_or, Option, Some}
 use Rattle.std.proofs.Math.Path.{refl}
 use Rattle.std.proofs.Common.{arith}
 use Rattle.tree.specs.Tree.{Ident, Tree, Trees, ident, const, if, letin, define, lambda, sequence, call, set!, nil, cons, flats, size, sizes, begins, ands, whens}
@@ -32,7 +31,7 @@ module _ {Q : Property} {F : ℕ → Type 0} (unused : F 0) where
   each_start f p q = record {
     named = tt;
     binders = tt;
-    lasts = same_each (λ (e : Entry). (y : Ident) → e.last_used ≡ some y → Q.ident y) no_entry rows_most (last_none Q.ident refl);
+    lasts = same_each (λ (e : Entry). (y : Ident) → e.last_used ≡ Some y → Q.ident y) no_entry rows_most (last_none Q.ident refl);
     list_entries = λ i. (p i).0;
     taken = tt;
     entry_uses = same_each (λ (e : Entry). F e.usage_count) no_entry rows_most unused;

@@ -1,9 +1,8 @@
 -- Lists are stored and numbered, names enter and leave, lambdas and lets begin and end.
 use Prim.Native.Nat.{ℕ, zero, suc, ◌+◌, ◌-◌, ◌≤◌, ◌<◌}
 use mathlib.Core.List.{List, [], ◌∷◌, ◌++◌, map}
-use Rattle.std.specs.Prelude.{Bool, cond, ◌≡◌, get_or}
+use Rattle.std.specs.Prelude.{Bool, cond, ◌≡◌, get_or, Option, None, Some}
 use Rattle.std.proofs.Math.Bool.{true, false}
-use Rattle.std.proofs.Math.Option.{Option, none, some}
 use Rattle.std.proofs.Math.Path.{refl}
 use Rattle.std.proofs.Common.{sym, subst, arith}
 use Rattle.std.proofs.Math.ListN.{length, replicate}
@@ -98,8 +97,8 @@ module _ {Q : Property} (lawful : Lawful Q) {F : ℕ → Type 0} (unused : F 0) 
   -- Names enter
 
   heap_noted : (o : Option ℕ) (x : Ident) {s : State} → Each Q F s → Each Q F (note_heap o x s)
-  heap_noted none x h = each_noted _ h
-  heap_noted (some n) x h = h
+  heap_noted None x h = each_noted _ h
+  heap_noted (Some n) x h = h
 
   module _ (kind : IdentifierStatus) (base : ℕ) (heaps : Option ℕ) (before : List ListEntry) where
     pub each_name : (b : Bool) (x : Ident) (j n : ℕ) {s : State} → Q.ident x → Each Q F s → Each Q F (enter_name kind base heaps before b x j n s)
@@ -135,13 +134,13 @@ module _ {Q : Property} (lawful : Lawful Q) {F : ℕ → Type 0} (unused : F 0) 
 
   pub each_open : (f : Option FunctionInformation) {s : State} → Listed Q.row f → Each Q F s → Each Q F (open_captures f s)
   unfolding open_captures
-  each_open none q h = each_push_captures h
-  each_open (some v) q h = each_context _ (each_number v.captured_vars q (each_push_captures h))
+  each_open None q h = each_push_captures h
+  each_open (Some v) q h = each_context _ (each_number v.captured_vars q (each_push_captures h))
 
   pub each_parameters : (f : Option FunctionInformation) (xs : List Ident) {s : State} → All Q.ident xs → Each Q F s → Each Q F (enter_parameters f xs s)
   unfolding enter_parameters
-  each_parameters none xs p h = each_names _ _ _ _ xs 0 0 p h
-  each_parameters (some v) xs p h = each_names _ _ _ _ xs 0 0 p h
+  each_parameters None xs p h = each_names _ _ _ _ xs 0 0 p h
+  each_parameters (Some v) xs p h = each_names _ _ _ _ xs 0 0 p h
 
   pub each_open_lambda : (n : Node) (xs : List Ident) {s : State} → Listed Q.row (function_in (row_at s n.at)) → All Q.ident xs → Each Q F s
       → Each Q F (open_lambda n xs s)
@@ -149,8 +148,8 @@ module _ {Q : Property} (lawful : Lawful Q) {F : ℕ → Type 0} (unused : F 0) 
   each_open_lambda n xs {s} q p h = let f = function_in (row_at s n.at) in each_parameters f xs p (each_push (each_open f q h))
 
   pub each_last : (o : Option Ident) {s : State} → Each Q F s → Each Q F (mark_last o s)
-  each_last none h = h
-  each_last (some x) h = each_mark mark_last_usage x.at unused (λ v q. q) h
+  each_last None h = h
+  each_last (Some x) h = each_mark mark_last_usage x.at unused (λ v q. q) h
 
   pub each_lasts : (l : List (Live Ident)) {s : State} → Each Q F s → Each Q F (mark_lasts l s)
   unfolding mark_lasts
@@ -176,8 +175,8 @@ module _ {Q : Property} (lawful : Lawful Q) {F : ℕ → Type 0} (unused : F 0) 
 
   each_function : (f : Option FunctionInformation) (n : Node) (b : Tree) (escapes : Bool) (now arguments : List ListEntry) (m : ScopeMap Capture) {s : State}
       → All (Fine Q F) now → Each Q F s → Each Q F (function_ends f n b escapes now arguments m s)
-  each_function none n b escapes now arguments m p h = each_make n escapes (sort_by_id now) arguments (sorted_list_entries (Fine Q F) now p) h
-  each_function (some v) n b escapes now arguments m p h = each_amended n b now m v h
+  each_function None n b escapes now arguments m p h = each_make n escapes (sort_by_id now) arguments (sorted_list_entries (Fine Q F) now p) h
+  each_function (Some v) n b escapes now arguments m p h = each_amended n b now m v h
 
   pub each_close_lambda : (n : Node) (xs : List Ident) (b : Tree) (escapes : Bool) {s : State} → Each Q F s → Each Q F (close_lambda n xs b escapes s)
   unfolding close_lambda

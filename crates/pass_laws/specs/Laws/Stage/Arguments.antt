@@ -1,8 +1,7 @@
 -- Every tree leaves one of its records unused: the argument entries stored and the names live grow by less than its size.
-use Rattle.std.specs.Prelude.{ℕ, suc, ◌+◌, ◌-◌, ◌≤◌, Bool, cond, ◌≡◌, refl, length, eqb, ltb}
+use Rattle.std.specs.Prelude.{ℕ, suc, ◌+◌, ◌-◌, ◌≤◌, Bool, cond, ◌≡◌, refl, length, eqb, ltb, Option, None, Some}
 use mathlib.Core.List.{List, [], ◌∷◌, ◌++◌}
 use Rattle.std.proofs.Math.Bool.{true, false}
-use Rattle.std.proofs.Math.Option.{Option, none, some}
 use Rattle.std.proofs.Common.{ap, arith, lt-ltb, length-append}
 use Rattle.tree.specs.Tree.{Ident, Node, Tree, Trees, ident, const, if, letin, define, lambda, sequence, call, set!, nil, cons, many, bit, size, sizes, Num, Nums, begins, ands, whens}
 use Rattle.tree.proofs.Laws.Tree.{size_pos}
@@ -77,8 +76,8 @@ module _ (classes : List ℕ) where
   value_due x b s = still_due (shadow_preserves still_steps classes (newest s x.name) s) ⟫ define-due Global _ x b _
 
 heap_due : (o : Option ℕ) (x : Ident) (s : State) → Grown 0 s (note_heap o x s)
-heap_due none x s = same_due refl refl
-heap_due (some n) x s = same_due refl refl
+heap_due None x s = same_due refl refl
+heap_due (Some n) x s = same_due refl refl
 
 module _ (kind : IdentifierStatus) (base : ℕ) (heaps : Option ℕ) (before : List ListEntry) where
   name_due : (b : Bool) (x : Ident) (j h : ℕ) (s : State) → Grown 1 s (enter_name kind base heaps before b x j h s)
@@ -95,8 +94,8 @@ module _ (kind : IdentifierStatus) (base : ℕ) (heaps : Option ℕ) (before : L
 
 parameters-due : (f : Option FunctionInformation) (xs : List Ident) (s : State) → Grown (length xs) s (enter_parameters f xs s)
 unfolding enter_parameters
-parameters-due none xs s = names-due _ _ _ _ xs 0 0 s
-parameters-due (some v) xs s = names-due _ _ _ _ xs 0 0 s
+parameters-due None xs s = names-due _ _ _ _ xs 0 0 s
+parameters-due (Some v) xs s = names-due _ _ _ _ xs 0 0 s
 
 pub open_lambda_due : (n : Node) (xs : List Ident) (s : State) → Grown (length xs) s (open_lambda n xs s)
 unfolding open_lambda open_scope
@@ -136,9 +135,9 @@ popped_live m h = rw (lt-ltb 1 m.depth h)
 function_due : (f : Option FunctionInformation) (n : Node) (b : Tree) (escapes : Bool) (now arguments : List ListEntry) (m : ScopeMap Capture) (s : State)
     → Grown (length arguments) s (function_ends f n b escapes now arguments m s)
 unfolding make_function amend_function rewrite_captured
-function_due none n b escapes now arguments m s =
+function_due None n b escapes now arguments m s =
     at_most (omega arith) (store_captured_lem n.at _ s ⟫ store_arguments_lem arguments _ ⟫ row-due n.at _ _)
-function_due (some v) n b escapes now arguments m s = at_most (omega arith) (same_due refl refl ⟫ row-due n.at _ _)
+function_due (Some v) n b escapes now arguments m s = at_most (omega arith) (same_due refl refl ⟫ row-due n.at _ _)
 
 pub close_lambda_due : (n : Node) (xs : List Ident) (b : Tree) (escapes : Bool) (s : State) → 2 ≤ depth s → Grown 0 s (close_lambda n xs b escapes s)
 unfolding close_lambda close_scope close_captures

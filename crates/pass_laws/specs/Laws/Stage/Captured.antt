@@ -1,6 +1,5 @@
 -- How far the captured entries may be counted: each lambda adds at most as many as there are names live.
-use Rattle.std.specs.Prelude.{ℕ, suc, ◌+◌, ◌*◌, ◌≤◌, List, [], ◌∷◌, map, Bool, true, false, cond, not, ◌&&◌, ◌≡◌, refl, length, ltb}
-use Rattle.std.proofs.Math.Option.{Option, none, some}
+use Rattle.std.specs.Prelude.{ℕ, suc, ◌+◌, ◌*◌, ◌≤◌, List, [], ◌∷◌, map, Bool, true, false, cond, not, ◌&&◌, ◌≡◌, refl, length, ltb, Option, None, Some}
 use Rattle.std.proofs.Common.{◌∙◌, arith}
 use Rattle.tree.specs.Check.{member}
 use Rattle.tree.specs.Tree.{Ident, Node, Tree, Trees, ident, const, if, letin, define, lambda, sequence, call, set!, nil, cons, many, size, sizes, Num, Nums, begins, ands, whens}
@@ -33,8 +32,8 @@ use Rattle.pass_laws.specs.Laws.Preserved.{close_layer_preserves, leaving_preser
 
 add_long : (b : Bool) (s : State) (o : Option Ident) (l : List ListEntry) → length (add_captured b s o l) ≤ suc (length l)
 add_long false s o l = omega arith
-add_long true s none l = omega arith
-add_long true s (some x) l = pick (entry_at s x.at).captured
+add_long true s None l = omega arith
+add_long true s (Some x) l = pick (entry_at s x.at).captured
   where
     pick : (c : Bool) → length (cond c (list_entry_of x (entry_at s x.at) ∷ l) l) ≤ suc (length l)
     pick true = omega arith
@@ -55,8 +54,8 @@ vars_long ps s = vars_in_long ps s s.scope.names.live
 function_top : (f : Option FunctionInformation) (n : Node) (b : Tree) (escapes : Bool) (now arguments : List ListEntry) (m : ScopeMap Capture) (s : State)
     → (function_ends f n b escapes now arguments m s).facts.captured_top ≤ s.facts.captured_top + length now
 unfolding make_function amend_function rewrite_captured store_arguments insert
-function_top none n b escapes now arguments m s = omega (arith, (put n.at (sort_by_id now) s).captured, sorted_length now)
-function_top (some v) n b escapes now arguments m s = omega arith
+function_top None n b escapes now arguments m s = omega (arith, (put n.at (sort_by_id now) s).captured, sorted_length now)
+function_top (Some v) n b escapes now arguments m s = omega arith
 
 close_lambda_top : (n : Node) (xs : List Ident) (b : Tree) (escapes : Bool) (s : State)
     → (close_lambda n xs b escapes s).facts.captured_top ≤ s.facts.captured_top + length s.scope.names.live

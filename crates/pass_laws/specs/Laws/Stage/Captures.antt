@@ -1,6 +1,5 @@
 -- A visit leaves the layers of the captures as they were: a lambda opens one and closes it.
-use Rattle.std.specs.Prelude.{ℕ, zero, suc, ◌+◌, ◌-◌, ◌≤◌, List, [], ◌∷◌, ◌++◌, Bool, true, false, cond, ◌≡◌, refl, length, replicate, eqb, ltb}
-use Rattle.std.proofs.Math.Option.{Option, none, some}
+use Rattle.std.specs.Prelude.{ℕ, zero, suc, ◌+◌, ◌-◌, ◌≤◌, List, [], ◌∷◌, ◌++◌, Bool, true, false, cond, ◌≡◌, refl, length, replicate, eqb, ltb, Option, None, Some}
 use Rattle.std.proofs.Common.{ap, sym, subst, ◌∙◌, arith, lt-ltb, eq-eqb, ne_eqb}
 use Rattle.tree.specs.Tree.{Ident, Node, Tree, Trees, ident, const, if, letin, define, lambda, sequence, call, set!, nil, cons, many, begins, ands, whens}
 use Rattle.tree.specs.Accepted.{All}
@@ -98,8 +97,8 @@ arguments_stacked l s = as_stacked refl
 function_stacked : (f : Option FunctionInformation) (n : Node) (b : Tree) (escapes : Bool) (now arguments : List ListEntry) (m : ScopeMap Capture) (s : State)
     → Stacked s (function_ends f n b escapes now arguments m s)
 unfolding make_function amend_function rewrite_captured
-function_stacked none n b escapes now arguments m s = captured_stacked n.at _ s ⟫ arguments_stacked arguments _ ⟫ row_stacked n.at _ _
-function_stacked (some v) n b escapes now arguments m s = as_stacked refl ⟫ row_stacked n.at _ _
+function_stacked None n b escapes now arguments m s = captured_stacked n.at _ s ⟫ arguments_stacked arguments _ ⟫ row_stacked n.at _ _
+function_stacked (Some v) n b escapes now arguments m s = as_stacked refl ⟫ row_stacked n.at _ _
 
 make_let_stacked : (r : Row) (n : Node) (l : List ListEntry) (height : ℕ) (function : Option Node) (s : State) → Stacked s (make_let r n l height function s)
 make_let_stacked r n l height function s =

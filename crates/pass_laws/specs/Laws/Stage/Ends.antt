@@ -1,7 +1,7 @@
 -- The ends of lambdas and lets: on a first run they make a fact whose lists end where the tables are then filled, on a second no list ends later.
-use Rattle.std.specs.Prelude.{ℕ, ◌+◌, ◌≤◌, ◌<◌, Bool, true, false, ◌≡◌, refl}
+use Rattle.std.specs.Prelude.{ℕ, ◌+◌, ◌≤◌, ◌<◌, Bool, true, false, ◌≡◌, refl, Option, None, Some}
+use Rattle.std.proofs.lemmas.Option.{none-some}
 use mathlib.Core.List.{List, []}
-use Rattle.std.proofs.Math.Option.{Option, none, some, none-ne-some}
 use Rattle.std.proofs.Math.Path.{ap}
 use Rattle.std.proofs.Common.{sym, subst, ◌∙◌, arith}
 use Rattle.std.proofs.Math.ListN.{length}
@@ -26,12 +26,12 @@ use Rattle.pass_laws.specs.Laws.Stage.Blocks.{Kind, within, blank}
 
 -- larger bounds
 lists_wider : (c a d b : ℕ) (f : Option FunctionInformation) → c ≤ d → a ≤ b → ListsWithin c a f → ListsWithin d b f
-lists_wider c a d b none h g f = f
-lists_wider c a d b (some v) h g f = (omega (arith, f.0), omega (arith, f.1))
+lists_wider c a d b None h g f = f
+lists_wider c a d b (Some v) h g f = (omega (arith, f.0), omega (arith, f.1))
 
 names_wider : (a b : ℕ) (f : Option LetInformation) → a ≤ b → NamesWithin a f → NamesWithin b f
-names_wider a b none h f = f
-names_wider a b (some v) h f = omega arith
+names_wider a b None h f = f
+names_wider a b (Some v) h f = omega arith
 
 -- a row is written
 written : (P : Row → Type 0) (i : ℕ) (r : Row) (s : State) → i < length s.facts.rows → P r → P (row_at (insert i r s) i)
@@ -56,11 +56,11 @@ make_makes n escapes captured arguments s h =
     (omega (arith, p.captured), omega (arith, p.arguments))
 
 function_makes : (f : Option FunctionInformation) (n : Node) (b : Tree) (escapes : Bool) (now arguments : List ListEntry) (m : ScopeMap Capture) (s : State)
-    → f ≡ none → n.at < length s.facts.rows
+    → f ≡ None → n.at < length s.facts.rows
     → let u = function_ends f n b escapes now arguments m s in
     FunctionWithin u.facts.captured_top u.facts.arguments_top (row_at u n.at)
-function_makes none n b escapes now arguments m s e h = make_makes n escapes (sort_by_id now) arguments s h
-function_makes (some v) n b escapes now arguments m s e h = absurd (none-ne-some v (sym e))
+function_makes None n b escapes now arguments m s e h = make_makes n escapes (sort_by_id now) arguments s h
+function_makes (Some v) n b escapes now arguments m s e h = absurd (none-some v (sym e))
 
 -- the names gone, there are as many rows
 ended-rows : (n : Node) (xs : List Ident) (s : State) → n.at < length s.facts.rows
@@ -138,7 +138,7 @@ making c a =
 
 -- on a second they leave them within the same bounds
 module _ (c a : ℕ) where
-  amend_keeps : (n : Node) (b : Tree) (now : List ListEntry) (m : ScopeMap Capture) (v : FunctionInformation) (s : State) → ListsWithin c a (some v)
+  amend_keeps : (n : Node) (b : Tree) (now : List ListEntry) (m : ScopeMap Capture) (v : FunctionInformation) (s : State) → ListsWithin c a (Some v)
       → n.at < length s.facts.rows → FunctionWithin c a (row_at (amend_function n b now m v s) n.at)
   unfolding amend_function rewrite_captured
   amend_keeps n b now m v s h l =
@@ -154,8 +154,8 @@ module _ (c a : ℕ) where
 
   function_keeps : (f : Option FunctionInformation) (n : Node) (b : Tree) (escapes : Bool) (now arguments : List ListEntry) (m : ScopeMap Capture) (s : State)
       → ListsWithin c a f → n.at < length s.facts.rows → FunctionWithin c a (row_at (function_ends f n b escapes now arguments m s) n.at)
-  function_keeps none n b escapes now arguments m s h l = absurd h
-  function_keeps (some v) n b escapes now arguments m s h l = amend_keeps n b now m v s h l
+  function_keeps None n b escapes now arguments m s h l = absurd h
+  function_keeps (Some v) n b escapes now arguments m s h l = amend_keeps n b now m v s h l
 
   close_lambda_keeps : (n : Node) (xs : List Ident) (b : Tree) (escapes : Bool) (s : State) → FunctionWithin c a (row_at s n.at)
       → n.at < length s.facts.rows

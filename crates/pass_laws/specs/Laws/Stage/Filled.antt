@@ -1,6 +1,6 @@
 -- The tables of lists only fill: lists grow together by no more than the captured table, and without refusal 10 that stays within its limit.
-use Rattle.std.specs.Prelude.{ℕ, ◌+◌, ◌≤◌, List, [], Bool, true, false, cond, ◌≡◌, refl, length, ltb}
-use Rattle.std.proofs.Math.Option.{Option, none, some, none-ne-some}
+use Rattle.std.specs.Prelude.{ℕ, ◌+◌, ◌≤◌, List, [], Bool, true, false, cond, ◌≡◌, refl, length, ltb, Option, None, Some}
+use Rattle.std.proofs.lemmas.Option.{none-some}
 use Rattle.std.proofs.Common.{ap, sym, ◌∙◌, arith, ltb-false}
 use Rattle.tree.specs.Tree.{Ident, Node, Tree, Trees, ident, const, if, letin, define, lambda, sequence, call, set!, nil, cons, many, begins, ands, whens}
 use Rattle.tree.specs.Core.{cores}
@@ -21,7 +21,7 @@ use Rattle.pass_laws.specs.Laws.Preserved.{lasts_preserves, ended_preserves, par
 
 -- while 10 is not noted
 abbrev pub Fits : State → Type 0
-Fits s = s.noted.ten ≡ none → s.facts.captured_top ≤ captured_most
+Fits s = s.noted.ten ≡ None → s.facts.captured_top ≤ captured_most
 
 pub record Filled (s t : State) : Type 0 where
   pub arguments : s.facts.arguments_top ≤ t.facts.arguments_top
@@ -57,9 +57,9 @@ pub record Put (k : ℕ) (s t : State) : Type 0 where
   pub rows : t.facts.rows ≡ s.facts.rows
   pub fits : Fits t
 
-kept_some : (o : Option ℕ) (i : ℕ) → or_kept o i ≡ none → ⊥
-kept_some none i e = none-ne-some i (sym e)
-kept_some (some j) i e = none-ne-some j (sym e)
+kept_some : (o : Option ℕ) (i : ℕ) → or_kept o i ≡ None → ⊥
+kept_some None i e = none-some i (sym e)
+kept_some (Some j) i e = none-some j (sym e)
 
 put_as : (b : Bool) (i : ℕ) (l c : List ListEntry) (s : State) → ltb captured_most (s.facts.captured_top + length l) ≡ b
     → let t = with_facts (record {
@@ -100,7 +100,7 @@ make_filled n escapes captured arguments s =
 
 -- or its list amended
 pub amend-stored : (n : Node) (b : Tree) (now : List ListEntry) (m : ScopeMap Capture) (v : FunctionInformation) {s t : State}
-    → function_in (row_at s n.at) ≡ some v → Stored s t → Stored s (amend_function n b now m v t)
+    → function_in (row_at s n.at) ≡ Some v → Stored s t → Stored s (amend_function n b now m v t)
 unfolding amend_function rewrite_captured insert
 amend-stored n b now m v {s} {t} e p =
     let used = now_used b now in
@@ -122,8 +122,8 @@ amend-stored n b now m v {s} {t} e p =
 
 function_filled : (f : Option FunctionInformation) (n : Node) (b : Tree) (escapes : Bool) (now arguments : List ListEntry) (m : ScopeMap Capture) {s t : State}
     → function_in (row_at s n.at) ≡ f → Stored s t → Filled s (function_ends f n b escapes now arguments m t)
-function_filled none n b escapes now arguments m e p = stored_filled p ⟫ make_filled n escapes (sort_by_id now) arguments _
-function_filled (some v) n b escapes now arguments m e p = stored_filled (amend-stored n b now m v e p)
+function_filled None n b escapes now arguments m e p = stored_filled p ⟫ make_filled n escapes (sort_by_id now) arguments _
+function_filled (Some v) n b escapes now arguments m e p = stored_filled (amend-stored n b now m v e p)
 
 -- what comes before the fact
 pub ends_stored : (xs : List Ident) (l : List (Live Ident)) (s : State) → Stored s (end_parameters xs (mark_lasts l (close_captures (close_scope s))))

@@ -1,7 +1,6 @@
 -- The stage of a lambda's body, and what lambdas and lets find as they begin and end.
 use Prim.Native.Nat.{ℕ, suc, ◌+◌, ◌≤◌}
-use Rattle.std.specs.Prelude.{List, ◌≡◌}
-use Rattle.std.proofs.Math.Option.{Option, none, some}
+use Rattle.std.specs.Prelude.{List, ◌≡◌, Option, None, Some}
 use Rattle.std.proofs.Common.{ap, subst, ◌∙◌, arith}
 use Rattle.std.proofs.Math.ListN.{length}
 use Rattle.tree.specs.Tree.{Ident, Node, Tree, Trees, letin, lambda, many, size, sizes, Num}
@@ -44,20 +43,20 @@ open_lambda_size n xs s =
 -- by a fact that is made
 enters_made : (s : State) (o : Option FunctionInformation) → ListsWithin list_entries_most list_entries_most o → length s.captures.live + list_length o ≤ list_entries_most
     → EntersWithin s o
-enters_made s none h l = tt
-enters_made s (some v) h l = (h.0, h.1, l)
+enters_made s None h l = tt
+enters_made s (Some v) h l = (h.0, h.1, l)
 
 leaves_made : (s : State) (o : Option FunctionInformation) → ListsWithin list_entries_most list_entries_most o → LeavesWithin s o
-leaves_made s none h = absurd h
-leaves_made s (some v) h = h
+leaves_made s None h = absurd h
+leaves_made s (Some v) h = h
 
 captured_made : (o : Option FunctionInformation) → ListsWithin list_entries_most list_entries_most o → CapturedWithin o
-captured_made none h = tt
-captured_made (some v) h = h.0
+captured_made None h = tt
+captured_made (Some v) h = h.0
 
 let_made : (o : Option LetInformation) → NamesWithin list_entries_most o → LetEntersWithin o
-let_made none h = tt
-let_made (some v) h = h
+let_made None h = tt
+let_made (Some v) h = h
 
 module _ (classes : List ℕ) (i : ℕ) (f : Flags) (s : State) where
   pub lambda_body_lem : (m : Node) (xs : List Ident) (b : Tree) → Num i (lambda m xs b) → Stage i (lambda m xs b) f s
@@ -74,7 +73,7 @@ module _ (classes : List ℕ) (i : ℕ) (f : Flags) (s : State) where
       u : State
       u = open_lambda m xs s
 
-      go : OnRun i N N (Unmade s (lambda m xs b)) (Made s (lambda m xs b)) f.function s → OnRun k (size b) (size b) (Unmade u b) (Made u b) (some m) u
+      go : OnRun i N N (Unmade s (lambda m xs b)) (Made s (lambda m xs b)) f.function s → OnRun k (size b) (size b) (Unmade u b) (Made u b) (Some m) u
       go (first p) =
           let r = to_lambda_body classes i m xs b n s in
           first (record {
@@ -163,12 +162,12 @@ module _ (classes : List ℕ) (i : ℕ) (f : Flags) (s : State) where
       record { at = λ x l u. keeps_arguments classes (i + 1 + length xs) es n.3 (not_tail f) (with_context NONE s) h x (λ p q. omega arith) }
 
   around_made : (o : Option Node) (t : State) → Around (FunctionWithin list_entries_most list_entries_most) i t o → AroundWithin t o
-  around_made none t a = tt
-  around_made (some k) t a = captured_made (function_in (row_at t k.at)) a.1
+  around_made None t a = tt
+  around_made (Some k) t a = captured_made (function_in (row_at t k.at)) a.1
 
   around_blank : (o : Option Node) (t : State) → Around IsBlank i t o → AroundWithin t o
-  around_blank none t a = tt
-  around_blank (some k) t a = rw a.1 tt
+  around_blank None t a = tt
+  around_blank (Some k) t a = rw a.1 tt
 
   pub let_enters : (m : Node) (xs : List Ident) (es : Trees) (b : Tree) → Num i (letin m xs es b) → Stage i (letin m xs es b) f s
       → LetEntersWithin (let_in (row_at (AfterInitials classes es f s) m.at)) × AroundWithin (AfterInitials classes es f s) f.function

@@ -1,9 +1,8 @@
 -- A lambda's list becomes captures: as many more as it has entries, all in the newest layer.
 use Prim.Native.Nat.{ℕ, zero, suc, ◌+◌, ◌≤◌, ◌<◌}
-use Rattle.std.specs.Prelude.{List, [], ◌∷◌, ◌++◌, Bool, not, ◌&&◌, ◌≡◌, length, get_or, set, replicate, eqb}
+use Rattle.std.specs.Prelude.{List, [], ◌∷◌, ◌++◌, Bool, not, ◌&&◌, ◌≡◌, length, get_or, set, replicate, eqb, Option, None, Some}
 use Rattle.std.proofs.Common.{append_assoc, ap, sym, ◌∙◌, eqb-true, get_or-set_same, get_or-set_other}
 use Rattle.std.proofs.Math.Bool.{true, false, cond}
-use Rattle.std.proofs.Math.Option.{Option, none, some}
 use Rattle.std.proofs.Math.Path.{refl, subst}
 use Rattle.std.proofs.Math.Decide.{ℕ_discrete, dec_lt}
 use native.Mathlib.Omega.{arith}
@@ -113,8 +112,8 @@ list-size e s =
 
 pub open_size : (f : Option FunctionInformation) (s : State) → length (open_captures f s).captures.live ≤ length s.captures.live + list_length f
 unfolding open_captures
-open_size none s = omega arith
-open_size (some v) s = list-size v.captured_vars (with_captures (push_layer s.captures) s)
+open_size None s = omega arith
+open_size (Some v) s = list-size v.captured_vars (with_captures (push_layer s.captures) s)
 
 -- and all of them lie in the newest layer
 
@@ -187,8 +186,8 @@ module _ (which : Bool) (numbered : ℕ → Option ScopeInfo → ScopeInfo → S
 
 pub open_opened : (f : Option FunctionInformation) (s : State) → Opened (suc s.captures.depth) s (open_captures f s)
 unfolding open_captures number_list
-open_opened none s = record { depth = refl; more = 0; layers = refl }
-open_opened (some v) s =
+open_opened None s = record { depth = refl; more = 0; layers = refl }
+open_opened (Some v) s =
     let e = v.captured_vars in
     let d = suc s.captures.depth in
     let p = rows-opened false numbered_capture d e.length e.first 0 (with_captures (push_layer s.captures) s) refl in

@@ -1,6 +1,5 @@
 -- From the stage of a whole to that of a part: what lies between leaves the rest as it was.
-use Rattle.std.specs.Prelude.{ℕ, suc, ◌+◌, ◌*◌, ◌≤◌, List, [], ◌∷◌, ◌≡◌, refl, length}
-use Rattle.std.proofs.Math.Option.{Option, none, some}
+use Rattle.std.specs.Prelude.{ℕ, suc, ◌+◌, ◌*◌, ◌≤◌, List, [], ◌∷◌, ◌≡◌, refl, length, Option, None, Some}
 use Rattle.std.proofs.Common.{ap, sym, ◌∙◌, arith}
 use Rattle.tree.specs.Tree.{Node, Tree, size, Num}
 use Rattle.scope_map.specs.ScopeMap.{Live}
@@ -28,8 +27,8 @@ pub stacked_long : {s t : State} → Stacked s t → length t.captures.live ≡ 
 stacked_long {s} {t} p = sym (layers_long t.captures.live) ∙ ap length p.layers ∙ layers_long s.captures.live
 
 pub around_lasts : (P : Row → Type 0) → Lasts P → {i k : ℕ} (o : Option Node) {s t : State} → Lasting 0 i s t → i ≤ k → Around P i s o → Around P k t o
-around_lasts P p none c h a = tt
-around_lasts P p (some n) {s} {t} c h a = (omega (arith, a.0), p (row_at t n.at) (row_at s n.at) (c.at n.at (omega arith) a.0) a.1)
+around_lasts P p None c h a = tt
+around_lasts P p (Some n) {s} {t} c h a = (omega (arith, a.0), p (row_at t n.at) (row_at s n.at) (c.at n.at (omega arith) a.0) a.1)
 
 pub narrow : {i j : ℕ} {s t : State} → Lasting 0 j s t → i ≤ j → Lasting 0 i s t
 narrow c h = record { at = λ x l u. c.at x l (omega arith) }

@@ -1,6 +1,5 @@
 -- Both runs: the stage at the start of the first, and, where that noted no refusal 10, at the start of the second.
-use Rattle.std.specs.Prelude.{ℕ, zero, suc, ◌+◌, ◌-◌, ◌≤◌, List, ◌≡◌}
-use Rattle.std.proofs.Math.Option.{none}
+use Rattle.std.specs.Prelude.{ℕ, zero, suc, ◌+◌, ◌-◌, ◌≤◌, List, ◌≡◌, None}
 use Rattle.std.proofs.Math.Path.{refl}
 use Rattle.std.proofs.Common.{ap}
 use native.Mathlib.Omega.{arith}
@@ -101,7 +100,7 @@ module _ (classes : List ℕ) (ts : Trees) (n : Nums 0 ts) (few : sizes ts ≤ r
       }
 
   -- what it leaves
-  pub fresh-left : (fresh classes ts).noted.ten ≡ none → Left ts (fresh classes ts)
+  pub fresh-left : (fresh classes ts).noted.ten ≡ None → Left ts (fresh classes ts)
   unfolding fresh run start no_facts
   fresh-left e =
       let s = entered classes ts no_facts in
@@ -124,9 +123,9 @@ module _ (classes : List ℕ) (ts : Trees) (n : Nums 0 ts) (few : sizes ts ≤ r
 
   -- The second run
 
-  second_start : (fresh classes ts).noted.ten ≡ none
+  second_start : (fresh classes ts).noted.ten ≡ None
       → let s = entered classes ts (fresh classes ts).facts in
-      Second 0 (sizes ts - 0) (MadeAll s (top_level ts)) none s
+      Second 0 (sizes ts - 0) (MadeAll s (top_level ts)) None s
   unfolding start
   second_start e =
       let f = (fresh classes ts).facts in
@@ -148,22 +147,22 @@ module _ (classes : List ℕ) (ts : Trees) (n : Nums 0 ts) (few : sizes ts ≤ r
         captured = omega (arith, b.captured, p.stored.captured);
       }
 
-  pub second_stage : (fresh classes ts).noted.ten ≡ none → StageTops 0 (sizes ts) (top_level ts) (entered classes ts (fresh classes ts).facts)
+  pub second_stage : (fresh classes ts).noted.ten ≡ None → StageTops 0 (sizes ts) (top_level ts) (entered classes ts (fresh classes ts).facts)
   second_stage e = record { layered = entered_layered (fresh classes ts).facts; run = second (second_start e) }
 
   -- it stores nothing, and leaves the lists within the tables
-  settled-stored : (fresh classes ts).noted.ten ≡ none → Stored (start (fresh classes ts).facts) (settled classes ts)
+  settled-stored : (fresh classes ts).noted.ten ≡ None → Stored (start (fresh classes ts).facts) (settled classes ts)
   unfolding settled run
   settled-stored e =
       let f = (fresh classes ts).facts in
       let r = tops_ran classes 0 (sizes ts) (top_level ts) spread (entered classes ts f) (entered_layered f) in
       stored-then (children_preserves apart_steps classes _ (top_level ts) (start f)).stored (r.stored (second_start e).made)
 
-  pub settled_ten : (fresh classes ts).noted.ten ≡ none → (settled classes ts).noted.ten ≡ none
+  pub settled_ten : (fresh classes ts).noted.ten ≡ None → (settled classes ts).noted.ten ≡ None
   unfolding start
   settled_ten e = (settled-stored e).ten
 
-  pub settled-left : (fresh classes ts).noted.ten ≡ none → Left ts (settled classes ts)
+  pub settled-left : (fresh classes ts).noted.ten ≡ None → Left ts (settled classes ts)
   unfolding settled fresh run start no_facts
   settled-left e =
       let f = (fresh classes ts).facts in

@@ -1,6 +1,5 @@
 -- The second run: where every lambda and every let has its fact, no list is stored, none gets longer, and 10 is not noted.
-use Rattle.std.specs.Prelude.{ℕ, ◌+◌, ◌≤◌, List, Bool, ◌≡◌, refl}
-use Rattle.std.proofs.Math.Option.{Option, none, some}
+use Rattle.std.specs.Prelude.{ℕ, ◌+◌, ◌≤◌, List, Bool, ◌≡◌, refl, Option, None, Some}
 use Rattle.std.proofs.Common.{subst, ◌∙◌, arith}
 use Rattle.std.proofs.Math.ListN.{length}
 use Rattle.tree.specs.Tree.{Ident, Node, Tree, Trees, ident, const, if, letin, define, lambda, sequence, call, set!, nil, cons, many, size, sizes, Num, Nums, begins, ands, whens}
@@ -40,8 +39,8 @@ p ⟫ q = stored-then p q
 
 function_stored : (f : Option FunctionInformation) (n : Node) (b : Tree) (escapes : Bool) (now arguments : List ListEntry) (m : ScopeMap Capture) {s t : State}
     → function_in (row_at s n.at) ≡ f → ListsWithin list_entries_most list_entries_most f → Stored s t → Stored s (function_ends f n b escapes now arguments m t)
-function_stored none n b escapes now arguments m e h p = absurd h
-function_stored (some v) n b escapes now arguments m e h p = amend-stored n b now m v e p
+function_stored None n b escapes now arguments m e h p = absurd h
+function_stored (Some v) n b escapes now arguments m e h p = amend-stored n b now m v e p
 
 close_lambda_stored : (n : Node) (xs : List Ident) (b : Tree) (escapes : Bool) (s : State)
     → FunctionWithin list_entries_most list_entries_most (row_at s n.at) → Stored s (close_lambda n xs b escapes s)

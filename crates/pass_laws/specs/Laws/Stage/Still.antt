@@ -1,8 +1,7 @@
 -- What counts, marks and notes leaves alone: the live names, the layers of the captures, and how far each table of lists is filled.
 use Prim.Native.Nat.{ℕ, zero, suc, ◌≤◌}
-use Rattle.std.specs.Prelude.{List, [], ◌∷◌, Bool, cond, ◌&&◌, ◌≡◌, eqb, ltb}
+use Rattle.std.specs.Prelude.{List, [], ◌∷◌, Bool, cond, ◌&&◌, ◌≡◌, eqb, ltb, Option, None, Some}
 use Rattle.std.proofs.Math.Bool.{true, false}
-use Rattle.std.proofs.Math.Option.{Option, none, some}
 use Rattle.std.proofs.Math.Path.{refl}
 use Rattle.std.proofs.Common.{ap, ◌∙◌, arith}
 use Rattle.tree.specs.Tree.{Ident}
@@ -177,8 +176,8 @@ module _ (which : Bool) (numbered : ℕ → Option ScopeInfo → ScopeInfo → S
 
 pub open_listed : (f : Option FunctionInformation) (s : State) → Listed s (open_captures f s)
 unfolding open_captures number_list
-open_listed none s = record { stored = as_full refl refl refl refl; names = refl }
-open_listed (some v) s =
+open_listed None s = record { stored = as_full refl refl refl refl; names = refl }
+open_listed (Some v) s =
     let e = v.captured_vars in
     let t = with_captures (push_layer s.captures) s in
     let p = listed (numbers_listed false numbered_capture e.length e.first 0 t) (numbers_listed true numbered_heap e.length e.first 0 _) in

@@ -1,6 +1,5 @@
 -- How far counts and layers can have grown from one place of a walk to a later one, by the records between them.
-use Rattle.std.specs.Prelude.{ℕ, ◌+◌, ◌≤◌, List, Bool, refl}
-use Rattle.std.proofs.Math.Option.{Option}
+use Rattle.std.specs.Prelude.{ℕ, ◌+◌, ◌≤◌, List, Bool, refl, Option}
 use Rattle.std.proofs.Common.{arith}
 use Rattle.tree.specs.Tree.{Ident, Node, Tree, Trees, size, sizes}
 use Rattle.tree.proofs.Laws.Site.{let_next}

@@ -1,6 +1,5 @@
 -- What a form's own functions rely on, where its visit calls them.
-use Rattle.std.specs.Prelude.{ℕ, ◌+◌, ◌*◌, ◌≤◌, ◌<◌, List, ◌≡◌, length}
-use Rattle.std.proofs.Math.Option.{Option, none, some}
+use Rattle.std.specs.Prelude.{ℕ, ◌+◌, ◌*◌, ◌≤◌, ◌<◌, List, ◌≡◌, length, Option, None, Some}
 use Rattle.std.proofs.Common.{◌∙◌, subst}
 use native.Mathlib.Omega.{arith}
 use Rattle.tree.specs.Tree.{Ident, Node, Tree, Trees, letin, define, lambda, sequence, call, set!, many, size, Num, Sequence}
@@ -45,26 +44,26 @@ reliable w = reliable_on further_same w.ample (omega arith) w.sound
 
 -- What a fact tells, if it is found
 
-lists_found : (s : State) (o : Option FunctionInformation) → EntersWithin s o → (v : FunctionInformation) → o ≡ some v
+lists_found : (s : State) (o : Option FunctionInformation) → EntersWithin s o → (v : FunctionInformation) → o ≡ Some v
     → (end_of v.captured_vars ≤ list_entries_most) × (end_of v.arguments ≤ list_entries_most)
     × (length s.captures.live + v.captured_vars.length ≤ list_entries_most)
 lists_found s o h v e = subst (λ (p : Option FunctionInformation). EntersWithin s p) e h
 
-captured_found : (o : Option FunctionInformation) → CapturedWithin o → (v : FunctionInformation) → o ≡ some v
+captured_found : (o : Option FunctionInformation) → CapturedWithin o → (v : FunctionInformation) → o ≡ Some v
     → end_of v.captured_vars ≤ list_entries_most
 captured_found o h v e = subst CapturedWithin e h
 
 ends_found : (s : State) (o p : Option FunctionInformation) → LeavesWithin s o → o ≡ p → LeavesWithin s p
 ends_found s o p h e = subst (λ (q : Option FunctionInformation). LeavesWithin s q) e h
 
-list_found : (o : Option LetInformation) → LetEntersWithin o → (v : LetInformation) → o ≡ some v → end_of v.arguments ≤ list_entries_most
+list_found : (o : Option LetInformation) → LetEntersWithin o → (v : LetInformation) → o ≡ Some v → end_of v.arguments ≤ list_entries_most
 list_found o h v e = subst LetEntersWithin e h
 
-around_found : (s : State) (o : Option Node) → AroundWithin s o → (m : Node) → o ≡ some m → CapturedFits s m.at
+around_found : (s : State) (o : Option Node) → AroundWithin s o → (m : Node) → o ≡ Some m → CapturedFits s m.at
 around_found s o h m e v = captured_found (function_in (row_at s m.at)) (subst (λ (p : Option Node). AroundWithin s p) e h) v
 
 -- the lambda around stands before the record i
-around_before : {i n r : ℕ} {U M : Type 0} {o : Option Node} {s : State} → OnRun i n r U M o s → (m : Node) → o ≡ some m → m.at < i
+around_before : {i n r : ℕ} {U M : Type 0} {o : Option Node} {s : State} → OnRun i n r U M o s → (m : Node) → o ≡ Some m → m.at < i
 around_before {i} {s = s} (first p) m e = (subst (λ (q : Option Node). Around IsBlank i s q) e p.function).0
 around_before {i} {s = s} (second p) m e = (subst (λ (q : Option Node). Around (FunctionWithin list_entries_most list_entries_most) i s q) e p.function).0
 
@@ -143,8 +142,8 @@ module _ {P : Ident → Type 0} (small : (x : Ident) → P x → x.at < rows_mos
           record {
             reliable = visited_reliable v;
             few = omega (arith, w.num.0);
-            made = λ e. (ends_found y o none h e).0;
-            amended = λ u e. (ends_found y o (some u) h e).0;
+            made = λ e. (ends_found y o None h e).0;
+            amended = λ u e. (ends_found y o (Some u) h e).0;
             captured = omega (arith, captured_top_lem classes v);
           }
 

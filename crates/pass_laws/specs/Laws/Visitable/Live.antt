@@ -1,6 +1,5 @@
 -- How many names are live once some have entered, and after a visit.
-use Rattle.std.specs.Prelude.{ℕ, suc, ◌+◌, ◌≤◌, List, Bool, length}
-use Rattle.std.proofs.Math.Option.{Option}
+use Rattle.std.specs.Prelude.{ℕ, suc, ◌+◌, ◌≤◌, List, Bool, length, Option}
 use Rattle.std.proofs.Common.{arith}
 use Rattle.tree.specs.Tree.{Ident, Node, Tree, Trees, many, size, sizes, Num, Nums}
 use Rattle.tree.specs.Core.{cores}

@@ -1,7 +1,6 @@
 -- Every lambda that a visit enters finds its captured list inside the table: by the stage of the run.
-use Rattle.std.specs.Prelude.{ℕ, ◌+◌, List, Bool, length}
+use Rattle.std.specs.Prelude.{ℕ, ◌+◌, List, Bool, length, Option, None, Some}
 use Rattle.std.proofs.Math.Bool.{true, false}
-use Rattle.std.proofs.Math.Option.{Option, none, some}
 use Rattle.tree.specs.Tree.{Ident, Node, Tree, Trees, ident, const, if, letin, define, lambda, sequence, call, set!, nil, cons, size, sizes, Num, Nums, begins, ands, whens}
 use Rattle.semantic.specs.Kinds.{function_in}
 use Rattle.semantic.specs.declared.FunctionInformation.{FunctionInformation}
@@ -16,8 +15,8 @@ use Rattle.pass_laws.specs.Laws.Stage.Top.{lambda_define-body, value_define-body
 use Rattle.pass_laws.specs.Laws.Stage.Tops.{first-top, next_tops}
 
 found_inside : (s : State) (o : Option FunctionInformation) → EntersWithin s o → Inside o
-found_inside s none h = tt
-found_inside s (some v) h = h.0
+found_inside s None h = tt
+found_inside s (Some v) h = h.0
 
 module _ (classes : List ℕ) where
   mutual

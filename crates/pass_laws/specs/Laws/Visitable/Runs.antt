@@ -1,6 +1,5 @@
 -- Both runs, of trees with few enough records: what may be relied on as the names at top level enter, and at the first tree.
-use Rattle.std.specs.Prelude.{ℕ, ◌≤◌, ◌<◌, List, ◌≡◌, refl}
-use Rattle.std.proofs.Math.Option.{none}
+use Rattle.std.specs.Prelude.{ℕ, ◌≤◌, ◌<◌, List, ◌≡◌, refl, None}
 use Rattle.std.proofs.Common.{◌∙◌}
 use native.Mathlib.Omega.{arith}
 use Rattle.std.proofs.Math.ListN.{length-replicate}
@@ -154,7 +153,7 @@ module _ {P : Ident → Type 0} (small : (x : Ident) → P x → x.at < rows_mos
         }
 
     -- where that noted no refusal 10
-    pub second_visitable : (fresh classes ts).noted.ten ≡ none
+    pub second_visitable : (fresh classes ts).noted.ten ≡ None
         → VisitableTops P 0 (sizes ts) (top_level ts) (entered classes ts (fresh classes ts).facts)
     second_visitable e =
         entered_visitable (fresh classes ts).facts second_reliable (each_next (counting.none (sizes ts)) (fresh-counted classes ts)) few
@@ -165,6 +164,6 @@ module _ (classes : List ℕ) {N : ℕ} {rs : List ℕ} {ts : Trees} (a : Accept
   pub accepted_first : VisitableTops (Recorded (flats ts)) 0 (sizes ts) (top_level ts) (entered classes ts no_facts)
   accepted_first = first_visitable (recorded_small a) classes ts a.num a.few (accepted_recorded a)
 
-  pub accepted_second : (fresh classes ts).noted.ten ≡ none
+  pub accepted_second : (fresh classes ts).noted.ten ≡ None
       → VisitableTops (Recorded (flats ts)) 0 (sizes ts) (top_level ts) (entered classes ts (fresh classes ts).facts)
   accepted_second e = second_visitable (recorded_small a) classes ts a.num a.few (accepted_recorded a) e

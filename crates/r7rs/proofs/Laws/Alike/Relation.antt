@@ -1,6 +1,5 @@
 -- How a run of a tree stands to a run of its expansion. What waits is related and not mapped: what waits for an and, a when or an unless keeps no node.
-use Rattle.std.specs.Prelude.{ℕ, zero, suc, Bool, true, cond}
-use Rattle.std.proofs.Math.Option.{Option, some}
+use Rattle.std.specs.Prelude.{ℕ, zero, suc, Bool, true, cond, Option, Some}
 use Rattle.tree.specs.Tree.{Node, Ident, Tree, Trees, const, sequence, nil, cons, begins}
 use Rattle.tree.specs.Expand.{added, expand, expands, expand_and}
 use Rattle.r7rs.specs.Machine.{After, to_head, to_body, start, entered, read, pushed, kend, kif, kseq, kand, kwhen, kpush, khead, kdrop, kret, kset, kdef, next, ended, stopped, outside, state}
@@ -49,7 +48,7 @@ pub data Stand : PState → PState → Type 0 where
       → Stand (state (entered e) (gives plainly e b h) b k m)
       (state (entered (expand e)) (gives plainly (expand e) (expand_body b) h') (expand_body b) k' (expand_mem m))
   at_read : (i : ℕ) (v : PVal) (b : PBody) {k k' : PKont} (m : PMem) → Waits k k'
-      → Stand (state (read i) (some v) b k m) (state (read i) (some (expand_value v)) (expand_body b) k' (expand_mem m))
+      → Stand (state (read i) (Some v) b k m) (state (read i) (Some (expand_value v)) (expand_body b) k' (expand_mem m))
   at_pushed : (i i' : ℕ) (w : After) (n : ℕ) (es : Trees) (h h' : Option PVal) (b : PBody) {k k' : PKont} (m : PMem) → Waits k k'
       → Stand (state (pushed i w n es) h b k m) (state (pushed i' (expand_after w) n (expands es)) h' (expand_body b) k' (expand_mem m))
 

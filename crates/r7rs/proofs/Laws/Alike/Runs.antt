@@ -1,6 +1,5 @@
 -- The plain machine runs a tree and its expansion alike.
-use Rattle.std.specs.Prelude.{ℕ, zero, suc, ◌+◌, [], ◌≡◌, refl}
-use Rattle.std.proofs.Math.Option.{none}
+use Rattle.std.specs.Prelude.{ℕ, zero, suc, ◌+◌, [], ◌≡◌, refl, None}
 use Rattle.std.proofs.Common.{ap, sym, ◌∙◌, subst, zero-add, suc-add}
 use Rattle.std.proofs.Math.Path.{subst⁻¹}
 use Rattle.tree.specs.Tree.{Trees, nil}
@@ -94,11 +93,11 @@ run-tries s (suc n) =
     more_now r.made r.now ∙ ap again (run-tries s n) ∙ sym (again-tries n (next s))
 
 abbrev begun : Trees → POut
-begun ts = next (state (start ts) none (body no_body [] []) (kend nil) (mem [] unbound))
+begun ts = next (state (start ts) None (body no_body [] []) (kend nil) (mem [] unbound))
 
 plain-tries : (ts : Trees) (n : ℕ) → (plain ts n).now ≡ tries n (begun ts)
 unfolding plain
-plain-tries ts n = run-tries (state (start ts) none (body no_body [] []) (kend nil) (mem [] unbound)) n
+plain-tries ts n = run-tries (state (start ts) None (body no_body [] []) (kend nil) (mem [] unbound)) n
 
 begins_alike : (ts : Trees) → Same (begun ts) (begun (expands ts))
 begins_alike ts = goes (at-start ts (mem [] unbound))

@@ -1,6 +1,5 @@
 -- One more moment of a tree's run and some more of its expansion's: what they come to is alike.
-use Rattle.std.specs.Prelude.{ℕ, suc, Bool, true, false, cond, not, length}
-use Rattle.std.proofs.Math.Option.{Option, none, some}
+use Rattle.std.specs.Prelude.{ℕ, suc, Bool, true, false, cond, not, length, Option, None, Some}
 use Rattle.std.proofs.Math.Path.{subst⁻¹}
 use Rattle.tree.specs.Tree.{Node, Tree, Trees, ident, const, if, letin, define, lambda, sequence, call, set!, nil, cons, begins, ands, whens}
 use Rattle.tree.specs.Expand.{added, expand, expands, expand_and}
@@ -41,16 +40,16 @@ either true l r = l
 either false l r = r
 
 calls : (p : Procedure Env) (v : PVal) (i n : ℕ) {k k' : PKont} (b : PBody) (m : PMem) → Waits k k'
-    → Leads (applied plainly (some p) v i n k b m) (applied plainly (some (expand_procedure p)) (expand_value v) i n k' (expand_body b) (expand_mem m))
+    → Leads (applied plainly (Some p) v i n k b m) (applied plainly (Some (expand_procedure p)) (expand_value v) i n k' (expand_body b) (expand_mem m))
 calls p v i n {k} {k'} b m w =
     let q = plainly.callee p n b m in
-    let o = enter plainly p.of (some v) q.0 (plainly.caller i n b k) q.1 in
+    let o = enter plainly p.of (Some v) q.0 (plainly.caller i n b k) q.1 in
     either (takes p.names n)
-    (subst⁻¹ (λ (c : PBody × PMem). Leads o (enter plainly (expand p.of) (some (expand_value v)) c.0 (plainly.caller i n (expand_body b) k') c.1))
+    (subst⁻¹ (λ (c : PBody × PMem). Leads o (enter plainly (expand p.of) (Some (expand_value v)) c.0 (plainly.caller i n (expand_body b) k') c.1))
     (expand_callee p n b m)
-    (subst⁻¹ (λ (r : PKont). Leads o (enter plainly (expand p.of) (some (expand_value v)) (expand_body q.0) r (expand_mem q.1)))
+    (subst⁻¹ (λ (r : PKont). Leads o (enter plainly (expand p.of) (Some (expand_value v)) (expand_body q.0) r (expand_mem q.1)))
     (expand_caller i n b k')
-    (enters p.of (some v) (some (expand_value v)) q.0 q.1 (w_ret i (body b.of b.env (but_n n b.stack)) w))))
+    (enters p.of (Some v) (Some (expand_value v)) q.0 q.1 (w_ret i (body b.of b.env (but_n n b.stack)) w))))
     (0, stops)
 
 applies : (v : PVal) (i n : ℕ) {k k' : PKont} (b : PBody) (m : PMem) → Waits k k'
@@ -70,40 +69,40 @@ gives-on : {k k' : PKont} → Waits k k' → (v : PVal) (b : PBody) (m : PMem)
     → Leads (give plainly v k b m) (give plainly (expand_value v) k' (expand_body b) (expand_mem m))
 unfolding give expand
 gives-on (w_end nil) v b m = (0, over)
-gives-on (w_end (cons e es)) v b m = enters e (some v) (some (expand_value v)) (plainly.top e) m (w_end es)
+gives-on (w_end (cons e es)) v b m = enters e (Some v) (Some (expand_value v)) (plainly.top e) m (w_end es)
 gives-on (w_if t e {k} {k'} w) v b m =
     let v' = expand_value v in
-    tested (λ f. enter plainly (cond f e t) (some v) b k m) v (expand t) (expand e) (some v') (expand_body b) k' (expand_mem m)
-    (enters e (some v) (some v') b m w) (enters t (some v) (some v') b m w)
-gives-on (w_seq e nil w) v b m = enters e (some v) (some (expand_value v)) b m w
-gives-on (w_seq e (cons u es) w) v b m = enters e (some v) (some (expand_value v)) b m (w_seq u es w)
+    tested (λ f. enter plainly (cond f e t) (Some v) b k m) v (expand t) (expand e) (Some v') (expand_body b) k' (expand_mem m)
+    (enters e (Some v) (Some v') b m w) (enters t (Some v) (Some v') b m w)
+gives-on (w_seq e nil w) v b m = enters e (Some v) (Some (expand_value v)) b m w
+gives-on (w_seq e (cons u es) w) v b m = enters e (Some v) (Some (expand_value v)) b m (w_seq u es w)
 gives-on (w_and n e nil {k} {k'} w) v b m =
     let v' = expand_value v in
-    tested (λ f. cond f (give plainly (pconst 0 true) k b m) (enter plainly e (some v) b k m)) v (expand e) (const (added n) true)
-    (some v') (expand_body b) k' (expand_mem m)
-    (later (gives-on w (pconst 0 true) b m)) (enters e (some v) (some v') b m w)
+    tested (λ f. cond f (give plainly (pconst 0 true) k b m) (enter plainly e (Some v) b k m)) v (expand e) (const (added n) true)
+    (Some v') (expand_body b) k' (expand_mem m)
+    (later (gives-on w (pconst 0 true) b m)) (enters e (Some v) (Some v') b m w)
 gives-on (w_and n e (cons u es) {k} {k'} w) v b m =
     let v' = expand_value v in
-    tested (λ f. cond f (give plainly (pconst 0 true) k b m) (enter plainly e (some v) b (kand u es k) m)) v
-    (expand_and (cons e (cons u es)) n) (const (added n) true) (some v') (expand_body b) k' (expand_mem m)
-    (later (gives-on w (pconst 0 true) b m)) (later (enters e (some v) (some v') b m (w_and n u es w)))
+    tested (λ f. cond f (give plainly (pconst 0 true) k b m) (enter plainly e (Some v) b (kand u es k) m)) v
+    (expand_and (cons e (cons u es)) n) (const (added n) true) (Some v') (expand_body b) k' (expand_mem m)
+    (later (gives-on w (pconst 0 true) b m)) (later (enters e (Some v) (Some v') b m (w_and n u es w)))
 gives-on (w_when q n nil {k} {k'} w) v b m =
     let no = later (gives-on w punit b m) in
-    tests (λ f. give plainly punit k b m) q n nil v (some (expand_value v)) (expand_body b) k' (expand_mem m) no no
+    tests (λ f. give plainly punit k b m) q n nil v (Some (expand_value v)) (expand_body b) k' (expand_mem m) no no
 gives-on (w_when q n (cons e nil) {k} {k'} w) v b m =
     let v' = expand_value v in
-    tests (λ f. cond f (enter plainly e (some v) b k m) (give plainly punit k b m)) q n (expands (cons e nil)) v
-    (some v') (expand_body b) k' (expand_mem m) (later (enters e (some v) (some v') b m w)) (later (gives-on w punit b m))
+    tests (λ f. cond f (enter plainly e (Some v) b k m) (give plainly punit k b m)) q n (expands (cons e nil)) v
+    (Some v') (expand_body b) k' (expand_mem m) (later (enters e (Some v) (Some v') b m w)) (later (gives-on w punit b m))
 gives-on (w_when q n (cons e (cons u es)) {k} {k'} w) v b m =
     let v' = expand_value v in
-    tests (λ f. cond f (enter plainly e (some v) b (kseq u es k) m) (give plainly punit k b m)) q n (expands (cons e (cons u es))) v
-    (some v') (expand_body b) k' (expand_mem m) (later (enters e (some v) (some v') b m (w_seq u es w))) (later (gives-on w punit b m))
+    tests (λ f. cond f (enter plainly e (Some v) b (kseq u es k) m) (give plainly punit k b m)) q n (expands (cons e (cons u es))) v
+    (Some v') (expand_body b) k' (expand_mem m) (later (enters e (Some v) (Some v') b m (w_seq u es w))) (later (gives-on w punit b m))
 gives-on (w_push i i' a n es {k} {k'} w) v b m = (
   0,
   subst⁻¹
-      (λ (c : PBody). Same (next (state (pushed i a (suc n) es) (some v) (plainly.push v b) k m))
-      (next (state (pushed i' (expand_after a) (suc n) (expands es)) (some (expand_value v)) c k' (expand_mem m))))
-      (expand_push v b) (goes (at_pushed i i' a (suc n) es (some v) (some (expand_value v)) (plainly.push v b) m w)),
+      (λ (c : PBody). Same (next (state (pushed i a (suc n) es) (Some v) (plainly.push v b) k m))
+      (next (state (pushed i' (expand_after a) (suc n) (expands es)) (Some (expand_value v)) c k' (expand_mem m))))
+      (expand_push v b) (goes (at_pushed i i' a (suc n) es (Some v) (Some (expand_value v)) (plainly.push v b) m w)),
 )
 gives-on (w_head i n w) v b m = applies v i n b m w
 gives-on (w_drop n w) v b m = gives-on w v (plainly.drop n b) m
@@ -146,8 +145,8 @@ mutual
       (go_on plainly (expand e) (gives plainly (expand e) (expand_body b) h') (expand_body b) k' (expand_mem m))
   goes_on (ident x) h h' b {k} {k'} m w = (
     0,
-    let f : PVal → POut = λ v. next (state (read x.at) (some v) b k m) in
-        let f' : PVal → POut = λ v. next (state (read x.at) (some v) (expand_body b) k' (expand_mem m)) in
+    let f : PVal → POut = λ v. next (state (read x.at) (Some v) b k m) in
+        let f' : PVal → POut = λ v. next (state (read x.at) (Some v) (expand_body b) k' (expand_mem m)) in
         subst⁻¹ (λ (g : Got PVal). Leads (go_on plainly (ident x) h b k m) (on g f'))
         (expand_get x b m) (gets expand_value f f' (plainly.get x b m) (λ v. (0, goes (at_read x.at v b m w)))),
   )
@@ -178,7 +177,7 @@ mutual
 pub steps : {s s' : PState} → Stand s s' → Meet (step plainly s) (step plainly s')
 unfolding expand
 steps (at-start nil m) = (0, (0, over))
-steps (at-start (cons e es) m) = (0, enters e none none (plainly.top e) m (w_end es))
+steps (at-start (cons e es) m) = (0, enters e None None (plainly.top e) m (w_end es))
 steps (at-entered e h h' b m w) = goes_on e h h' b m w
 steps (at_read i v b m w) = (0, gives-on w v b m)
 steps (at_pushed i i' a n es h h' b m w) = (0, pushes a n es h h' b m w)

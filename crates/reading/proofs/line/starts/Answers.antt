@@ -1,4 +1,5 @@
 -- `starts`: what is left of the mark stands at what is left of the line.
+use Rattle.std.specs.Prelude.{Some}
 use Prim.Native.Nat.{ℕ, ◌+◌}
 use mathlib.Core.Path.{◌≡◌, ap, ◌∙◌}
 use native.Mathlib.Omega.{arith}
@@ -6,7 +7,6 @@ use lib.ListN.{length, drop}
 use Rattle.reading.specs.Reading.{after}
 use Rattle.reading.specs.Found.{starts, starts-not}
 use Rattle.reading.proofs.Places.{after_short, after_differs, after_turn, after-end}
-use mathlib.Core.Option.{some}
 use Rattle.reading.proofs.line.starts.Goals as goal
 
 pub loop-i-init : goal.loop-i-init
@@ -67,4 +67,4 @@ returns c =
     starts (omega arith)
     (v.invariant.2
     ∙ after-end o.mark.now (drop (o.at + v.i) o.l.now) v.i (omega arith)
-    ∙ ap (λ (n : ℕ). some (drop (o.at + n) o.l.now)) k)
+    ∙ ap (λ (n : ℕ). Some (drop (o.at + n) o.l.now)) k)

@@ -1,8 +1,8 @@
 -- `child_missing`: the children to come are counted.
+use Rattle.std.specs.Prelude.{Some}
 use native.Mathlib.Omega.{arith}
 use Prim.Native.Nat.{◌+◌}
 use mathlib.Core.Path.{ap, ◌∙◌}
-use mathlib.Core.Option.{some}
 use Rattle.scans.proofs.Missing.{Counting, count_begin, count_next, none_missing, some_missing}
 use Rattle.scans.proofs.scan.child_missing.Goals.{After-children}
 use Rattle.scans.proofs.scan.child_missing.Goals as goal
@@ -32,4 +32,4 @@ pub returns-then-places-eq0 : goal.returns-then-places-eq0
 returns-then-places-eq0 c = λ N. none_missing c.loop-i.invariant (omega arith) N c.if-places-eq0.true
 
 pub returns : goal.returns
-returns c = λ N. ap some c.len-n.ensures ∙ some_missing c.loop-i.invariant (omega arith) N c.if-places-eq0.false
+returns c = λ N. ap Some c.len-n.ensures ∙ some_missing c.loop-i.invariant (omega arith) N c.if-places-eq0.false

@@ -1,8 +1,7 @@
 -- Check 8 finds no record exactly where no id stands twice.
-use Rattle.std.specs.Prelude.{ℕ, List, [], ◌∷◌, Bool, true, false, not, ◌&&◌, ◌||◌, ◌≡◌, refl, eqb}
+use Rattle.std.specs.Prelude.{ℕ, List, [], ◌∷◌, Bool, true, false, not, ◌&&◌, ◌||◌, ◌≡◌, refl, eqb, None}
 use Rattle.std.proofs.Math.Bool.{and-false}
 use Rattle.std.proofs.Common.{true≢false, sym, ◌∙◌, eqb-true, eq-eqb}
-use Rattle.std.proofs.Math.Option.{none}
 use Rattle.tree.specs.Record.{Record}
 use Rattle.tree.specs.Check.{member, repeated}
 use Rattle.tree.specs.Accepted.{All, Distinct}
@@ -36,7 +35,7 @@ module _ (seen : List ℕ) (j : ℕ) (q : Record) where
       join (eqb q.id 0) (eqb q.id j) (member q.id seen)
       (λ e. let same = sym (eqb-true q.id j e) in eq-eqb q.id 0 (sym same ∙ p same)) h
 
-distinct_from : (l : List Record) (seen : List ℕ) → repeated seen l ≡ none → All (λ q. again seen q ≡ false) l × Distinct l
+distinct_from : (l : List Record) (seen : List ℕ) → repeated seen l ≡ None → All (λ q. again seen q ≡ false) l × Distinct l
 unfolding repeated
 distinct_from [] seen e = (tt, tt)
 distinct_from (r ∷ l) seen e =
@@ -44,14 +43,14 @@ distinct_from (r ∷ l) seen e =
     let (a, d) = distinct_from l (r.id ∷ seen) h.1 in
     ((h.0, all_map (λ q b. (split_id seen r.id q b).1) l a), (all_map (λ q b. (split_id seen r.id q b).0) l a, d))
 
-none_from : (l : List Record) (seen : List ℕ) → All (λ q. again seen q ≡ false) l → Distinct l → repeated seen l ≡ none
+none_from : (l : List Record) (seen : List ℕ) → All (λ q. again seen q ≡ false) l → Distinct l → repeated seen l ≡ None
 unfolding repeated
 none_from [] seen a d = refl
 none_from (r ∷ l) seen a d =
     both-none a.0 (none_from l (r.id ∷ seen) (all_zip (λ q. join_id seen r.id q) l d.0 a.1) d.1)
 
-pub repeated-none : (l : List Record) → repeated [] l ≡ none → Distinct l
+pub repeated-none : (l : List Record) → repeated [] l ≡ None → Distinct l
 repeated-none l e = (distinct_from l [] e).1
 
-pub none-repeated : (l : List Record) → Distinct l → repeated [] l ≡ none
+pub none-repeated : (l : List Record) → Distinct l → repeated [] l ≡ None
 none-repeated l = none_from l [] (all_of (λ q. and-false (not (eqb q.id 0))) l)

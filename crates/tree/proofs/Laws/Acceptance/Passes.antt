@@ -1,9 +1,9 @@
 -- What it is that the checks 1 to 8 and 16 pass.
-use Rattle.std.specs.Prelude.{ℕ, ◌%◌, ◌≤◌, Bool, true, false, ◌||◌, ◌≡◌, refl, eqb, ltb}
+use Rattle.std.specs.Prelude.{ℕ, ◌%◌, ◌≤◌, Bool, true, false, ◌||◌, ◌≡◌, refl, eqb, ltb, None}
+use Rattle.std.proofs.lemmas.Option.{none-some}
 use mathlib.Core.List.{List, [], ◌∷◌}
 use Rattle.std.proofs.Math.Bool.{not}
-use Rattle.std.proofs.Common.{true≢false, arith}
-use Rattle.std.proofs.Math.Option.{none, some-ne-none}
+use Rattle.std.proofs.Common.{true≢false, arith, sym}
 use Rattle.std.proofs.Math.Path.{ap}
 use borrow.Author.Tests.{ltb-false, le-ltb, eqb-true, eq-eqb, not-false}
 use Rattle.std.proofs.Math.ListN.{length}
@@ -26,14 +26,14 @@ pub record Passes (N : ℕ) (rs : List ℕ) : Type 0 where
 
 -- Tests
 
-when-none : (b : Bool) (i : ℕ) → when b i ≡ none → b ≡ false
-when-none true i e = absurd (some-ne-none i e)
+when-none : (b : Bool) (i : ℕ) → when b i ≡ None → b ≡ false
+when-none true i e = absurd (none-some i (sym e))
 when-none false i e = refl
 
-zero_test : (n i : ℕ) → when (not (eqb n 0)) i ≡ none → n ≡ 0
+zero_test : (n i : ℕ) → when (not (eqb n 0)) i ≡ None → n ≡ 0
 zero_test n i e = eqb-true n 0 (not-false (eqb n 0) (when-none (not (eqb n 0)) i e))
 
-test_zero : (n i : ℕ) → n ≡ 0 → when (not (eqb n 0)) i ≡ none
+test_zero : (n i : ℕ) → n ≡ 0 → when (not (eqb n 0)) i ≡ None
 test_zero n i e = ap (λ (b : Bool). when (not b) i) (eq-eqb n 0 e)
 
 or-false : (a b : Bool) → (a || b) ≡ false → (a ≡ false) × (b ≡ false)
@@ -47,17 +47,17 @@ empty (o ∷ s) e = absurd (omega arith)
 module _ (N : ℕ) (rs : List ℕ) where
   -- each check alone
   pub record Silent : Type 0 where
-    pub c1 : check1 N rs ≡ none
-    pub c2 : check2 N rs ≡ none
-    pub c3 : check3 N rs ≡ none
-    pub c4 : check4 N rs ≡ none
-    pub c5 : check5 N rs ≡ none
-    pub c6 : check6 N rs ≡ none
-    pub c7 : check7 N rs ≡ none
-    pub c16 : check16 N rs ≡ none
-    pub c8 : check8 N rs ≡ none
+    pub c1 : check1 N rs ≡ None
+    pub c2 : check2 N rs ≡ None
+    pub c3 : check3 N rs ≡ None
+    pub c4 : check4 N rs ≡ None
+    pub c5 : check5 N rs ≡ None
+    pub c6 : check6 N rs ≡ None
+    pub c7 : check7 N rs ≡ None
+    pub c16 : check16 N rs ≡ None
+    pub c8 : check8 N rs ≡ None
 
-  pub silent : refusal N rs ≡ none → Silent
+  pub silent : refusal N rs ≡ None → Silent
   unfolding refusal
   silent e =
       let h1 = passed 1 (check1 N rs) _ e in
@@ -71,7 +71,7 @@ module _ (N : ℕ) (rs : List ℕ) where
       let h8 = passed 8 (check8 N rs) _ h16.1 in
       record { c1 = h1.0; c2 = h2.0; c3 = h3.0; c4 = h4.0; c5 = h5.0; c6 = h6.0; c7 = h7.0; c16 = h16.0; c8 = h8.0 }
 
-  none-all : Silent → refusal N rs ≡ none
+  none-all : Silent → refusal N rs ≡ None
   unfolding refusal
   none-all h =
       λ i.
@@ -83,9 +83,9 @@ module _ (N : ℕ) (rs : List ℕ) where
       (or_else 6 (h.c6 i)
       (or_else 7 (h.c7 i)
       (or_else 16 (h.c16 i)
-      (or_else 8 (h.c8 i) none))))))))
+      (or_else 8 (h.c8 i) None))))))))
 
-  pub passes : refusal N rs ≡ none → Passes N rs
+  pub passes : refusal N rs ≡ None → Passes N rs
   unfolding check1 check2 check3 check4 check5 check6 check7 check16 check8
   passes e =
       let l = records rs in
@@ -108,7 +108,7 @@ module _ (N : ℕ) (rs : List ℕ) where
         ids = repeated-none l c.c8;
       }
 
-  pub passed_none : Passes N rs → refusal N rs ≡ none
+  pub passed_none : Passes N rs → refusal N rs ≡ None
   unfolding check1 check2 check3 check4 check5 check6 check7 check16 check8
   passed_none p =
       let l = records rs in
