@@ -1,4 +1,5 @@
 -- The list that a second run keeps, row by row in its place. No place of the code stands here.
+use Rattle.std.specs.Prelude.{Option}
 use Prim.Native.Nat.{ℕ, ◌+◌, ◌-◌, ◌≤◌, ◌<◌}
 use mathlib.Core.List.{List, [], ◌∷◌, ◌++◌, map}
 use mathlib.Core.Bool.{Bool, true, false, cond, ◌||◌}
@@ -30,7 +31,7 @@ use Rattle.walk.specs.Marks.{Unmarked}
 use Rattle.amending.specs.declared.amend.Lambda.{Lambda}
 use Rattle.amending.specs.declared.amend.Ending.{Ending}
 use Rattle.lists.specs.Contract.{Told, Held}
-use Rattle.amending.specs.Contract.{HasBody, lambda_of, Body, Ended, amended_list, AmendsList}
+use Rattle.amending.specs.Contract.{HasBody, Body, Ended, amended_list, AmendsList}
 use Rattle.lists.specs.Rewrites.{Rewrites}
 use Rattle.amending.specs.Kept.{cleared, Marks, kept_after, is_kept, kept_row, kept_names, KeepHeld, Right, KeepsRow, AllRight}
 use Rattle.lists.specs.Index.{Indexed}
@@ -134,7 +135,7 @@ now_beside xs b c s = ap (now_used b) (captured_beside (map name_in xs) c s s.sc
 
 -- The index and the counts are right in the states on the way
 
-right_kept : {rs : List ℕ} {d : Ending} {index counts : List ℕ} {xs : List Ident} {b : Tree} {s : State} (holds : Bool) (first k : ℕ)
+right_kept : {rs : List ℕ} {d : Ending} {index : List (Option ℕ)} {counts : List ℕ} {xs : List Ident} {b : Tree} {s : State} (holds : Bool) (first k : ℕ)
     → Right rs d index counts xs b s
     → Right rs d index counts xs b (with_captured (sets s.facts.captured first (kept_rows holds (now_of xs b s) s.captures first k s.facts.captured)) s)
 right_kept {counts = counts} {xs} {b} {s} holds first k h =
@@ -147,12 +148,16 @@ right_kept {counts = counts} {xs} {b} {s} holds first k h =
       counted = subst (Counts counts) (sym (now_beside xs b l s)) h.counted;
     }
 
-pub all_right : {rs : List ℕ} {d : Ending} {p : Pass} {w index counts : List ℕ} → Indexed rs d.names p w index → CountsNames rs d p w index counts
+pub all_right : {rs : List ℕ} {d : Ending} {p : Pass} {w : List ℕ} {index : List (Option ℕ)} {counts : List ℕ} → Indexed rs d.lambda.names p w index → CountsNames rs d p w index counts
     → AllRight rs d p w index counts
 all_right i c = record { indexes = i.is; counted = λ xs b s h y m works. c.is xs b s h y m works (i.is xs s h works) }
 
-right_first : {rs : List ℕ} {d : Ending} {p : Pass} {w index counts : List ℕ} {xs : List Ident} {b : Tree} {s : State} → AllRight rs d p w index counts
-    → Told rs d.names xs → Body rs d b → Good rs s → Works p w s → Right rs d index counts xs b s
+-- arrays with no name tell nothing
+pub none_right : {rs : List ℕ} {d : Ending} {p : Pass} {w : List ℕ} → AllRight rs d p w [] []
+none_right = record { indexes = λ xs s h works x q. absurd (omega arith); counted = λ xs b s h y g works x q. absurd (omega arith) }
+
+right_first : {rs : List ℕ} {d : Ending} {p : Pass} {w : List ℕ} {index : List (Option ℕ)} {counts : List ℕ} {xs : List Ident} {b : Tree} {s : State} → AllRight rs d p w index counts
+    → Told rs d.lambda.names xs → Body rs d b → Good rs s → Works p w s → Right rs d index counts xs b s
 right_first {xs = xs} {b} {s} a h y g works = record {
   told = h;
   body = y;
@@ -162,7 +167,7 @@ right_first {xs = xs} {b} {s} a h y g works = record {
 }
 
 -- whichever body the lambda has
-body_of : {rs : List ℕ} {d : Ending} {b : Tree} → Ended rs d → HasBody rs (lambda_of d) b → Body rs d b
+body_of : {rs : List ℕ} {d : Ending} {b : Tree} → Ended rs d → HasBody rs d.lambda b → Body rs d b
 body_of {b = b} a y = record { lies = y; holds = a.holds.is y.many b y.stands y.ends }
 
 -- The loop
@@ -176,11 +181,11 @@ pub record Kept (first : ℕ) (K : List ListEntry) (s : State) (z : Raw) (to : �
   pub ends : to ≡ first + length K
   pub seen : Marks m (names_of K)
 
-pub record Keeping (rs : List ℕ) (d : Ending) (p : Pass) (index counts : List ℕ) (first : ℕ) (C w : List ℕ) (k to : ℕ) (m C' w' : List ℕ) : Type 0 where
+pub record Keeping (rs : List ℕ) (d : Ending) (p : Pass) (index : List (Option ℕ)) (counts : List ℕ) (first : ℕ) (C w : List ℕ) (k to : ℕ) (m C' w' : List ℕ) : Type 0 where
   pub is : (F A : List ℕ) (s : State) (xs : List Ident) (b : Tree) → Right rs d index counts xs b s → Tied (raw p F C A w) s
       → Kept first (kept_to d first k xs b s) s (raw p F C' A w') to m
 
-module _ {rs : List ℕ} {d : Ending} {p : Pass} {index counts : List ℕ} {first : ℕ} {C w : List ℕ} where
+module _ {rs : List ℕ} {d : Ending} {p : Pass} {index : List (Option ℕ)} {counts : List ℕ} {first : ℕ} {C w : List ℕ} where
   pub keep-start : {m : List ℕ} → Unmarked m → Keeping rs d p index counts first C w 0 first m C w
   unfolding keep amend_list
   keep-start u = record { is = λ F A s xs b h t. record { tied = t; ends = omega arith; seen = λ x q. u x } }
@@ -268,7 +273,7 @@ module _ {rs : List ℕ} {d : Ending} {p : Pass} {index counts : List ℕ} {firs
           };
     }
 
-pub keep-ended : {rs : List ℕ} {d : Ending} {p : Pass} {index counts : List ℕ} {first : ℕ} {C w : List ℕ} {n k to : ℕ} {m C' w' : List ℕ}
+pub keep-ended : {rs : List ℕ} {d : Ending} {p : Pass} {index : List (Option ℕ)} {counts : List ℕ} {first : ℕ} {C w : List ℕ} {n k to : ℕ} {m C' w' : List ℕ}
     → Keeping rs d p index counts first C w k to m C' w' → k ≤ n → n ≤ k → Keeping rs d p index counts first C w n to m C' w'
 keep-ended {rs} {d} {p} {index} {counts} {first} {C} {w} {n} {k} {to} {m} {C'} {w'} f h g =
     let z : k ≡ n = omega arith in subst (λ (j : ℕ). Keeping rs d p index counts first C w j to m C' w') z f
@@ -286,11 +291,11 @@ kept_whole {first = first} e {n} a c xs b s y =
     ∙ ap (λ (j : ℕ). amend_list now s.captures [] (keep (is_kept (holds_lambda b) now) (take e.length (drop j l)))) a
     ∙ sym (ap (amend_list now s.captures []) (kept_is b now (take e.length (drop e.first l))))
 
-module _ {rs : List ℕ} {d : Ending} {p : Pass} {index counts : List ℕ} {first : ℕ} {C w : List ℕ} (e : ListAt) {n : ℕ} (a : first ≡ e.first)
+module _ {rs : List ℕ} {d : Ending} {p : Pass} {index : List (Option ℕ)} {counts : List ℕ} {first : ℕ} {C w : List ℕ} (e : ListAt) {n : ℕ} (a : first ≡ e.first)
     (c : n ≡ e.length) (ended : Ended rs d) (all : AllRight rs d p w index counts)
   where
     pub amends : {to : ℕ} {m C' w' : List ℕ} → Keeping rs d p index counts first C w n to m C' w' → {C'' w'' : List ℕ}
-        → Rewrites C' w' (cleared to (first + n)) C'' w'' → AmendsList rs (lambda_of d) e p C w (to - first) C'' w''
+        → Rewrites C' w' (cleared to (first + n)) C'' w'' → AmendsList rs d.lambda e p C w (to - first) C'' w''
     unfolding rewrite_captured
     amends {to} f {C''} {w''} r = record {
       many = λ F A s xs b h o g t.

@@ -14,7 +14,6 @@ use Rattle.pass.specs.Run.{list_entries_most}
 use Rattle.amending.specs.Contract.{CountsHeap}
 use Rattle.lists.specs.Given.{rows_up_to}
 use Rattle.lists.specs.Laws.Sets.{rows_next, rows_none}
-use Rattle.lists.specs.Laws.Counting.{few}
 
 -- What a function of a list does at its first entry, at the row i
 
@@ -47,10 +46,10 @@ heap_start {C} {first} {n} = record {
       ap (λ (i : ℕ). 0 + heap_count (take (first + n - i) (drop i l))) z ∙ ap (λ (i : ℕ). 0 + heap_count (take i (drop first l))) y ∙ omega arith;
 }
 
-module _ {C : List ℕ} {first n h k : ℕ} (inv : (k ≤ n) × (h ≤ k) × Counted C first n h k) where
+module _ {C : List ℕ} {first n h k : ℕ} (inv : Counted C first n h k) where
   pub heap_next : {b : Bool} → Tells put_list_entry no_list_entry (λ x. x.info.captured && x.info.mutated) C (first + k) b → k < n → first + n ≤ list_entries_most
-      → {m : ℕ} → m ≡ h + cond b 1 0 → (k + 1 ≤ n) × (m ≤ k + 1) × Counted C first n m (k + 1)
-  heap_next {b} t g a {m} e = (omega arith, few b e inv.1, record { is = turn })
+      → {m : ℕ} → m ≡ h + cond b 1 0 → Counted C first n m (k + 1)
+  heap_next {b} t g a {m} e = record { is = turn }
     where
       added : (b : Bool) (x : ℕ) → h + cond b (suc x) x ≡ h + cond b 1 0 + x
       added true x = omega arith
@@ -65,15 +64,15 @@ module _ {C : List ℕ} {first n h k : ℕ} (inv : (k ≤ n) × (h ≤ k) × Cou
           ∙ ap (λ (i : ℕ). i + r) e
           ∙ sym (added b r)
           ∙ sym (ap (λ (i : ℕ). h + i) (heap_turn l (first + k) (first + n) (omega arith) (omega arith) b (t.is l p (omega arith))))
-          ∙ inv.2.is l p q
+          ∙ inv.is l p q
 
-  pub heap_last : (e : ListAt) → n ≤ k → first ≡ e.first → n ≡ e.length → e.first + e.length ≤ list_entries_most → CountsHeap C e h × (h ≤ list_entries_most)
-  heap_last e q a b g = (record { is = ended }, omega arith)
+  pub heap_last : (e : ListAt) → k ≤ n → n ≤ k → first ≡ e.first → n ≡ e.length → CountsHeap C e h
+  heap_last e m q a b = record { is = ended }
     where
       ended : (l : List ListEntry) → C ≡ layout put_list_entry l → length l ≡ list_entries_most → h ≡ heap_count (take e.length (drop e.first l))
-      ended l p m =
+      ended l p d =
           let z : k ≡ n = omega arith in
           let y : heap_count (rows_up_to (first + k) (first + n) l) ≡ 0 =
           ap (λ (i : ℕ). heap_count (rows_up_to (first + i) (first + n) l)) z ∙ heap_end l (first + n) in
           let x : heap_count (take n (drop first l)) ≡ heap_count (take e.length (drop e.first l)) = rw (a, b) in
-          omega (arith, inv.2.is l p m)
+          omega (arith, inv.is l p d)

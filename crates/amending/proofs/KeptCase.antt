@@ -13,7 +13,6 @@ use Rattle.tree.specs.Tree.{Ident}
 use Rattle.tree.specs.Check.{member}
 use Rattle.scope_map.specs.ScopeMap.{get}
 use Rattle.scope_map.specs.declared.Found.{Found}
-use Rattle.scope_map.specs.declared.Found.TheVariants as found
 use Rattle.semantic.specs.Rows.{ListEntry, no_list_entry, put_list_entry}
 use Rattle.semantic.specs.ListEntries.{with_enclosing, with_heap}
 use Rattle.semantic.specs.Leaves.{Tells as TellsRow}
@@ -23,7 +22,7 @@ use Rattle.pass.specs.Lists.{name_of, names_of, enclosing_of, count_of, first_of
 use Rattle.pass.specs.Lambda.{name_in}
 use Rattle.pass.specs.Run.{rows_most, list_entries_most}
 use Rattle.pass_laws.specs.Laws.Sound.Known.{sound_newest}
-use Rattle.work.specs.Coded.{record_in, record_of}
+use Rattle.work.specs.Coded.{record_in}
 use Rattle.work.specs.Leaves.{Tells, LoadsEntry}
 use Rattle.work.specs.Scope.{KnownHere}
 use Rattle.work.specs.Captures.{GetsCapture, LoadsCapture}
@@ -31,8 +30,6 @@ use Rattle.work.specs.Laws.Captures.{found_below, captures_few}
 use Rattle.work.specs.declared.Pass.{Pass}
 use Rattle.work.specs.declared.captures.Capture.{Capture as CodedCapture}
 use Rattle.work.specs.declared.entries.Entry.{Entry as Coded}
-use Rattle.work.specs.declared.scope.Binder.{Binder}
-use Rattle.work.specs.declared.scope.Binder.TheVariants as binder
 use Rattle.walk.specs.Marks.{is_marked}
 use Rattle.walk.specs.declared.uses.Names.{Names}
 use Rattle.lists.specs.declared.rows.ListEntry.{ListEntry as Coded-as-ListEntry}
@@ -86,63 +83,63 @@ module _ {C : List ℕ} {first end : ℕ} {m : List ℕ} {name : ℕ} where
 
 -- Whether a name's newest capture comes from the enclosing lambda
 
-module _ {p : Pass} {w : List ℕ} {x : ℕ} {o : Found} (g : GetsCapture p w x o) where
+module _ {p : Pass} {w : List ℕ} {x : ℕ} {o : Option Found} (g : GetsCapture p w x o) where
   abbrev Encloses : Bool → Type 0
   Encloses r = Tells p w (λ s. enclosing_of (get s.captures x)) r
 
-  pub enclosing_none : o ≡ found.Nothing → Encloses false
+  pub enclosing_none : o ≡ None → Encloses false
   enclosing_none e = record { is = λ s k. sym (ap enclosing_of (no_capture-at s x (sym (g.is s k) ∙ e))) }
 
-  module _ {i d v : ℕ} (e : o ≡ found.At i d v) where
-    pub enclosing_inside : {rs : List ℕ} → KnownHere rs p w → i < list_entries_most
+  module _ {f : Found} (e : o ≡ Some f) where
+    pub enclosing_inside : {rs : List ℕ} → KnownHere rs p w → f.row < list_entries_most
     enclosing_inside h =
         omega (arith, found_below h.s.captures.live x (sym (g.is h.s h.works) ∙ e), captures_few h.works)
 
-    pub enclosing_some : {t : CodedCapture} → LoadsCapture w i t → Encloses t.enclosing
+    pub enclosing_some : {t : CodedCapture} → LoadsCapture w f.row t → Encloses t.enclosing
     enclosing_some l = record {
       is = λ s k.
           let at = sym (g.is s k) ∙ e in
           let c = capture-at s x at in
-          ap (λ (u : CodedCapture). u.enclosing) (l.is p s x d v c.capture k at c.is) ∙ sym (ap enclosing_of c.is);
+          ap (λ (u : CodedCapture). u.enclosing) (l.is p s x f.layer f.value c.capture k at c.is) ∙ sym (ap enclosing_of c.is);
     }
 
 module _ {p : Pass} {w : List ℕ} (x n : ℕ) where
-  pub once_no : (n ≡ 1 → ⊥) → Tells p w (λ s. eqb n 1 && enclosing_of (get s.captures x)) false
-  once_no h = record { is = λ s k. sym (ap (λ (b : Bool). b && enclosing_of (get s.captures x)) (ne_eqb n 1 h)) }
+  pub once_no : (n ≡ 1 → ⊥) → Tells p w (λ s. eqb n 1 && enclosing_of (get s.captures x)) (eqb n 1)
+  once_no h = let e = ne_eqb n 1 h in record { is = λ s k. e ∙ sym (ap (λ (b : Bool). b && enclosing_of (get s.captures x)) e) }
 
   pub once_yes : n ≡ 1 → {r : Bool} → Tells p w (λ s. enclosing_of (get s.captures x)) r → Tells p w (λ s. eqb n 1 && enclosing_of (get s.captures x)) r
   once_yes h t = record { is = λ s k. t.is s k ∙ sym (ap (λ (b : Bool). b && enclosing_of (get s.captures x)) (eq-eqb n 1 h)) }
 
 -- What an entry takes from the binder that its name gives
 
-module _ {p : Pass} {w : List ℕ} (x n : ℕ) (v : ScopeInfo) {found : Binder} where
-  pub amended-none : found ≡ binder.Nothing → AmendsInfo found p w x n v v
-  amended-none e = record { is = λ s o k q. go s.scope o (eqb n 1 && enclosing_of (get s.captures x)) (ap record_of (sym e) ∙ q) }
+module _ {p : Pass} {w : List ℕ} (x n : ℕ) (v : ScopeInfo) {found : Option ℕ} where
+  pub amended-none : found ≡ None → AmendsInfo found p w x n v v
+  amended-none e = record { is = λ s o k q. go s.scope o (eqb n 1 && enclosing_of (get s.captures x)) (sym e ∙ q) }
     where
       go : (c : Scope) (o : Option Ident) (q : Bool) → None ≡ record_in o → v ≡ amended_info (list_entry_in c o) q v
       go c None q e = refl
-      go c (Some b) q e = absurd (let z : ◌≡◌ {A = ℕ} 0 1 = cc in omega arith)
+      go c (Some b) q e = cc
 
-  pub amended-some : {b : ℕ} → found ≡ binder.At b → {d : Coded} → LoadsEntry w b d
+  pub amended-some : {b : ℕ} → found ≡ Some b → {d : Coded} → LoadsEntry w b d
       → {q : Bool} → Tells p w (λ s. eqb n 1 && enclosing_of (get s.captures x)) q → AmendsInfo found p w x n v (with_heap d.heap (with_enclosing q v))
   amended-some {b} e {d} l {q} u = record {
     is = λ s o k c.
-        go s.scope o (eqb n 1 && enclosing_of (get s.captures x)) (u.is s k) (ap record_of (sym e) ∙ c) (ap (λ (y : Coded). y.heap) (l.is p s k));
+        go s.scope o (eqb n 1 && enclosing_of (get s.captures x)) (u.is s k) (sym e ∙ c) (ap (λ (y : Coded). y.heap) (l.is p s k));
   }
     where
       go : (c : Scope) (o : Option Ident) (r : Bool) → q ≡ r → Some b ≡ record_in o → d.heap ≡ (entry_in c b).heap_offset
           → with_heap d.heap (with_enclosing q v) ≡ amended_info (list_entry_in c o) r v
-      go c None r e f h = absurd (let z : ◌≡◌ {A = ℕ} 0 1 = cc in omega arith)
+      go c None r e f h = cc
       go c (Some y) r e f h =
           let at : b ≡ y.at = cc in
           let heap : d.heap ≡ (entry_in c y.at).heap_offset = h ∙ ap (λ (j : ℕ). (entry_in c j).heap_offset) at in
           rw (e, heap)
 
-pub amended-inside : {found : Binder} {b : ℕ} → found ≡ binder.At b → SomeBinder found → b < rows_most
-amended-inside {b = b} e h = go h.o refl (ap record_of (sym e) ∙ h.code)
+pub amended-inside : {found : Option ℕ} {b : ℕ} → found ≡ Some b → SomeBinder found → b < rows_most
+amended-inside {b = b} e h = go h.o refl (sym e ∙ h.code)
   where
     go : (o : Option Ident) → h.o ≡ o → Some b ≡ record_in o → b < rows_most
-    go None k q = absurd (let z : ◌≡◌ {A = ℕ} 0 1 = cc in omega arith)
+    go None k q = cc
     go (Some y) k q = let z : b ≡ y.at = cc in omega (arith, h.few y k)
 
 -- The entry that is kept
@@ -151,11 +148,11 @@ same_list-entry : (b : Bool) (y : ListEntry) → cond b y y ≡ y
 same_list-entry true y = refl
 same_list-entry false y = refl
 
-pub offer_here : {rs : List ℕ} {names : Names} {p : Pass} {w index : List ℕ} → IndexHeld rs names p w index → KnownHere rs p w
+pub offer_here : {rs : List ℕ} {names : Names} {p : Pass} {w : List ℕ} {index : List (Option ℕ)} → IndexHeld rs names p w index → KnownHere rs p w
 offer_here h = record { s = h.s; works = h.works; binders = h.good.sound.binders }
 
 -- what the name gives is a binder of the tree
-pub offer_binder : {rs : List ℕ} {names : Names} {p : Pass} {w index : List ℕ} {x : ℕ} {found : Binder} → IndexHeld rs names p w index
+pub offer_binder : {rs : List ℕ} {names : Names} {p : Pass} {w : List ℕ} {index : List (Option ℕ)} {x : ℕ} {found : Option ℕ} → IndexHeld rs names p w index
     → Offers rs names p w index x found → SomeBinder found
 offer_binder {x = x} h t = record {
   o = offered (map name_in h.xs) h.s.scope x;
@@ -163,7 +160,7 @@ offer_binder {x = x} h t = record {
   few = λ b q. (sound_newest (λ y k. k.few) x b h.good.sound (offered-newest (map name_in h.xs) h.s.scope x b q)).few;
 }
 
-module _ {rs : List ℕ} {names : Names} {p : Pass} {w index : List ℕ} {n : ℕ} {seen : Bool} {x : Coded-as-ListEntry} where
+module _ {rs : List ℕ} {names : Names} {p : Pass} {w : List ℕ} {index : List (Option ℕ)} {n : ℕ} {seen : Bool} {x : Coded-as-ListEntry} where
   pub kept_absent : n ≡ 0 → KeepsListEntry rs names p w index n seen x x
   kept_absent h = record {
     is = λ xs b s y told m works idx c e.
@@ -181,7 +178,7 @@ module _ {rs : List ℕ} {names : Names} {p : Pass} {w index : List ℕ} {n : �
         subst (ListEntryIs x) (sym (ap (λ (q : Bool). cond q y (kept_list_entry now s.captures (first_of (name_of y) now) y)) h)) e;
   }
 
-  pub kept_amended : (n ≡ 0 → ⊥) → seen ≡ false → {found : Binder} → Offers rs names p w index x.name found
+  pub kept_amended : (n ≡ 0 → ⊥) → seen ≡ false → {found : Option ℕ} → Offers rs names p w index x.name found
       → {v : ScopeInfo} → AmendsInfo found p w x.name n x.info v
       → KeepsListEntry rs names p w index n seen x (record { name = x.name; binder = x.binder; info = v })
   kept_amended g h {found} t {v} a = record {

@@ -1,4 +1,5 @@
 -- One row of a list that a second run keeps or gives up. No place of the code stands here.
+use Rattle.std.specs.Prelude.{Option}
 use Prim.Native.Nat.{ℕ, ◌<◌}
 use mathlib.Core.List.{List, ◌∷◌}
 use mathlib.Core.Bool.{Bool, true, false, cond, not, ◌||◌}
@@ -21,11 +22,11 @@ use Rattle.lists.specs.Given.{rows_up_to}
 use Rattle.amending.specs.Counts.{now_of, CountsUsed}
 use Rattle.amending.specs.Kept.{Marks, StandsBefore, IndexHeld, KeepsListEntry, is_kept, kept_after, KeepHeld, Right, Seen, KeepsRow}
 
-module _ {rs : List ℕ} {d : Ending} {p : Pass} {index : List ℕ} {first to r : ℕ} {C w : List ℕ} (h : KeepHeld rs d p index first to r C w) where
+module _ {rs : List ℕ} {d : Ending} {p : Pass} {index : List (Option ℕ)} {first to r : ℕ} {C w : List ℕ} (h : KeepHeld rs d p index first to r C w) where
   pub keep_small : {x : Coded} {n : ℕ} → LoadsListEntry C w r x → n ≡ x.binder → n < 4294967296
   keep_small l e = omega (arith, (l.is _ _ _ _ h.held.tied).binder, (h.held.good.sound.list_entries r).1)
 
-  pub keep_index : IndexHeld rs d.names p w index
+  pub keep_index : IndexHeld rs d.lambda.names p w index
   keep_index = record {
     xs = h.ended.lambda.xs;
     told = h.ended.lambda.names;
@@ -37,14 +38,14 @@ module _ {rs : List ℕ} {d : Ending} {p : Pass} {index : List ℕ} {first to r 
 
 module _ {rs : List ℕ} {d : Ending} {p : Pass} {r : ℕ} {C w : List ℕ} {x : Coded} {counts : List ℕ} {n : ℕ} {k : Bool}
     (l : LoadsListEntry C w r x) (c : CountsUsed rs d p w counts x.name n) (q : k ≡ (d.holds || not (eqb n 0))) where
-  told : {index F A : List ℕ} (s : State) (xs : List Ident) (b : Tree) → Right rs d index counts xs b s → Tied (raw p F C A w) s
+  told : {index : List (Option ℕ)} {F A : List ℕ} (s : State) (xs : List Ident) (b : Tree) → Right rs d index counts xs b s → Tied (raw p F C A w) s
       → k ≡ is_kept d.holds (now_of xs b s) (name_of (list_entry_at s r))
   told s xs b h t =
       q
       ∙ ap (λ (j : ℕ). d.holds || not (eqb j 0)) (c.is xs b s h.told h.body h.good t.works h.counted)
       ∙ ap (λ (z : ℕ). is_kept d.holds (now_of xs b s) z) (l.is _ _ _ _ t).name
 
-  pub row_gone : {index m : List ℕ} {first to : ℕ} → k ≡ false → KeepsRow rs d p index counts m first to r C w false m C w
+  pub row_gone : {index : List (Option ℕ)} {m : List ℕ} {first to : ℕ} → k ≡ false → KeepsRow rs d p index counts m first to r C w false m C w
   row_gone {index} {m} {first} {to} e = record {
     is = λ F A s xs b h y t.
         let kept : false ≡ is_kept d.holds (now_of xs b s) (name_of (list_entry_at s r)) = sym e ∙ told s xs b h t in
@@ -59,8 +60,8 @@ module _ {rs : List ℕ} {d : Ending} {p : Pass} {r : ℕ} {C w : List ℕ} {x :
         };
   }
 
-  module _ {index m : List ℕ} {first to : ℕ} (e : k ≡ true) {before : Bool} (f : StandsBefore C first to m x.name before)
-      {v : Coded} (i : KeepsListEntry rs d.names p w index n before x v) {C' w' : List ℕ} (u : StoresListEntry C w to v C' w')
+  module _ {index : List (Option ℕ)} {m : List ℕ} {first to : ℕ} (e : k ≡ true) {before : Bool} (f : StandsBefore C first to m x.name before)
+      {v : Coded} (i : KeepsListEntry rs d.lambda.names p w index n before x v) {C' w' : List ℕ} (u : StoresListEntry C w to v C' w')
       {y : ℕ} (ey : y ≡ x.name) {m' : List ℕ} (g : MarksName m y m') (long : length m' ≡ length m)
     where
       -- the entry as it is kept after the rows before it

@@ -1,17 +1,18 @@
 -- The newest capture of a name, and the offsets that an entry takes from it. No place of the code stands here.
 use Rattle.std.specs.Prelude.{Option, None, Some}
-use Prim.Native.Nat.{ℕ, ◌-◌, ◌<◌}
+use Prim.Native.Nat.{ℕ, ◌-◌, ◌≤◌, ◌<◌}
 use mathlib.Core.List.{List}
-use mathlib.Core.Bool.{Bool, true, false, cond, not}
-use mathlib.Core.Path.{◌≡◌, refl, ap, sym, subst, ◌∙◌}
+use mathlib.Core.Bool.{Bool, true, false, cond}
+use mathlib.Core.Path.{◌≡◌, ap, sym, subst, ◌∙◌}
 use native.Mathlib.Omega.{arith}
-use borrow.Author.Tests.{leb-true, leb-false, lt-ltb, le-ltb}
+use borrow.Author.Tests.{le-leb, lt-leb}
 use lib.ListN.{get_or, set}
-use lib.Dec.{leb, ltb}
+use lib.Dec.{leb}
 use Rattle.table.specs.Layout.{layout}
 use Rattle.scope_map.specs.ScopeMap.{Live, get, depth_of}
+use Rattle.scope_map.specs.Map.{map_value}
+use Rattle.scope_map.specs.Held.{found_at}
 use Rattle.scope_map.specs.declared.Found.{Found}
-use Rattle.scope_map.specs.declared.Found.TheVariants as found
 use Rattle.semantic.specs.Rows.{ListEntry, no_list_entry, put_list_entry}
 use Rattle.semantic.specs.ListEntries.{on_info, with_capture_offsets, with_heap_offsets}
 use Rattle.semantic.specs.Leaves.{Amends, Tells}
@@ -22,11 +23,11 @@ use Rattle.pass.specs.Run.{list_entries_most}
 use Rattle.pass_laws.specs.Laws.Sound.Known.{sound_capture}
 use Rattle.work.specs.Laws.Works.{captures_depth, captured_many}
 use Rattle.work.specs.Captures.{capture_found, GetsCapture}
+use Rattle.work.specs.Works.{row_of}
 use Rattle.work.specs.Laws.Captures.{Looked, no_capture, the_capture, found_capture}
 use Rattle.work.specs.Tied.{raw, Tied, Good}
 use Rattle.work.specs.declared.Pass.{Pass}
 use Rattle.amending.specs.declared.number.Offsets.{Offsets}
-use Rattle.amending.specs.declared.number.Nearby.TheVariants.{Info, Nothing}
 use Rattle.amending.specs.Contract.{SomeHeld}
 use Rattle.amending.specs.Numbered.{TellsNear, offsets_from, PutsOffsets}
 
@@ -38,65 +39,63 @@ pub record CaptureAt (o : Option (Live Capture)) (d v : ℕ) : Type 0 where
   pub layer : capture.layer ≡ d
   pub row : capture.value.row ≡ v
 
-pub no_capture-at : (s : State) (x : ℕ) → capture_found s x ≡ found.Nothing → get s.captures x ≡ None
+pub no_capture-at : (s : State) (x : ℕ) → capture_found s x ≡ None → get s.captures x ≡ None
 no_capture-at s x e = pick (found_capture s.captures.live x)
   where
     pick : Looked s.captures.live x → get s.captures x ≡ None
     pick (no_capture g f) = g
-    pick (the_capture c j g f h) = absurd (let z : ◌≡◌ {A = ℕ} 0 1 = cc in omega arith)
+    pick (the_capture c j g f h) = cc
 
-pub capture-at : (s : State) (x : ℕ) {i d v : ℕ} → capture_found s x ≡ found.At i d v → CaptureAt (get s.captures x) d v
-capture-at s x {i} {d} {v} e = pick (found_capture s.captures.live x)
+pub capture-at : (s : State) (x : ℕ) {f : Found} → capture_found s x ≡ Some f → CaptureAt (get s.captures x) f.layer f.value
+capture-at s x {f} e = pick (found_capture s.captures.live x)
   where
-    pick : Looked s.captures.live x → CaptureAt (get s.captures x) d v
-    pick (no_capture g f) = absurd (let z : ◌≡◌ {A = ℕ} 0 1 = cc in omega arith)
-    pick (the_capture c j g f h) = record { capture = c; is = g; layer = cc; row = cc }
+    pick : Looked s.captures.live x → CaptureAt (get s.captures x) f.layer f.value
+    pick (no_capture g q) = cc
+    pick (the_capture c j g q h) =
+        let z : found_at j (map_value row_of c) ≡ f = cc in
+        record { capture = c; is = g; layer = ap (λ (y : Found). y.layer) z; row = ap (λ (y : Found). y.value) z }
 
 -- Whether it is near
 
-module _ {p : Pass} {w : List ℕ} {x : ℕ} {o : Found} (g : GetsCapture p w x o) where
-  pub near_none : o ≡ found.Nothing → {C : List ℕ} → TellsNear p C w x Nothing
+module _ {p : Pass} {w : List ℕ} {x : ℕ} {o : Option Found} (g : GetsCapture p w x o) where
+  pub near_none : o ≡ None → {C : List ℕ} → TellsNear p C w x None
   near_none e = record {
     is = λ rs F A s h t. sym (ap (near_in s) (no_capture-at s x (sym (g.is s t.works) ∙ e)));
   }
 
-  module _ {i d v : ℕ} (e : o ≡ found.At i d v) where
-    taken : {C F A : List ℕ} (s : State) → Tied (raw p F C A w) s → CaptureAt (get s.captures x) d v
+  module _ {f : Found} (e : o ≡ Some f) where
+    taken : {C F A : List ℕ} (s : State) → Tied (raw p F C A w) s → CaptureAt (get s.captures x) f.layer f.value
     taken s t = capture-at s x (sym (g.is s t.works) ∙ e)
 
     -- it lies in its table
-    inside : {rs C F A : List ℕ} (s : State) → Good rs s → Tied (raw p F C A w) s → v < list_entries_most
+    inside : {rs C F A : List ℕ} (s : State) → Good rs s → Tied (raw p F C A w) s → f.value < list_entries_most
     inside s h t =
         let c = taken s t in
         omega (arith, (sound_capture (λ y k. k.few) x c.capture h.sound c.is).0, c.row)
 
-    pub near-inside : {C : List ℕ} → SomeHeld p C w → v < list_entries_most
+    pub near-inside : {C : List ℕ} → SomeHeld p C w → f.value < list_entries_most
     near-inside h = inside h.held.s h.held.good h.held.tied
 
-    told : {C F A : List ℕ} (s : State) → Tied (raw p F C A w) s → (b : Bool) → b ≡ not (leb (p.captures.depth - d) 1)
-        → near s x ≡ cond b None (Some (info_at s v))
+    told : {C F A : List ℕ} (s : State) → Tied (raw p F C A w) s → (b : Bool) → leb (p.captures.depth - f.layer) 1 ≡ b
+        → near s x ≡ cond b (Some (info_at s f.value)) None
     told s t b q =
         let c = taken s t in
-        let z : depth_of s.captures c.capture ≡ p.captures.depth - d = omega (arith, captures_depth t.works, c.layer) in
+        let z : depth_of s.captures c.capture ≡ p.captures.depth - f.layer = omega (arith, captures_depth t.works, c.layer) in
         ap (near_in s) c.is
         ∙ ap (λ (n : ℕ). cond (leb n 1) (Some (info_at s c.capture.value.row)) None) z
-        ∙ ap (λ (n : ℕ). cond (leb (p.captures.depth - d) 1) (Some (info_at s n)) None) c.row
-        ∙ turned (leb (p.captures.depth - d) 1) b (info_at s v) q
-      where
-        turned : (a b : Bool) (y : ScopeInfo) → b ≡ not a → cond a (Some y) None ≡ cond b None (Some y)
-        turned true b y q = rw q
-        turned false b y q = rw q
+        ∙ ap (λ (n : ℕ). cond (leb (p.captures.depth - f.layer) 1) (Some (info_at s n)) None) c.row
+        ∙ ap (λ (a : Bool). cond a (Some (info_at s f.value)) None) q
 
-    module _ {b : Bool} (q : b ≡ not (leb (p.captures.depth - d) 1)) where
-      pub near_far : b ≡ true → {C : List ℕ} → TellsNear p C w x Nothing
-      near_far k = record { is = λ rs F A s h t. sym (told s t true (sym k ∙ q)) }
+    pub near_far : 1 < p.captures.depth - f.layer → {C : List ℕ} → TellsNear p C w x None
+    near_far k = record { is = λ rs F A s h t. sym (told s t false (lt-leb _ _ k)) }
 
-      pub near_info : b ≡ false → {C : List ℕ} {n : ℕ} {y : ScopeInfo} → n ≡ v → Tells put_list_entry no_list_entry (λ x. x.info) C n y → TellsNear p C w x (Info y)
-      near_info k {n = n} {y} z u = record {
-        is = λ rs F A s h t.
-            let got : y ≡ info_at s v = u.is s.facts.captured t.captured (omega (arith, inside s h t, captured_many t.works)) ∙ ap (info_at s) z in
-            ap {B = Option ScopeInfo} Some got ∙ sym (told s t false (sym k ∙ q));
-      }
+    pub near_info : p.captures.depth - f.layer ≤ 1 → {C : List ℕ} {n : ℕ} {y : ScopeInfo} → n ≡ f.value → Tells put_list_entry no_list_entry (λ x. x.info) C n y
+        → TellsNear p C w x (Some y)
+    near_info k {n = n} {y} z u = record {
+      is = λ rs F A s h t.
+          let got : y ≡ info_at s f.value = u.is s.facts.captured t.captured (omega (arith, inside s h t, captured_many t.works)) ∙ ap (info_at s) z in
+          ap {B = Option ScopeInfo} Some got ∙ sym (told s t true (le-leb _ _ k));
+    }
 
 -- Offsets
 
@@ -113,10 +112,3 @@ module _ {C : List ℕ} {r i : ℕ} {o : Option ScopeInfo} {slot : ℕ} {C' : Li
     puts_capture e w = subst (λ (t : Bool). PutsOffsets C t r i o slot C') (sym e) (record {
       is = λ l k g z. w.is l k g ∙ ap (λ (x : ListEntry). layout put_list_entry (set l r x)) (rw a);
     })
-
-pub far : (n : ℕ) → ltb 1 n ≡ not (leb n 1)
-far n = go (leb n 1) refl
-  where
-    go : (b : Bool) → leb n 1 ≡ b → ltb 1 n ≡ not b
-    go true e = le-ltb 1 n (leb-true n 1 e)
-    go false e = lt-ltb 1 n (leb-false n 1 e)

@@ -1,5 +1,5 @@
 -- How often a name stands in the list made anew, and the entry that it has there. No place of the code stands here.
-use Rattle.std.specs.Prelude.{Option, None, Some}
+use Rattle.std.specs.Prelude.{Option, None, Some, is_some}
 use Prim.Native.Nat.{ℕ, suc, ◌+◌, ◌-◌, ◌≤◌, ◌<◌}
 use mathlib.Core.List.{List, [], ◌∷◌, map}
 use mathlib.Core.Bool.{Bool, true, false, cond, ◌&&◌, ◌||◌}
@@ -20,18 +20,17 @@ use Rattle.pass.specs.Lambda.{name_in, names_used, holds_lambda, now_used}
 use Rattle.pass_laws.specs.Sound.{IsNamed}
 use Rattle.pass_laws.specs.Laws.Sound.Lists.{all_either}
 use Rattle.pass_laws.specs.Laws.Sound.ListEntries.{kept_list_entries}
-use Rattle.work.specs.Coded.{record_in, record_of}
+use Rattle.work.specs.Coded.{record_in}
 use Rattle.work.specs.Scope.{before, TellsLive}
 use Rattle.work.specs.Tied.{Good}
 use Rattle.work.specs.declared.Pass.{Pass}
-use Rattle.work.specs.declared.scope.Binder.{Binder}
 use Rattle.walk.specs.Contract.{UsesName}
 use Rattle.walk.specs.Marks.{is_marked}
 use Rattle.walk.specs.declared.uses.Names.{Names}
 use Rattle.amending.specs.declared.amend.Ending.{Ending}
 use Rattle.lists.specs.Contract.{Told}
 use Rattle.lists.specs.Index.{offered}
-use Rattle.lists.specs.Given.{given, with_given, is_some, StartsAbove, Gives}
+use Rattle.lists.specs.Given.{given, with_given, StartsAbove, Gives}
 use Rattle.lists.specs.Laws.Given.{captured_step, indexes_none, given-offered, given-newest}
 use Rattle.amending.specs.Counts.{GivesName, CountsNow, now_of, used_in, MarksBody, TellsUsed, CountsUsed}
 use Rattle.amending.specs.Kept.{list_entry_in}
@@ -42,7 +41,7 @@ use Rattle.lists.specs.Laws.Bottom.{none_before}
 
 named_in : (l : List (Live Ident)) → All IsNamed l → (x : ℕ) (b : Ident) → binder_in (get_in l x) ≡ Some b → b.name ≡ x
 unfolding get_in
-named_in [] a x b q = absurd (let z : ◌≡◌ {A = ℕ} 0 1 = cc in omega arith)
+named_in [] a x b q = cc
 named_in (e ∷ l) a x b q = pick (eqb e.name x) refl q (named_in l a.1 x b)
   where
     pick : (t : Bool) → eqb e.name x ≡ t → binder_in (cond t (Some e) (get_in l x)) ≡ Some b → (binder_in (get_in l x) ≡ Some b → b.name ≡ x) → b.name ≡ x
@@ -70,14 +69,14 @@ count_with c (Some b) l x y h =
     go false = omega arith
 
 module _ {rs : List ℕ} {n : Names} {p : Pass} {w : List ℕ} {i : ℕ} {r : Row} {name : ℕ} (t : TellsLive p w i r) where
-  pub gives_no : (r.name ≡ name → ⊥) → GivesName rs n p w i name false
+  pub gives_no : (r.name ≡ name → ⊥) → GivesName rs n p w i name (eqb r.name name)
   gives_no h = record {
     is = λ xs s e k works up.
         let q : eqb e.name name ≡ false = ne_eqb e.name name (λ z. h ((live_is t works up).0 ∙ z)) in
-        sym (ap (λ (b : Bool). b && is_some (record_in (given (map name_in xs) s.scope e))) q);
+        ne_eqb r.name name h ∙ sym (ap (λ (b : Bool). b && is_some (record_in (given (map name_in xs) s.scope e))) q);
   }
 
-  pub gives_yes : r.name ≡ name → {a : Binder} {b : Bool} → Gives rs n p w [] i a → b ≡ is_some (record_of a) → GivesName rs n p w i name b
+  pub gives_yes : r.name ≡ name → {a : Option ℕ} {b : Bool} → Gives rs n p w [] i a → b ≡ is_some a → GivesName rs n p w i name b
   gives_yes h g q = record {
     is = λ xs s e k works up.
         let z : eqb e.name name ≡ true = eq-eqb e.name name (sym (live_is t works up).0 ∙ h) in
@@ -113,8 +112,8 @@ module _ {rs : List ℕ} {names : Names} {p : Pass} {w : List ℕ} {name : ℕ} 
     now_last a e = record {
       is = λ xs s k y works.
           let ps = map name_in xs in
-          let None = ap (λ (j : ℕ). count_of name (captured_in ps s (before j s.scope.names.live))) e ∙ ap (count_of name) (none_before a s ps works) in
-          omega (arith, (u.is s works).is xs k y, None);
+          let rest = ap (λ (j : ℕ). count_of name (captured_in ps s (before j s.scope.names.live))) e ∙ ap (count_of name) (none_before a s ps works) in
+          omega (arith, (u.is s works).is xs k y, rest);
     }
 
 -- Those that the body uses
@@ -153,7 +152,7 @@ module _ {rs : List ℕ} {d : Ending} {m : List ℕ} {name : ℕ} where
   used-held h = record { is = λ b y k. sym (ap (λ (q : Bool). q || member name (names_used b)) (sym y.holds ∙ h)) }
 
   module _ (h : d.holds ≡ false) where
-    pub used_searched : {r : Bool} → UsesName rs d.first d.end name r → TellsUsed rs d m name r
+    pub used_searched : {r : Bool} → UsesName rs d.lambda.first d.lambda.end name r → TellsUsed rs d m name r
     used_searched t = record {
       is = λ b y k. t.is y.lies.many b y.lies.stands y.lies.ends ∙ sym (ap (λ (q : Bool). q || member name (names_used b)) (sym y.holds ∙ h));
     }
@@ -171,7 +170,7 @@ marks-none = record { is = λ e. record { is = λ x h. absurd (omega arith) } }
 
 module _ {rs : List ℕ} {d : Ending} {p : Pass} {w : List ℕ} {name : ℕ} where
   module _ {u : Bool} (t : TellsUsed rs d [] name u) where
-    pub used_yes : {n : ℕ} → u ≡ true → CountsNow rs d.names p w name n → CountsUsed rs d p w [] name n
+    pub used_yes : {n : ℕ} → u ≡ true → CountsNow rs d.lambda.names p w name n → CountsUsed rs d p w [] name n
     used_yes {n} e c = record {
       is = λ xs b s k y m works z.
           let l = captured_vars (map name_in xs) s in

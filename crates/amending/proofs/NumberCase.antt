@@ -2,7 +2,7 @@
 use Rattle.std.specs.Prelude.{Option}
 use Prim.Native.Nat.{ℕ, zero, suc, ◌+◌, ◌-◌, ◌≤◌, ◌<◌}
 use mathlib.Core.List.{List, [], ◌∷◌}
-use mathlib.Core.Bool.{Bool, true, false, cond, not}
+use mathlib.Core.Bool.{Bool, true, false, cond, not, beq}
 use mathlib.Core.Path.{◌≡◌, refl, ap, sym, subst, ◌∙◌}
 use native.Mathlib.Omega.{arith}
 use borrow.Author.Tests.{ltb-false}
@@ -23,7 +23,6 @@ use Rattle.work.specs.Tied.{raw, Tied, Good}
 use Rattle.work.specs.Laws.Good.{good_where}
 use Rattle.work.specs.declared.Pass.{Pass}
 use Rattle.lists.specs.declared.rows.ListEntry.{ListEntry as Coded}
-use Rattle.amending.specs.declared.number.Numbered.{Numbered}
 use Rattle.lists.specs.Contract.{LoadsListEntry, Inside}
 use Rattle.amending.specs.Contract.{SomeHeld, CapturesRoom, Numbers}
 use Rattle.amending.specs.Numbered.{numbered_by, is_due, numbered_row, TakeHeld, TakesRow, RowHeld, row_done, NumbersRow, due, RowsHeld, rows_done, NumbersRows, TellsMutated}
@@ -153,10 +152,16 @@ none-due heap (suc k) r i s z = go (is_due heap (list_entry_at s r)) z (none-due
 
 -- One row
 
-module _ (heap : Bool) {r : ℕ} {p : Pass} {C w : List ℕ} {x : Coded} (l : LoadsListEntry C w r x) {b : Bool}
-    (q : b ≡ cond heap x.info.mutated (not x.info.mutated)) where
+module _ (heap : Bool) {r : ℕ} {p : Pass} {C w : List ℕ} {x : Coded} (l : LoadsListEntry C w r x) {b : Bool} (q : beq x.info.mutated heap ≡ b) where
   due_is : {F A : List ℕ} {s : State} → Tied (raw p F C A w) s → is_due heap (list_entry_at s r) ≡ b
-  due_is t = sym (q ∙ ap (λ (v : ScopeInfo). cond heap v.mutated (not v.mutated)) (l.is _ _ _ _ t).info)
+  due_is t =
+      go heap _ ∙ ap (λ (v : ScopeInfo). beq v.mutated heap) (sym (l.is _ _ _ _ t).info) ∙ q
+    where
+      go : (heap m : Bool) → cond heap m (not m) ≡ beq m heap
+      go true true = refl
+      go true false = refl
+      go false true = refl
+      go false false = refl
 
   pub row-taken : RowHeld heap r p C w → b ≡ true → TakeHeld r x p C w
   row-taken h e =
@@ -169,14 +174,14 @@ module _ (heap : Bool) {r : ℕ} {p : Pass} {C w : List ℕ} {x : Coded} (l : Lo
         room = omega (arith, h.room, ap {B = ℕ} (λ (c : Bool). cond c 1 0) d);
       }
 
-  pub row-left : {i : ℕ} → b ≡ false → NumbersRow heap r i p C w (record { pass = p; next = i }) C w
+  pub row-left : {i : ℕ} → b ≡ false → NumbersRow heap r i p C w (p, i) C w
   row-left {i} e = record {
     is = λ rs F A s g t. subst (λ (c : Bool). Tied (raw p F C A w) (cond c (numbered_row heap r i s) s)) (sym (due_is t ∙ e)) t;
     next = λ rs F A s g t. ap (λ (c : Bool). cond c (suc i) i) (sym (due_is t ∙ e));
   }
 
   pub row-numbered : {i : ℕ} {u : Pass} {C' w' : List ℕ} → b ≡ true → TakesRow heap r i x p C w u C' w'
-      → NumbersRow heap r i p C w (record { pass = u; next = i + 1 }) C' w'
+      → NumbersRow heap r i p C w (u, i + 1) C' w'
   row-numbered {i} {u} {C'} {w'} e k = record {
     is = λ rs F A s g t.
         subst (λ (c : Bool). Tied (raw u F C' A w') (cond c (numbered_row heap r i s) s)) (sym (due_is t ∙ e)) (k.is rs F A s g t (l.is _ _ _ _ t));
@@ -225,8 +230,8 @@ module _ {heap : Bool} {n first : ℕ} {p : Pass} {C w : List ℕ} where
         ∙ ap (λ (a : ℕ). rows_done heap (n - (k + 1)) (suc (first + k)) a t) e
         ∙ sym (ap (λ (a : ℕ). rows_done heap a (first + k) i s) y)
 
-    pub numbering_next : {o : Numbered} {C'' w'' : List ℕ} → NumbersRow heap (first + k) i q C' w' o C'' w''
-        → Numbering heap n first p C w (k + 1) o.next o.pass C'' w''
+    pub numbering_next : {o : Pass × ℕ} {C'' w'' : List ℕ} → NumbersRow heap (first + k) i q C' w' o C'' w''
+        → Numbering heap n first p C w (k + 1) o.1 o.0 C'' w''
     numbering_next {o} {C''} {w''} a = record {
       left = λ rs F A s y z.
           let l = m.left rs F A s y z in
@@ -267,9 +272,9 @@ module _ {heap : Bool} {n first : ℕ} {p : Pass} {C w : List ℕ} where
     is = λ rs F A s g t.
         let l = m.left rs F A s g t in
         let z : n - k ≡ 0 = omega arith in
-        let None : l.t ≡ rows_done heap n first 0 s = sym (ap (λ (j : ℕ). rows_done heap j (first + k) i l.t) z) ∙ l.rest in
+        let ended : l.t ≡ rows_done heap n first 0 s = sym (ap (λ (j : ℕ). rows_done heap j (first + k) i l.t) z) ∙ l.rest in
         let whole : rows_done heap n first 0 s ≡ rows_done heap e.length e.first 0 s = rw (a, b) in
-        subst (Tied (raw q F C' A w')) (None ∙ whole) l.tied;
+        subst (Tied (raw q F C' A w')) (ended ∙ whole) l.tied;
   }
 
 -- Both

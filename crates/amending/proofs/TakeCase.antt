@@ -1,5 +1,6 @@
 -- A row of a lambda's list takes its number and becomes a capture. No place of the code stands here.
-use Rattle.std.specs.Prelude.{Option}
+use Rattle.std.specs.Prelude.{Option, None, Some}
+use Rattle.std.specs.Option.{is_some}
 use Prim.Native.Nat.{ℕ, zero, suc, ◌+◌, ◌*◌, ◌≤◌, ◌<◌}
 use mathlib.Core.List.{List, [], ◌∷◌, ◌++◌}
 use mathlib.Core.Bool.{Bool}
@@ -24,9 +25,8 @@ use Rattle.work.specs.Tied.{Good}
 use Rattle.work.specs.declared.Pass.{Pass}
 use Rattle.work.specs.declared.captures.Capture.{Capture as CodedCapture}
 use Rattle.lists.specs.declared.rows.ListEntry.{ListEntry as Coded}
-use Rattle.amending.specs.declared.number.Nearby.{Nearby}
 use Rattle.lists.specs.Contract.{ListEntryIs}
-use Rattle.amending.specs.Numbered.{near_of, TellsNear, numbered_by, PutsOffsets, taken_by, TakeHeld, TakesRow}
+use Rattle.amending.specs.Numbered.{TellsNear, numbered_by, PutsOffsets, taken_by, TakeHeld, TakesRow}
 
 -- a row with the same numbers
 same_row : {A : Type 0} (put : A → List ℕ) (d : A) (l : List A) (i : ℕ) (a : A) → put a ≡ put (get_or l i d) → layout put (set l i a) ≡ layout put l
@@ -68,15 +68,19 @@ module _ {r : ℕ} {x : Coded} {p : Pass} {C w : List ℕ} (h : TakeHeld r x p C
   pub take_room : 3 * p.captures.length + 3 ≤ rows_length
   take_room = omega (arith, h.room, captures_many h.held.tied.works)
 
-pub takes : {heap : Bool} {r i : ℕ} {x : Coded} {p : Pass} {C w : List ℕ} {o : Nearby} {C' : List ℕ} {b : Bool} {t : CodedCapture} {q : Pass} {w' : List ℕ}
-    → r < list_entries_most → TellsNear p C w x.name o → PutsOffsets C heap r i (near_of o) x.info.stack_offset C' → b ≡ is_near (near_of o)
+pub some_near : (o : Option ScopeInfo) → is_some o ≡ is_near o
+some_near None = refl
+some_near (Some v) = refl
+
+pub takes : {heap : Bool} {r i : ℕ} {x : Coded} {p : Pass} {C w : List ℕ} {o : Option ScopeInfo} {C' : List ℕ} {b : Bool} {t : CodedCapture} {q : Pass} {w' : List ℕ}
+    → r < list_entries_most → TellsNear p C w x.name o → PutsOffsets C heap r i o x.info.stack_offset C' → b ≡ is_near o
     → t ≡ taken_by x b → DefinesCapture p w x.name r t q w' → TakesRow heap r i x p C w q C' w'
 unfolding number_row
 takes {heap} {r} {i} {x} {p} {C} {w} {o} {C'} {b} {t} {q} {w'} inside n k eb et d = record {
   is = λ rs F A s g y e.
       let z = list_entry_at s r in
       let named : x.name ≡ z.binder.name = e.name in
-      let found : near_of o ≡ near s z.binder.name = n.is rs F A s g y ∙ ap (near s) named in
+      let found : o ≡ near s z.binder.name = n.is rs F A s g y ∙ ap (near s) named in
       let slot : z.info.stack_offset ≡ x.info.stack_offset = sym (ap (λ (v : ScopeInfo). v.stack_offset) e.info) in
       let m = near s z.binder.name in
       let far : b ≡ is_near m = eb ∙ ap is_near found in

@@ -1,4 +1,5 @@
 -- All names counted in one walk over the live names. No place of the code stands here.
+use Rattle.std.specs.Prelude.{Option, is_some}
 use Prim.Native.Nat.{ℕ, suc, ◌+◌, ◌≤◌, ◌<◌}
 use mathlib.Core.List.{List, [], ◌∷◌, map}
 use mathlib.Core.Bool.{Bool, true, false, cond, ◌&&◌}
@@ -16,18 +17,17 @@ use Rattle.pass.specs.State.{State}
 use Rattle.pass.specs.Lists.{captured_in, captured_vars, count_of}
 use Rattle.pass.specs.Lambda.{name_in, now_used}
 use Rattle.pass_laws.specs.Laws.Sound.Lists.{set_each}
-use Rattle.work.specs.Coded.{record_in, record_of}
+use Rattle.work.specs.Coded.{record_in}
 use Rattle.work.specs.Works.{Works}
 use Rattle.work.specs.Scope.{before, TellsLive}
 use Rattle.work.specs.Tied.{Good}
 use Rattle.work.specs.declared.Pass.{Pass}
-use Rattle.work.specs.declared.scope.Binder.{Binder}
 use Rattle.walk.specs.Marks.{Unmarked}
 use Rattle.amending.specs.declared.amend.Ending.{Ending}
 use Rattle.amending.specs.Contract.{Body}
 use Rattle.lists.specs.Contract.{Told}
 use Rattle.lists.specs.Index.{Indexes, Zeros}
-use Rattle.lists.specs.Given.{given, with_given, is_some, Gives}
+use Rattle.lists.specs.Given.{given, with_given, Gives}
 use Rattle.amending.specs.Counts.{used_in, MarksBody, TellsUsed, AtMost, CountsRow, CountsRows, CountsNames}
 use Rattle.lists.specs.Laws.Live.{live_is, Upto, upto_none, all_upto, upto_next}
 use Rattle.lists.specs.Laws.Given.{captured_step}
@@ -60,15 +60,15 @@ module _ {rs : List ℕ} {d : Ending} {p : Pass} {w m : List ℕ} {i : ℕ} {r :
   used_is {b = b} works up body mb = ap (used_in b) (sym (live_is t works up).0) ∙ sym (k.is b body mb)
 
   -- and gives an entry
-  gives_is : {index : List ℕ} {f : Binder} → Gives rs d.names p w index i f → {v : Bool} → v ≡ is_some (record_of f) → u ≡ true
-      → {xs : List Ident} {s : State} {e : Live Ident} {b : Tree} → Told rs d.names xs → Body rs d b → Works p w s → Indexes index (map name_in xs) s.scope
+  gives_is : {index : List (Option ℕ)} {f : Option ℕ} → Gives rs d.lambda.names p w index i f → {v : Bool} → v ≡ is_some f → u ≡ true
+      → {xs : List Ident} {s : State} {e : Live Ident} {b : Tree} → Told rs d.lambda.names xs → Body rs d b → Works p w s → Indexes index (map name_in xs) s.scope
       → MarksBody rs d m → before (suc i) s.scope.names.live ≡ e ∷ before i s.scope.names.live
       → (used_in b e.name && is_some (record_in (given (map name_in xs) s.scope e))) ≡ v
   gives_is g ev q {xs} {s} {e} told body works idx mb up =
       ap (λ (c : Bool). c && is_some (record_in (given (map name_in xs) s.scope e))) (used_is works up body mb ∙ q)
       ∙ sym (ev ∙ ap is_some (g.is xs s e told works idx up))
 
-module _ {rs : List ℕ} {d : Ending} {p : Pass} {w index m : List ℕ} {i : ℕ} {r : Row} (t : TellsLive p w i r) (a : List ℕ) (most : AtMost i a) where
+module _ {rs : List ℕ} {d : Ending} {p : Pass} {w : List ℕ} {index : List (Option ℕ)} {m : List ℕ} {i : ℕ} {r : Row} (t : TellsLive p w i r) (a : List ℕ) (most : AtMost i a) where
   -- the counts do not have the name
   pub row_past : {n : ℕ} → n ≡ r.name → length a ≤ n → CountsRow rs d p w index m i a a
   row_past {n} named g = record {
@@ -90,7 +90,7 @@ module _ {rs : List ℕ} {d : Ending} {p : Pass} {w index m : List ℕ} {i : ℕ
           omega arith;
     }
 
-    module _ {f : Binder} (g : Gives rs d.names p w index i f) {v : Bool} (ev : v ≡ is_some (record_of f)) (q : u ≡ true) where
+    module _ {f : Option ℕ} (g : Gives rs d.lambda.names p w index i f) {v : Bool} (ev : v ≡ is_some f) (q : u ≡ true) where
       pub row-none : v ≡ false → CountsRow rs d p w index m i a a
       row-none z = record {
         most = λ x. omega (arith, most x);
@@ -112,12 +112,12 @@ module _ {rs : List ℕ} {d : Ending} {p : Pass} {w index m : List ℕ} {i : ℕ
 
 -- the names before row i are counted
 
-abbrev Tally : List ℕ → Ending → List ℕ → List ℕ → List ℕ → State → List (Live Ident) → Type 0
+abbrev Tally : List ℕ → Ending → List (Option ℕ) → List ℕ → List ℕ → State → List (Live Ident) → Type 0
 Tally rs d index m a s l =
-    (xs : List Ident) (b : Tree) → Told rs d.names xs → Body rs d b → Good rs s → Indexes index (map name_in xs) s.scope → MarksBody rs d m
+    (xs : List Ident) (b : Tree) → Told rs d.lambda.names xs → Body rs d b → Good rs s → Indexes index (map name_in xs) s.scope → MarksBody rs d m
     → (x : ℕ) → x < length a → get_or a x 0 ≡ count_of x (now_used b (captured_in (map name_in xs) s l))
 
-pub record TalliedTo (rs : List ℕ) (d : Ending) (p : Pass) (w index m : List ℕ) (i : ℕ) (a : List ℕ) : Type 0 where
+pub record TalliedTo (rs : List ℕ) (d : Ending) (p : Pass) (w : List ℕ) (index : List (Option ℕ)) (m : List ℕ) (i : ℕ) (a : List ℕ) : Type 0 where
   pub most : AtMost i a
   pub upto : Upto p w (Tally rs d index m a) i
 
@@ -126,7 +126,7 @@ more true e o c = refl
 more false true o c = refl
 more false false o c = refl
 
-module _ {rs : List ℕ} {d : Ending} {p : Pass} {w index m : List ℕ} where
+module _ {rs : List ℕ} {d : Ending} {p : Pass} {w : List ℕ} {index : List (Option ℕ)} {m : List ℕ} where
   pub tally_start : {a : List ℕ} → Zeros a → TalliedTo rs d p w index m 0 a
   unfolding captured_in count_of
   tally_start z = record {

@@ -48,16 +48,13 @@ pub record SomeLambda (rs : List ℕ) (l : Lambda) : Type 0 where
 
 -- a lambda of which it is known whether its body holds one
 
-abbrev pub lambda_of : Ending → Lambda
-lambda_of d = record { names = d.names; first = d.first; end = d.end }
-
 pub record Body (rs : List ℕ) (d : Ending) (b : Tree) : Type 0 where
-  pub lies : HasBody rs (lambda_of d) b
+  pub lies : HasBody rs d.lambda b
   pub holds : d.holds ≡ holds_lambda b
 
 pub record Ended (rs : List ℕ) (d : Ending) : Type 0 where
-  pub lambda : SomeLambda rs (lambda_of d)
-  pub holds : HoldsLambda rs d.first d.end d.holds
+  pub lambda : SomeLambda rs d.lambda
+  pub holds : HoldsLambda rs d.lambda.first d.lambda.end d.holds
 
 abbrev pub amended_list : List Ident → Tree → ListAt → State → List ListEntry
 amended_list xs b e s =

@@ -12,11 +12,10 @@ use Rattle.pass.specs.State.{State, Scope, Capture, list_entry_at, list_entry_of
 use Rattle.pass.specs.Lists.{name_of, names_of, count_of, first_of, kept_list_entry, enclosing_of}
 use Rattle.pass.specs.Lambda.{name_in}
 use Rattle.pass.specs.Run.{rows_most, list_entries_most}
-use Rattle.work.specs.Coded.{record_in, record_of}
+use Rattle.work.specs.Coded.{record_in}
 use Rattle.work.specs.Works.{Works}
 use Rattle.work.specs.Tied.{Raw, raw, Tied, Good}
 use Rattle.work.specs.declared.Pass.{Pass}
-use Rattle.work.specs.declared.scope.Binder.{Binder}
 use Rattle.walk.specs.Marks.{is_marked}
 use Rattle.walk.specs.declared.uses.Names.{Names}
 use Rattle.lists.specs.declared.rows.ListEntry.{ListEntry as Coded}
@@ -47,17 +46,17 @@ amended_info None enclosing v = v
 amended_info (Some i) enclosing v = with_heap i.info.heap_offset (with_enclosing enclosing v)
 
 -- a binder whose record lies inside the table, if any
-pub record SomeBinder (found : Binder) : Type 0 where
+pub record SomeBinder (found : Option ℕ) : Type 0 where
   pub o : Option Ident
-  pub code : record_of found ≡ record_in o
+  pub code : found ≡ record_in o
   pub few : (b : Ident) → o ≡ Some b → b.at < rows_most
 
-pub record AmendsInfo (found : Binder) (p : Pass) (w : List ℕ) (name n : ℕ) (v r : ScopeInfo) : Type 0 where
-  pub is : (s : State) (o : Option Ident) → Works p w s → record_of found ≡ record_in o
+pub record AmendsInfo (found : Option ℕ) (p : Pass) (w : List ℕ) (name n : ℕ) (v r : ScopeInfo) : Type 0 where
+  pub is : (s : State) (o : Option Ident) → Works p w s → found ≡ record_in o
       → r ≡ amended_info (list_entry_in s.scope o) (eqb n 1 && enclosing_of (get s.captures name)) v
 
 -- a state is held for which the index is right
-pub record IndexHeld (rs : List ℕ) (n : Names) (p : Pass) (w index : List ℕ) : Type 0 where
+pub record IndexHeld (rs : List ℕ) (n : Names) (p : Pass) (w : List ℕ) (index : List (Option ℕ)) : Type 0 where
   pub xs : List Ident
   pub told : Told rs n xs
   pub s : State
@@ -66,7 +65,7 @@ pub record IndexHeld (rs : List ℕ) (n : Names) (p : Pass) (w index : List ℕ)
   pub indexes : Indexes index (map name_in xs) s.scope
 
 -- the entry x of a name that stands n times in the list made anew, as it is kept if one of its name is kept before it or not
-pub record KeepsListEntry (rs : List ℕ) (names : Names) (p : Pass) (w index : List ℕ) (n : ℕ) (seen : Bool) (x r : Coded) : Type 0 where
+pub record KeepsListEntry (rs : List ℕ) (names : Names) (p : Pass) (w : List ℕ) (index : List (Option ℕ)) (n : ℕ) (seen : Bool) (x r : Coded) : Type 0 where
   pub is : (xs : List Ident) (b : Tree) (s : State) (y : ListEntry) → Told rs names xs → Good rs s → Works p w s → Indexes index (map name_in xs) s.scope
       → n ≡ count_of x.name (now_of xs b s) → ListEntryIs x y
       → ListEntryIs r (cond seen y (kept_list_entry (now_of xs b s) s.captures (first_of (name_of y) (now_of xs b s)) y))
@@ -88,7 +87,7 @@ kept_row holds now m first to x l = cond (is_kept holds now (name_of x)) (set l 
 abbrev pub kept_names : Bool → List ListEntry → ℕ → List ℕ → List ℕ
 kept_names holds now x l = cond (is_kept holds now x) (x ∷ l) l
 
-pub record KeepHeld (rs : List ℕ) (d : Ending) (p : Pass) (index : List ℕ) (first to r : ℕ) (C w : List ℕ) : Type 0 where
+pub record KeepHeld (rs : List ℕ) (d : Ending) (p : Pass) (index : List (Option ℕ)) (first to r : ℕ) (C w : List ℕ) : Type 0 where
   pub ended : Ended rs d
   pub held : Held rs p C w
   pub indexes : Indexes index (map name_in ended.lambda.xs) held.s.scope
@@ -97,8 +96,8 @@ pub record KeepHeld (rs : List ℕ) (d : Ending) (p : Pass) (index : List ℕ) (
   pub inside : r < list_entries_most
 
 -- the index and the counts are right in a state that is good
-pub record Right (rs : List ℕ) (d : Ending) (index counts : List ℕ) (xs : List Ident) (b : Tree) (s : State) : Type 0 where
-  pub told : Told rs d.names xs
+pub record Right (rs : List ℕ) (d : Ending) (index : List (Option ℕ)) (counts : List ℕ) (xs : List Ident) (b : Tree) (s : State) : Type 0 where
+  pub told : Told rs d.lambda.names xs
   pub body : Body rs d b
   pub good : Good rs s
   pub indexes : Indexes index (map name_in xs) s.scope
@@ -114,15 +113,15 @@ pub record RowKept (holds : Bool) (now : List ListEntry) (first to r : ℕ) (s :
   pub kept : k ≡ is_kept holds now (name_of (list_entry_at s r))
   pub seen : Marks m (kept_names holds now (name_of (list_entry_at s r)) (names_of (rows_up_to first to s.facts.captured)))
 
-module _ (rs : List ℕ) (d : Ending) (p : Pass) (index counts : List ℕ) (m : List ℕ) (first to r : ℕ) (C w : List ℕ) where
+module _ (rs : List ℕ) (d : Ending) (p : Pass) (index : List (Option ℕ)) (counts : List ℕ) (m : List ℕ) (first to r : ℕ) (C w : List ℕ) where
   pub record KeepsRow (k : Bool) (m' C' w' : List ℕ) : Type 0 where
     pub is : (F A : List ℕ) (s : State) (xs : List Ident) (b : Tree) → Right rs d index counts xs b s → Seen m first to s → Tied (raw p F C A w) s
         → RowKept d.holds (now_of xs b s) first to r s (raw p F C' A w') k m'
 
 -- the index and the counts are right in every state held
-pub record AllRight (rs : List ℕ) (d : Ending) (p : Pass) (w index counts : List ℕ) : Type 0 where
-  pub indexes : (xs : List Ident) (s : State) → Told rs d.names xs → Works p w s → Indexes index (map name_in xs) s.scope
-  pub counted : (xs : List Ident) (b : Tree) (s : State) → Told rs d.names xs → Body rs d b → Good rs s → Works p w s → Counts counts (now_of xs b s)
+pub record AllRight (rs : List ℕ) (d : Ending) (p : Pass) (w : List ℕ) (index : List (Option ℕ)) (counts : List ℕ) : Type 0 where
+  pub indexes : (xs : List Ident) (s : State) → Told rs d.lambda.names xs → Works p w s → Indexes index (map name_in xs) s.scope
+  pub counted : (xs : List Ident) (b : Tree) (s : State) → Told rs d.lambda.names xs → Body rs d b → Good rs s → Works p w s → Counts counts (now_of xs b s)
 
 -- What the list gives up
 

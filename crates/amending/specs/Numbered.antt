@@ -1,5 +1,5 @@
 -- A lambda's list numbered, row by row: what the code holds, and what its functions promise.
-use Rattle.std.specs.Prelude.{ℕ, zero, suc, ◌+◌, ◌≤◌, ◌<◌, List, Bool, true, false, cond, not, ◌≡◌, length, get_or, set, ltb, Option, None, Some}
+use Rattle.std.specs.Prelude.{ℕ, zero, suc, ◌+◌, ◌≤◌, ◌<◌, List, Bool, true, false, cond, not, ◌≡◌, length, get_or, set, ltb, Option}
 use Rattle.table.specs.Layout.{layout}
 use Rattle.semantic.specs.Rows.{ListEntry, no_list_entry, put_list_entry}
 use Rattle.semantic.specs.ListEntries.{on_info}
@@ -12,18 +12,11 @@ use Rattle.work.specs.Tied.{raw, Tied, Good}
 use Rattle.work.specs.declared.Pass.{Pass}
 use Rattle.work.specs.declared.captures.Capture.{Capture as CodedCapture}
 use Rattle.lists.specs.declared.rows.ListEntry.{ListEntry as Coded}
-use Rattle.amending.specs.declared.number.Nearby.{Nearby}
-use Rattle.amending.specs.declared.number.Nearby.TheVariants.{Info, Nothing}
 use Rattle.amending.specs.declared.number.Offsets.{Offsets}
-use Rattle.amending.specs.declared.number.Numbered.{Numbered}
 use Rattle.lists.specs.Contract.{ListEntryIs, Held}
 
-abbrev pub near_of : Nearby → Option ScopeInfo
-near_of (Info v) = Some v
-near_of Nothing = None
-
-pub record TellsNear (p : Pass) (C w : List ℕ) (x : ℕ) (r : Nearby) : Type 0 where
-  pub is : (rs F A : List ℕ) (s : State) → Good rs s → Tied (raw p F C A w) s → near_of r ≡ near s x
+pub record TellsNear (p : Pass) (C w : List ℕ) (x : ℕ) (r : Option ScopeInfo) : Type 0 where
+  pub is : (rs F A : List ℕ) (s : State) → Good rs s → Tied (raw p F C A w) s → r ≡ near s x
 
 -- the offsets of the newest capture, where it is near, else an entry's own number and slot
 abbrev pub offsets_from : Option ScopeInfo → ℕ → ℕ → Offsets
@@ -71,9 +64,9 @@ pub record RowHeld (heap : Bool) (r : ℕ) (p : Pass) (C w : List ℕ) : Type 0 
 abbrev pub row_done : Bool → ℕ → ℕ → State → State
 row_done heap r i s = cond (is_due heap (list_entry_at s r)) (numbered_row heap r i s) s
 
-pub record NumbersRow (heap : Bool) (r i : ℕ) (p : Pass) (C w : List ℕ) (o : Numbered) (C' w' : List ℕ) : Type 0 where
-  pub is : (rs F A : List ℕ) (s : State) → Good rs s → Tied (raw p F C A w) s → Tied (raw o.pass F C' A w') (row_done heap r i s)
-  pub next : (rs F A : List ℕ) (s : State) → Good rs s → Tied (raw p F C A w) s → o.next ≡ cond (is_due heap (list_entry_at s r)) (suc i) i
+pub record NumbersRow (heap : Bool) (r i : ℕ) (p : Pass) (C w : List ℕ) (o : Pass × ℕ) (C' w' : List ℕ) : Type 0 where
+  pub is : (rs F A : List ℕ) (s : State) → Good rs s → Tied (raw p F C A w) s → Tied (raw o.0 F C' A w') (row_done heap r i s)
+  pub next : (rs F A : List ℕ) (s : State) → Good rs s → Tied (raw p F C A w) s → o.1 ≡ cond (is_due heap (list_entry_at s r)) (suc i) i
 
 -- Rows one after another
 

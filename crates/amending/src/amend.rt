@@ -8,7 +8,7 @@ ghost use Rattle.pass.specs.Run.{list_entries_most, list_entries_length};
 ghost use Rattle.work.specs.Leaves.{Tells};
 ghost use Rattle.work.specs.Works.{work_long};
 ghost use Rattle.walk.specs.Marks.{Unmarked};
-ghost use Rattle.amending.specs.Contract.{SomeLambda, lambda_of, Ended, AmendsList};
+ghost use Rattle.amending.specs.Contract.{SomeLambda, Ended, AmendsList};
 ghost use Rattle.lists.specs.Contract.{Held, Inside};
 ghost use Rattle.lists.specs.Rewrites.{Rewrites};
 ghost use Rattle.lists.specs.Index.{SomeHere};
@@ -18,7 +18,6 @@ use crate::counts::{count_names, count_used};
 use lists::captured::above_bottom;
 use lists::index::{FEW, NAMES, index_names, offered};
 use lists::rows::{ListEntry, load_list_entry, store_list_entry};
-use scope_map::Found;
 use semantic::fields::LIST_ENTRY;
 use semantic::{ListAt, ScopeInfo};
 use table::wide;
@@ -26,7 +25,6 @@ use walk::uses::{Names, holds_lambda, mark};
 use work::Pass;
 use work::captures::{load_capture, newest_capture, set_binder};
 use work::entries::load_entry;
-use work::scope::Binder;
 
 // Up to so many rows above the bottom layer, each taken once for each entry, a search is quicker than counting all names.
 const SEARCHED: usize = 16384;
@@ -39,25 +37,20 @@ pub struct Lambda {
     pub end: usize,
 }
 
-// The same, where its list is amended: with whether a lambda stands among the records.
+// One whose list is amended, and whether a lambda stands among its records.
 #[derive(Clone, Copy)]
 pub struct Ending {
-    pub names: Names,
-    pub first: usize,
-    pub end: usize,
+    pub lambda: Lambda,
     pub holds: bool,
 }
 
 // The records are gone through, so this is asked only where there is a list to amend (docs/SPEED.md, 51).
 fn ending_of(all: &[u32], l: Lambda) -> Ending
     requires { SomeLambda all.now l }
-    ensures { (lambda_of result ≡ l) × Ended all.now result }
+    ensures { (result.lambda ≡ l) × Ended all.now result }
 {
-    let names = l.names;
     Ending {
-        names,
-        first: l.first,
-        end: l.end,
+        lambda: l,
         holds: holds_lambda(all, l.first, l.end),
     }
 }
@@ -67,12 +60,10 @@ fn search_rows(captured: &[u32], first: usize, end: usize, name: u32) -> bool
     requires { (length captured.now ≡ list_entries_length) × (first ≤ end) × (end ≤ list_entries_most) }
     ensures { StandsBefore captured.now first end [] name result }
 {
-    let mut i = first;
-    while i < end {
+    for i in first..end {
         if semantic::list_entries::name_at(captured, i) == name {
             return true;
         }
-        i += 1;
     }
     false
 }
@@ -82,11 +73,10 @@ fn stands_before(seen: &[u8], captured: &[u32], first: usize, end: usize, name: 
     requires { (length captured.now ≡ list_entries_length) × (first ≤ end) × (end ≤ list_entries_most) }
     ensures { StandsBefore captured.now first end seen.now name result }
 {
-    let x = wide(name);
-    if x < seen.len() {
-        return seen[x] == 1;
+    match seen.get(wide(name)) {
+        Some(mark) => *mark == 1,
+        None => search_rows(captured, first, end, name),
     }
-    search_rows(captured, first, end, name)
 }
 
 // Whether the newest capture of the name comes from the enclosing lambda.
@@ -94,17 +84,10 @@ fn enclosing_of(p: Pass, work: &[u32], name: u32) -> bool
     requires { SomeHere p work.now }
     ensures { Tells p work.now (λ s. enclosing_of (get s.captures name)) result }
 {
-    let found = newest_capture(p, work, name);
-    let Found::At {
-        row,
-        layer: _,
-        value: _,
-    } = found
-    else {
-        return false;
-    };
-    let t = load_capture(work, row);
-    t.enclosing
+    match newest_capture(p, work, name) {
+        Some(found) => load_capture(work, found.row).enclosing,
+        None => false,
+    }
 }
 
 // The same, for a name that stands n times in the list made anew: once.
@@ -112,31 +95,34 @@ fn enclosing_in(p: Pass, work: &[u32], name: u32, n: usize) -> bool
     requires { SomeHere p work.now }
     ensures { Tells p work.now (λ s. eqb n 1 && enclosing_of (get s.captures name)) result }
 {
-    if n != 1 {
-        return false;
-    }
-    enclosing_of(p, work, name)
+    n == 1 && enclosing_of(p, work, name)
 }
 
 // The first kept entry of a name takes the heap offset of the entry that the name gives, and where it comes from.
-fn amended(found: Binder, p: Pass, work: &[u32], name: u32, n: usize, v: ScopeInfo) -> ScopeInfo
+fn amended(
+    found: Option<usize>,
+    p: Pass,
+    work: &[u32],
+    name: u32,
+    n: usize,
+    v: ScopeInfo,
+) -> ScopeInfo
     requires { SomeHere p work.now × SomeBinder found }
     ensures { AmendsInfo found p work.now name n v result }
 {
-    let Binder::At(b) = found else {
+    let Some(b) = found else {
         return v;
     };
-    let e = load_entry(work, b);
-    let enclosing = enclosing_in(p, work, name, n);
-    let mut w = v;
-    w.heap_offset = e.heap;
-    w.captured_from_enclosing = enclosing;
-    w
+    ScopeInfo {
+        heap_offset: load_entry(work, b).heap,
+        captured_from_enclosing: enclosing_in(p, work, name, n),
+        ..v
+    }
 }
 
 // The entry x, of a name that stands n times in the list made anew, as it is kept. `seen`: one of its name is kept before it.
 fn kept(
-    index: &[u32],
+    index: &[Option<usize>],
     all: &[u32],
     names: Names,
     p: Pass,
@@ -149,18 +135,13 @@ fn kept(
     ensures keeps_list_entry { KeepsListEntry all.now names p work.now index.now n seen x result }
     ensures place { result.binder ≡ x.binder }
 {
-    if n == 0 {
-        return x;
-    }
-    if seen {
+    if n == 0 || seen {
         return x;
     }
     let found = offered(index, all, names, p, work, x.name);
-    let info = x.info;
     ListEntry {
-        name: x.name,
-        binder: x.binder,
-        info: amended(found, p, work, x.name, n, info),
+        info: amended(found, p, work, x.name, n, x.info),
+        ..x
     }
 }
 
@@ -168,15 +149,12 @@ fn kept(
 fn keeps(holds: bool, n: usize) -> bool
     ensures { result ≡ (holds || not (eqb n 0)) }
 {
-    if holds {
-        return true;
-    }
-    n != 0
+    holds || n != 0
 }
 
 // Row r of the list goes to row `to`, if it is kept. Answers whether it is.
 fn keep_row(
-    index: &[u32],
+    index: &[Option<usize>],
     counts: &[u32],
     seen: &mut [u8],
     all: &[u32],
@@ -192,14 +170,13 @@ fn keep_row(
     ensures { KeepsRow all.now d p index.now counts.now seen.old first to r captured.old work.old
         result seen.new captured.new work.new }
 {
-    let names = d.names;
     let x = load_list_entry(captured, work, r);
     let n = count_used(counts, all, d, p, work, x.name);
     if !keeps(d.holds, n) {
         return false;
     }
     let before = stands_before(seen, captured, first, to, x.name);
-    let y = kept(index, all, names, p, work, n, before, x);
+    let y = kept(index, all, d.lambda.names, p, work, n, before, x);
     store_list_entry(captured, work, to, y);
     mark(seen, wide(x.name));
     true
@@ -210,19 +187,15 @@ fn clear_list_entries(captured: &mut [u32], work: &mut [u32], first: usize, end:
     requires { (length captured.old ≡ list_entries_length) × (length work.old ≡ work_long) × (first ≤ end) × (end ≤ list_entries_most) }
     ensures { Rewrites captured.old work.old (cleared first end) captured.new work.new }
 {
-    let start = LIST_ENTRY * first;
-    let stop = LIST_ENTRY * end;
-    table::clear(&mut captured[start..stop]);
-    let mut r = first;
-    while r < end {
+    table::clear(&mut captured[LIST_ENTRY * first..LIST_ENTRY * end]);
+    for r in first..end {
         set_binder(work, r, 0);
-        r += 1;
     }
 }
 
 // The list that is kept, in its place; what it gives up is zero. Answers its length.
 fn amend_rows(
-    index: &[u32],
+    index: &[Option<usize>],
     counts: &[u32],
     seen: &mut [u8],
     all: &[u32],
@@ -234,13 +207,12 @@ fn amend_rows(
 ) -> usize
     requires { Inside e × Ended all.now d × Held all.now p captured.old work.old
         × AllRight all.now d p work.old index.now counts.now × Unmarked seen.old }
-    ensures { AmendsList all.now (lambda_of d) e p captured.old work.old result captured.new work.new }
+    ensures { AmendsList all.now d.lambda e p captured.old work.old result captured.new work.new }
 {
     let first = wide(e.first);
     let n = wide(e.length);
     let mut to = first;
-    let mut k = 0;
-    while k < n {
+    for k in 0..n {
         if keep_row(
             index,
             counts,
@@ -256,7 +228,6 @@ fn amend_rows(
         ) {
             to += 1;
         }
-        k += 1;
     }
     clear_list_entries(captured, work, to, first + n);
     to - first
@@ -272,11 +243,10 @@ fn amend_long(
     work: &mut [u32],
 ) -> usize
     requires { Inside e × Ended all.now d × Held all.now p captured.old work.old }
-    ensures { AmendsList all.now (lambda_of d) e p captured.old work.old result captured.new work.new }
+    ensures { AmendsList all.now d.lambda e p captured.old work.old result captured.new work.new }
 {
-    let names = d.names;
-    let mut index = [0; NAMES];
-    index_names(all, names, p, work, &mut index);
+    let mut index = [None; NAMES];
+    index_names(all, d.lambda.names, p, work, &mut index);
     let mut counts = [0; NAMES];
     count_names(&index, all, d, p, work, &mut counts);
     let mut seen = [0; NAMES];
@@ -308,25 +278,13 @@ pub fn amend_list(
         let o = p;
         return amend_long(&*all, ending, e, o, captured, work);
     }
-    let scope = p.scope;
-    if SEARCHED < n * scope.length && SEARCHED < n * (scope.length - above_bottom(p, work)) {
+    let live = p.scope.length;
+    if SEARCHED < n * live && SEARCHED < n * (live - above_bottom(p, work)) {
         let ending = d;
         let o = p;
         return amend_long(&*all, ending, e, o, captured, work);
     }
-    let none = [0; 0];
-    let mut unseen = [0; 0];
     let ending = d;
     let o = p;
-    amend_rows(
-        &none,
-        &none,
-        &mut unseen,
-        &*all,
-        ending,
-        e,
-        o,
-        captured,
-        work,
-    )
+    amend_rows(&[], &[], &mut [], &*all, ending, e, o, captured, work)
 }

@@ -9,7 +9,7 @@ ghost use Rattle.lists.specs.Index.{Zeros};
 ghost use Rattle.amending.specs.Counts.{GivesName, CountsNow, MarksBody, TellsUsed, CountsUsed, AtMost, CountsRow, CountsRows, CountsNames};
 
 use crate::amend::Ending;
-use lists::captured::{captured_at, is_at};
+use lists::captured::captured_at;
 use lists::index::NAMES;
 use table::wide;
 use walk::uses::{Names, mark_uses, uses_name};
@@ -21,12 +21,7 @@ fn gives(all: &[u32], names: Names, p: Pass, work: &[u32], i: usize, name: u32) 
     requires { SomeNames all.now names × KnownHere all.now p work.now × (i < p.scope.length) }
     ensures { GivesName all.now names p work.now i name result }
 {
-    let r = live_at(p, work, i);
-    if r.name != name {
-        return false;
-    }
-    let none = [0; 0];
-    is_at(captured_at(&none, all, names, p, work, i))
+    live_at(p, work, i).name == name && captured_at(&[], all, names, p, work, i).is_some()
 }
 
 // How often the name stands in the list made anew. The names of the bottom layer come first and give nothing; the count starts at the newest
@@ -35,19 +30,14 @@ fn count_now(all: &[u32], names: Names, p: Pass, work: &[u32], name: u32) -> usi
     requires { SomeNames all.now names × KnownHere all.now p work.now }
     ensures { CountsNow all.now names p work.now name result }
 {
-    let scope = p.scope;
     let mut n = 0;
-    let mut i = scope.length;
-    while 0 < i {
-        let last = i - 1;
-        let r = live_at(p, work, last);
-        if r.layer <= 1 {
+    for i in (0..p.scope.length).rev() {
+        if live_at(p, work, i).layer <= 1 {
             return n;
         }
-        if gives(all, names, p, work, last, name) {
+        if gives(all, names, p, work, i, name) {
             n += 1;
         }
-        i -= 1;
     }
     n
 }
@@ -57,10 +47,9 @@ fn mark_body(all: &[u32], d: Ending, used: &mut [u8])
     requires { Ended all.now d × Unmarked used.old }
     ensures { MarksBody all.now d used.new }
 {
-    if d.holds {
-        return;
+    if !d.holds {
+        mark_uses(all, d.lambda.first, d.lambda.end, used);
     }
-    mark_uses(all, d.first, d.end, used);
 }
 
 // Whether the body holds a lambda or uses the name, by its marks where they have the name.
@@ -71,11 +60,10 @@ fn is_used(used: &[u8], all: &[u32], d: Ending, name: u32) -> bool
     if d.holds {
         return true;
     }
-    let x = wide(name);
-    if x < used.len() {
-        return used[x] == 1;
+    match used.get(wide(name)) {
+        Some(mark) => *mark == 1,
+        None => uses_name(all, d.lambda.first, d.lambda.end, name),
     }
-    uses_name(all, d.first, d.end, name)
 }
 
 // How often the name stands in the list made anew of the names used, by search.
@@ -83,12 +71,11 @@ fn search_count(all: &[u32], d: Ending, p: Pass, work: &[u32], name: u32) -> usi
     requires { Ended all.now d × KnownHere all.now p work.now }
     ensures { CountsUsed all.now d p work.now [] name result }
 {
-    let names = d.names;
-    let none = [0; 0];
-    if !is_used(&none, all, d, name) {
-        return 0;
+    if is_used(&[], all, d, name) {
+        count_now(all, d.lambda.names, p, work, name)
+    } else {
+        0
     }
-    count_now(all, names, p, work, name)
 }
 
 // The same, by the counts where they have the name.
@@ -96,16 +83,15 @@ pub fn count_used(counts: &[u32], all: &[u32], d: Ending, p: Pass, work: &[u32],
     requires { Ended all.now d × KnownHere all.now p work.now }
     ensures { CountsUsed all.now d p work.now counts.now name result }
 {
-    let x = wide(name);
-    if x < counts.len() {
-        return wide(counts[x]);
+    match counts.get(wide(name)) {
+        Some(count) => wide(*count),
+        None => search_count(all, d, p, work, name),
     }
-    search_count(all, d, p, work, name)
 }
 
 // What live row i gives is counted, if the body uses its name.
 fn count_row(
-    index: &[u32],
+    index: &[Option<usize>],
     used: &[u8],
     all: &[u32],
     d: Ending,
@@ -117,23 +103,18 @@ fn count_row(
     requires { Ended all.now d × KnownHere all.now p work.now × (i < p.scope.length) × AtMost i counts.old }
     ensures { CountsRow all.now d p work.now index.now used.now i counts.old counts.new }
 {
-    let names = d.names;
-    let r = live_at(p, work, i);
-    let x = wide(r.name);
-    if counts.len() <= x {
-        return;
+    let name = live_at(p, work, i).name;
+    let x = wide(name);
+    if x < counts.len()
+        && is_used(used, all, d, name)
+        && captured_at(index, all, d.lambda.names, p, work, i).is_some()
+    {
+        counts[x] += 1;
     }
-    if !is_used(used, all, d, r.name) {
-        return;
-    }
-    if !is_at(captured_at(index, all, names, p, work, i)) {
-        return;
-    }
-    counts[x] = counts[x] + 1;
 }
 
 fn count_rows(
-    index: &[u32],
+    index: &[Option<usize>],
     used: &[u8],
     all: &[u32],
     d: Ending,
@@ -144,17 +125,20 @@ fn count_rows(
     requires { Ended all.now d × KnownHere all.now p work.now × Zeros counts.old }
     ensures { CountsRows all.now d p work.now index.now used.now counts.new }
 {
-    let scope = p.scope;
-    let end = scope.length;
-    let mut i = 0;
-    while i < end {
+    for i in 0..p.scope.length {
         count_row(index, used, all, d, p, work, i, counts);
-        i += 1;
     }
 }
 
 // The counts of all names that `counts` has.
-pub fn count_names(index: &[u32], all: &[u32], d: Ending, p: Pass, work: &[u32], counts: &mut [u32])
+pub fn count_names(
+    index: &[Option<usize>],
+    all: &[u32],
+    d: Ending,
+    p: Pass,
+    work: &[u32],
+    counts: &mut [u32],
+)
     requires { Ended all.now d × KnownHere all.now p work.now × Zeros counts.old }
     ensures { CountsNames all.now d p work.now index.now counts.new }
 {

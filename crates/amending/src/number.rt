@@ -1,64 +1,27 @@
 // The offsets that a second run gives on entering a lambda.
-ghost use Rattle.std.specs.Prelude.{◌≡◌, cond, not, ◌+◌, ◌-◌, ◌≤◌, ◌<◌, length, leb};
-ghost use Rattle.pass.specs.Lists.{is_near};
+ghost use Rattle.std.specs.Prelude.{◌≡◌, ◌+◌, ◌≤◌, ◌<◌, length};
 ghost use Rattle.pass.specs.Run.{list_entries_most, list_entries_length};
 ghost use Rattle.work.specs.Works.{work_long};
 ghost use Rattle.lists.specs.Contract.{Inside};
 ghost use Rattle.amending.specs.Contract.{CapturesRoom, SomeHeld, Numbers, CountsHeap};
-ghost use Rattle.amending.specs.Numbered.{near_of, offsets_from, taken_by, TellsNear, PutsOffsets, TakeHeld, TakesRow, RowHeld, NumbersRow, RowsHeld, NumbersRows, TellsMutated};
+ghost use Rattle.amending.specs.Numbered.{offsets_from, taken_by, TellsNear, PutsOffsets, TakeHeld, TakesRow, RowHeld, NumbersRow, RowsHeld, NumbersRows, TellsMutated};
 
 use lists::rows::{ListEntry, load_list_entry};
-use scope_map::Found;
 use semantic::{ListAt, ScopeInfo};
 use table::wide;
 use work::captures::{Capture, define_capture, newest_capture};
 use work::{Pass, narrow};
 
-// What the newest capture of a name stands for.
-#[derive(Clone, Copy)]
-pub enum Nearby {
-    Info(ScopeInfo),
-    Nothing,
-}
-
 // The newest capture of the name, if it lies in the newest layer or the next one down.
-pub fn near(p: Pass, captured: &[u32], work: &[u32], name: u32) -> Nearby
+pub fn near(p: Pass, captured: &[u32], work: &[u32], name: u32) -> Option<ScopeInfo>
     requires { SomeHeld p captured.now work.now }
     ensures { TellsNear p captured.now work.now name result }
 {
-    let found = newest_capture(p, work, name);
-    let Found::At {
-        row: _,
-        layer,
-        value,
-    } = found
-    else {
-        return Nearby::Nothing;
-    };
-    let captures = p.captures;
-    if is_far(captures.depth, layer) {
-        return Nearby::Nothing;
+    let found = newest_capture(p, work, name)?;
+    if 1 < p.captures.depth.saturating_sub(found.layer) {
+        return None;
     }
-    Nearby::Info(semantic::list_entries::load_info(captured, wide(value)))
-}
-
-// Whether the layer lies below the one next to the newest.
-fn is_far(depth: u32, layer: u32) -> bool
-    ensures { result ≡ not (leb (depth - layer) 1) }
-{
-    if depth <= layer {
-        return false;
-    }
-    1 < depth - layer
-}
-
-fn is_near(o: Nearby) -> bool
-    ensures { result ≡ is_near (near_of o) }
-{
-    match o {
-        Nearby::Info(_) => true,
-        Nearby::Nothing => false,
-    }
+    Some(semantic::list_entries::load_info(captured, wide(found.value)))
 }
 
 // The offsets that are read of the newest capture of an entry's name, where that is near, else of the entry's own number and slot.
@@ -69,16 +32,16 @@ pub struct Offsets {
     pub parent: u32,
 }
 
-fn offsets_from(o: Nearby, i: u32, slot: u32) -> Offsets
-    ensures { result ≡ offsets_from (near_of o) i slot }
+fn offsets_from(o: Option<ScopeInfo>, i: u32, slot: u32) -> Offsets
+    ensures { result ≡ offsets_from o i slot }
 {
     match o {
-        Nearby::Info(w) => Offsets {
+        Some(w) => Offsets {
             capture: w.read_capture_offset,
             heap: w.read_heap_offset,
             parent: w.local_heap_offset,
         },
-        Nearby::Nothing => Offsets {
+        None => Offsets {
             capture: i,
             heap: slot,
             parent: slot,
@@ -87,9 +50,9 @@ fn offsets_from(o: Nearby, i: u32, slot: u32) -> Offsets
 }
 
 // The entry in row r takes its offsets.
-fn put_offsets(captured: &mut [u32], heap: bool, r: usize, i: u32, o: Nearby, slot: u32)
+fn put_offsets(captured: &mut [u32], heap: bool, r: usize, i: u32, o: Option<ScopeInfo>, slot: u32)
     requires { (length captured.old ≡ list_entries_length) × (r < list_entries_most) }
-    ensures { PutsOffsets captured.old heap r i (near_of o) slot captured.new }
+    ensures { PutsOffsets captured.old heap r i o slot captured.new }
 {
     let f = offsets_from(o, i, slot);
     if heap {
@@ -103,11 +66,10 @@ fn capture_of(x: ListEntry, enclosing: bool) -> Capture
     requires { x.binder < 4294967296 }
     ensures { result ≡ taken_by x enclosing }
 {
-    let info = x.info;
     Capture {
         binder: narrow(x.binder),
-        id: info.id,
-        uses: info.usage_count,
+        id: x.info.id,
+        uses: x.info.usage_count,
         enclosing,
     }
 }
@@ -126,30 +88,11 @@ fn take_row(
     ensures { TakesRow heap r i x p captured.old work.old result captured.new work.new }
 {
     let o = near(p, captured, work, x.name);
-    let info = x.info;
-    put_offsets(captured, heap, r, i, o, info.stack_offset);
-    let t = capture_of(x, is_near(o));
-    define_capture(p, work, x.name, r, t)
+    put_offsets(captured, heap, r, i, o, x.info.stack_offset);
+    define_capture(p, work, x.name, r, capture_of(x, o.is_some()))
 }
 
-// What is threaded after a row, and the next number.
-#[derive(Clone, Copy)]
-pub struct Numbered {
-    pub pass: Pass,
-    pub next: u32,
-}
-
-// Whether an entry is of those that are numbered.
-fn is_due(heap: bool, mutated: bool) -> bool
-    ensures { result ≡ cond heap mutated (not mutated) }
-{
-    if heap {
-        return mutated;
-    }
-    !mutated
-}
-
-// The entry in row r gets the number i, if it is mutated or not, as asked.
+// The entry in row r gets the number i, if it is mutated or not, as asked. Answers the pass after it, and the next number.
 fn number_row(
     heap: bool,
     r: usize,
@@ -157,20 +100,16 @@ fn number_row(
     p: Pass,
     captured: &mut [u32],
     work: &mut [u32],
-) -> Numbered
+) -> (Pass, u32)
     requires { RowHeld heap r p captured.old work.old × (i < 4294967295) }
     ensures numbers_row { NumbersRow heap r i p captured.old work.old result captured.new work.new }
-    ensures few { result.next ≤ i + 1 }
+    ensures few { result.1 ≤ i + 1 }
 {
     let x = load_list_entry(captured, work, r);
-    let info = x.info;
-    if !is_due(heap, info.mutated) {
-        return Numbered { pass: p, next: i };
-    }
-    let q = take_row(heap, r, i, x, p, captured, work);
-    Numbered {
-        pass: q,
-        next: i + 1,
+    if x.info.mutated == heap {
+        (take_row(heap, r, i, x, p, captured, work), i + 1)
+    } else {
+        (p, i)
     }
 }
 
@@ -183,13 +122,8 @@ fn number_rows(heap: bool, e: ListAt, p: Pass, captured: &mut [u32], work: &mut 
     let n = wide(e.length);
     let mut q = p;
     let mut i = 0;
-    let mut k = 0;
-    while k < n {
-        let o = number_row(heap, first + k, i, q, captured, work);
-        let after = o.pass;
-        q = after;
-        i = o.next;
-        k += 1;
+    for k in 0..n {
+        (q, i) = number_row(heap, first + k, i, q, captured, work);
     }
     q
 }
@@ -201,14 +135,10 @@ fn has_mutated(e: ListAt, captured: &[u32], work: &[u32]) -> bool
 {
     let first = wide(e.first);
     let n = wide(e.length);
-    let mut k = 0;
-    while k < n {
-        let x = load_list_entry(captured, work, first + k);
-        let info = x.info;
-        if info.mutated {
+    for k in 0..n {
+        if load_list_entry(captured, work, first + k).info.mutated {
             return true;
         }
-        k += 1;
     }
     false
 }
@@ -238,12 +168,10 @@ pub fn heap_count(e: ListAt, t: &[u32]) -> u32
     let first = wide(e.first);
     let n = wide(e.length);
     let mut h = 0;
-    let mut k = 0;
-    while k < n {
+    for k in 0..n {
         if semantic::list_entries::is_heap(t, first + k) {
             h += 1;
         }
-        k += 1;
     }
     h
 }

@@ -1,5 +1,5 @@
 -- The checks before the runs, and what an operation answers.
-use Rattle.std.specs.Prelude.{Option, None, Some}
+use Rattle.std.specs.Prelude.{Option, None, Some, Result, Ok, Err, IsErrAnd}
 use Rattle.std.proofs.lemmas.Option.{none-some}
 use Prim.Native.Nat.{ℕ, ◌+◌, ◌≤◌, ◌<◌}
 use mathlib.Core.Bool.{true, false, true≢false}
@@ -13,9 +13,8 @@ use Rattle.tree.specs.Check.{Refusal, refusal}
 use Rattle.tree.proofs.Laws.Acceptance.{accepted, only}
 use Rattle.tree.specs.Starts.{TellsStarts}
 use Rattle.pass.specs.Run.{rows_most, Tables, Outcome, fitting, Answers}
-use Rattle.answers.specs.Answer.{refusal_in}
-use Rattle.answers.specs.declared.Answer.{Answer}
-use Rattle.answers.specs.declared.Answer.TheVariants as answer
+use Rattle.answers.specs.Answer.{numbered, refusal_in}
+use Rattle.answers.specs.declared.Refusal.{Refusal as Refused}
 use Rattle.answers.specs.Clear.{left, cleared, Blank}
 use Rattle.answers.specs.Laws.Left.{few_records}
 use Rattle.analysis.specs.Steps.{StartsFit, Begins, Ends, Checks}
@@ -24,23 +23,24 @@ use Rattle.analysis.specs.Steps.{StartsFit, Begins, Ends, Checks}
 pub starts_fit : {rs : List ℕ} (n : ℕ) → (length (records rs) ≤ rows_most → length (records rs) ≤ n) → StartsFit rs (replicate (n + 1) 0)
 starts_fit n f = record { room = λ h. omega (arith, length-replicate {A = ℕ} (n + 1) 0, f h) }
 
-none_found : {a : Answer} {o : Option Refusal} → refusal_in a ≡ o → a ≡ answer.Accepted → o ≡ None
-none_found e h = sym e ∙ ap refusal_in h
+-- the refusal that a `?` hands on
+pub refused_by : (a : Result (Unit {0}) Refused) (r : Refused) → IsErrAnd a (λ e. e ≡ r) → refusal_in a ≡ Some (numbered r)
+refused_by (Err e) r h = ap (λ (x : Refused). Some (numbered x)) h
+refused_by (Ok u) r h = absurd h
 
-module _ {classes rs : List ℕ} {a : Answer} (e : refusal_in a ≡ refusal (length classes) rs) where
-  module _ (h : a ≡ answer.Accepted) where
-    pub accepted_begins : {t : Tables} → Blank t → Begins classes rs t
-    accepted_begins z = let (ts, k) = accepted (length classes) rs (none_found e h) in record { ts = ts; accepted = k; blank = z }
+module _ {classes rs : List ℕ} where
+  pub accepted_begins : {t : Tables} → None ≡ refusal (length classes) rs → Blank t → Begins classes rs t
+  accepted_begins e z = let (ts, k) = accepted (length classes) rs (sym e) in record { ts = ts; accepted = k; blank = z }
 
-    pub accepted_checks : {f : List ℕ → Trees → Outcome} {o : Outcome} → Ends f classes rs o → Checks f classes rs o
-    accepted_checks x = record { unsound = λ r g. absurd (none-some r (sym (sym g ∙ none_found e h))); sound = x.sound; rest = λ _. x.rest }
+  pub accepted_checks : {f : List ℕ → Trees → Outcome} {o : Outcome} → None ≡ refusal (length classes) rs → Ends f classes rs o → Checks f classes rs o
+  accepted_checks e x = record { unsound = λ r g. absurd (none-some r (e ∙ g)); sound = x.sound; rest = λ _. x.rest }
 
-  pub refused-checks : {f : List ℕ → Trees → Outcome} {m i : ℕ} {t : Tables} → a ≡ answer.Refused m i
-      → Checks f classes rs (record { refused = refusal_in a; tables = t })
-  refused-checks {t = t} h = record {
+  pub refused-checks : {f : List ℕ → Trees → Outcome} {r : Refusal} {t : Tables} → Some r ≡ refusal (length classes) rs
+      → Checks f classes rs (record { refused = Some r; tables = t })
+  refused-checks {t = t} e = record {
     unsound = λ r g. ap (λ (o : Option Refusal). cleared (record { refused = o; tables = t })) (e ∙ g);
-    sound = λ ts k. absurd (none-some _ (sym (sym (ap refusal_in h) ∙ e ∙ only (length classes) rs ts k)));
-    rest = λ g. absurd (none-some _ (sym (sym (ap refusal_in h) ∙ g)));
+    sound = λ ts k. absurd (none-some _ (sym (e ∙ only (length classes) rs ts k)));
+    rest = λ g. absurd (none-some _ (sym g));
   }
 
 -- where the records are trees, the checks tell where those start

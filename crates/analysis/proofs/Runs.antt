@@ -1,11 +1,12 @@
 -- What the runs need of blank tables, and what they leave in them.
-use Rattle.std.specs.Prelude.{None}
+use Rattle.std.specs.Prelude.{Option, None, Some}
 use Prim.Native.Nat.{ℕ}
 use mathlib.Core.List.{List}
-use mathlib.Core.Path.{◌≡◌, refl, ap, sym, subst, ◌∙◌}
+use mathlib.Core.Path.{◌≡◌, refl, sym, subst, ◌∙◌}
 use lib.ListN.{length}
 use Rattle.tree.specs.Record.{records}
 use Rattle.tree.specs.Tree.{Trees}
+use Rattle.tree.specs.Check.{Refusal}
 use Rattle.tree.specs.Accepted.{Accepted}
 use Rattle.tree.proofs.Laws.Acceptance.{unique}
 use Rattle.pass.specs.State.{State}
@@ -15,9 +16,7 @@ use Rattle.work.specs.Coded.{second_of}
 use Rattle.work.specs.Laws.Works.{second_is}
 use Rattle.work.specs.Tied.{Raw, raw, Tied}
 use Rattle.work.specs.declared.Pass.{Pass}
-use Rattle.answers.specs.Answer.{tables, refusal_in, outcome_of}
-use Rattle.answers.specs.declared.Answer.{Answer}
-use Rattle.answers.specs.declared.Answer.TheVariants as answer
+use Rattle.answers.specs.Answer.{tables}
 use Rattle.answers.specs.Noted.{first_in}
 use Rattle.answers.specs.Clear.{names_cleared, Rested}
 use Rattle.answers.specs.Laws.Start.{blank_tied, again_tied}
@@ -50,9 +49,9 @@ module _ {classes rs F C A w : List ℕ} (b : Begins classes rs (tables F C A w)
     pub first_rested : Rested (length (records rs)) w'
     first_rested = run_rested classes no_facts b.accepted (r.is (first_ready e)).works
 
-    pub fresh_ends : (a : Answer) → refusal_in a ≡ first_in q → Ends fresh_outcome classes rs (outcome_of a F' C' A' w')
+    pub fresh_ends : {o : Option Refusal} → o ≡ first_in q → Ends fresh_outcome classes rs (record { refused = o; tables = tables F' C' A' w' })
     unfolding fresh_outcome
-    fresh_ends a g = record {
+    fresh_ends g = record {
       sound = λ us k.
           let t = tied_as fresh us k first_tied in
           rw (g ∙ refused_as t.works) (tied_outcome (refused_first (fresh classes us).noted) t);
@@ -60,19 +59,18 @@ module _ {classes rs F C A w : List ℕ} (b : Begins classes rs (tables F C A w)
     }
 
     -- a refusal of the first run ends the second
-    pub refused_ends : {a : Answer} {m i : ℕ} → a ≡ answer.Refused m i → refusal_in a ≡ first_in q
-        → Ends settled_outcome classes rs (outcome_of a F' C' A' w')
+    pub refused_ends : {r : Refusal} → Some r ≡ first_in q → Ends settled_outcome classes rs (record { refused = Some r; tables = tables F' C' A' w' })
     unfolding settled_outcome
-    refused_ends h g = record {
+    refused_ends g = record {
       sound = λ us k.
           let t = tied_as fresh us k first_tied in
-          rw (← (g ∙ refused_as t.works), h);
+          rw (← (g ∙ refused_as t.works));
       rest = first_rested;
     }
 
-    module _ {a : Answer} (h : a ≡ answer.Accepted) (g : refusal_in a ≡ first_in q) where
+    module _ (g : None ≡ first_in q) where
       pub unnoted : (us : Trees) → Accepted (length classes) rs us → refused_first (fresh classes us).noted ≡ None
-      unnoted us k = sym (refused_as (tied_as fresh us k first_tied).works) ∙ sym g ∙ ap refusal_in h
+      unnoted us k = sym (g ∙ refused_as (tied_as fresh us k first_tied).works)
 
       abbrev pub second_ready : {p' : Pass} {w'' : List ℕ} → p' ≡ pass_new q.captured_top q.arguments_top
           → w'' ≡ names_cleared w' → Ready classes rs (raw p' F' C' A' w'')
@@ -84,12 +82,12 @@ module _ {classes rs F C A w : List ℕ} (b : Begins classes rs (tables F C A w)
         tied = rw e' (again_tied w'' first_tied z);
       }
 
-      pub settled_ends : {p' q' : Pass} {w'' F''' C''' A''' w''' : List ℕ} (a' : Answer)
+      pub settled_ends : {p' q' : Pass} {w'' F''' C''' A''' w''' : List ℕ} {o : Option Refusal}
           → p' ≡ pass_new q.captured_top q.arguments_top → w'' ≡ names_cleared w'
-          → Runs classes rs (raw p' F' C' A' w'') (raw q' F''' C''' A''' w''') → refusal_in a' ≡ second_of q'.second
-          → Ends settled_outcome classes rs (outcome_of a' F''' C''' A''' w''')
+          → Runs classes rs (raw p' F' C' A' w'') (raw q' F''' C''' A''' w''') → o ≡ second_of q'.second
+          → Ends settled_outcome classes rs (record { refused = o; tables = tables F''' C''' A''' w''' })
       unfolding settled_outcome settled
-      settled_ends a' e' z r' g' = record {
+      settled_ends e' z r' g' = record {
         sound = λ us k.
             let u = tied_as settled us k (r'.is (second_ready e' z)) in
             rw (g' ∙ second_is u.works, unnoted us k) (tied_outcome (settled classes us).noted.second u);

@@ -1,40 +1,38 @@
 #![tactic(auto)]
 // The pass over lent tables: the fresh run and the settled run.
-ghost use Rattle.std.specs.Prelude.{length};
+ghost use Rattle.std.specs.Prelude.{◌≤◌, length, replicate};
 ghost use Rattle.tree.specs.Starts.{TellsStarts};
 ghost use Rattle.pass.specs.Run.{Fresh, Settled, Answers, fresh_outcome, settled_outcome};
 ghost use Rattle.answers.specs.Answer.{tables, outcome_of};
+ghost use Rattle.answers.specs.Lent.{held, outcome_in, Same};
 ghost use Rattle.answers.specs.Clear.{Blank};
 ghost use Rattle.analysis.specs.Steps.{outcome_by, StartsFit, Begins, Ends, Checks};
 
-use answers::clear::{clear_after, clear_names, clear_start};
-use answers::{Answer, answer_of, fit, refused_first, refused_second};
+use answers::clear::clear_names;
+use answers::{Refusal, Tables, refused_first, refused_second};
 use visits::run::run_with_scope;
-use work::{Pass, RECORDS};
+use work::Pass;
 
 fn run_once(
     tops: &[u16],
     classes: &[u8],
     records: &[u32],
-    facts: &mut [u32],
-    captured: &mut [u32],
-    arguments: &mut [u32],
-    work: &mut [u32],
-) -> Answer
+    tables: &mut Tables,
+) -> Result<(), Refusal>
     requires tells_starts { TellsStarts (length classes.now) records.now tops.now }
-    requires begins { Begins classes.now records.now (tables facts.old captured.old arguments.old work.old) }
-    ensures { Ends fresh_outcome classes.now records.now
-        (outcome_of result facts.new captured.new arguments.new work.new) }
+    requires begins { Begins classes.now records.now (held tables.old) }
+    ensures ends { Ends fresh_outcome classes.now records.now (outcome_in result tables.new) }
+    ensures same { Same tables.old tables.new }
 {
     let p = run_with_scope(
         tops,
         classes,
         records,
         Pass::new(0, 0),
-        facts,
-        captured,
-        arguments,
-        work,
+        tables.facts,
+        tables.captured,
+        tables.arguments,
+        tables.work,
     );
     refused_first(p)
 }
@@ -43,125 +41,96 @@ fn run_twice(
     tops: &[u16],
     classes: &[u8],
     records: &[u32],
-    facts: &mut [u32],
-    captured: &mut [u32],
-    arguments: &mut [u32],
-    work: &mut [u32],
-) -> Answer
+    tables: &mut Tables,
+) -> Result<(), Refusal>
     requires tells_starts { TellsStarts (length classes.now) records.now tops.now }
-    requires begins { Begins classes.now records.now (tables facts.old captured.old arguments.old work.old) }
-    ensures { Ends settled_outcome classes.now records.now
-        (outcome_of result facts.new captured.new arguments.new work.new) }
+    requires begins { Begins classes.now records.now (held tables.old) }
+    ensures ends { Ends settled_outcome classes.now records.now (outcome_in result tables.new) }
+    ensures same { Same tables.old tables.new }
 {
     let p = run_with_scope(
         tops,
         classes,
         records,
         Pass::new(0, 0),
-        facts,
-        captured,
-        arguments,
-        work,
+        tables.facts,
+        tables.captured,
+        tables.arguments,
+        tables.work,
     );
-    let a = refused_first(p);
-    let Answer::Accepted = a else {
-        return a;
-    };
-    clear_names(work, tree::record::len(records));
+    refused_first(p)?;
+    clear_names(tables.work, tree::record::len(records));
     let q = run_with_scope(
         tops,
         classes,
         records,
         Pass::new(p.captured_top, p.arguments_top),
-        facts,
-        captured,
-        arguments,
-        work,
+        tables.facts,
+        tables.captured,
+        tables.arguments,
+        tables.work,
     );
     refused_second(q)
 }
 
-fn run_listed(
-    tops: &mut [u16],
+// The checks, then the runs, with a table of N numbers for where the trees start.
+fn run_listed<const N: usize>(
     records: &[u32],
     classes: &[u8],
     twice: bool,
-    facts: &mut [u32],
-    captured: &mut [u32],
-    arguments: &mut [u32],
-    work: &mut [u32],
-) -> Answer
-    requires starts_fit { StartsFit records.now tops.old }
-    requires blank { Blank (tables facts.old captured.old arguments.old work.old) }
-    ensures { Checks (outcome_by twice) classes.now records.now
-        (outcome_of result facts.new captured.new arguments.new work.new) }
+    tables: &mut Tables,
+) -> Result<(), Refusal>
+    requires few { N ≤ 4097 }
+    requires starts_fit { StartsFit records.now (replicate N 0) }
+    requires blank { Blank (held tables.old) }
+    ensures checks { Checks (outcome_by twice) classes.now records.now (outcome_in result tables.new) }
+    ensures same { Same tables.old tables.new }
 {
-    let a = answer_of(checks::check(records, classes.len(), tops));
-    let Answer::Accepted = a else {
-        return a;
-    };
+    let mut tops = [0u16; N];
+    checks::check(records, classes.len(), &mut tops)?;
     if twice {
-        return run_twice(tops, classes, records, facts, captured, arguments, work);
+        run_twice(&tops, classes, records, tables)
+    } else {
+        run_once(&tops, classes, records, tables)
     }
-    run_once(tops, classes, records, facts, captured, arguments, work)
 }
 
 // A script of at most this many records has the smaller table.
 const FEW: usize = 512;
 
-// The table of where the trees start has one of two sizes: clearing the larger one shows in the time of a small script. So the runs are called in
-// two places (docs/SPEED.md, 52).
+const FEW_STARTS: usize = 513;
+
+const STARTS: usize = 4097;
+
+// The table of where the trees start has one of two sizes: clearing the larger one shows in the time of a small script (docs/SPEED.md, 52).
 fn run_checked(
     records: &[u32],
     classes: &[u8],
     twice: bool,
-    facts: &mut [u32],
-    captured: &mut [u32],
-    arguments: &mut [u32],
-    work: &mut [u32],
-) -> Answer
-    requires { Blank (tables facts.old captured.old arguments.old work.old) }
-    ensures { Checks (outcome_by twice) classes.now records.now
-        (outcome_of result facts.new captured.new arguments.new work.new) }
+    tables: &mut Tables,
+) -> Result<(), Refusal>
+    requires { Blank (held tables.old) }
+    ensures checks { Checks (outcome_by twice) classes.now records.now (outcome_in result tables.new) }
+    ensures same { Same tables.old tables.new }
 {
     if tree::record::len(records) <= FEW {
-        let mut tops = [0u16; FEW + 1];
-        return run_listed(
-            &mut tops, records, classes, twice, facts, captured, arguments, work,
-        );
+        run_listed::<FEW_STARTS>(records, classes, twice, tables)
+    } else {
+        run_listed::<STARTS>(records, classes, twice, tables)
     }
-    let mut tops = [0u16; RECORDS + 1];
-    run_listed(
-        &mut tops, records, classes, twice, facts, captured, arguments, work,
-    )
 }
 
-fn run(
-    records: &[u32],
-    classes: &[u8],
-    twice: bool,
-    facts: &mut [u32],
-    captured: &mut [u32],
-    arguments: &mut [u32],
-    work: &mut [u32],
-) -> Answer
-    ensures { Answers (outcome_by twice) classes.now records.now (tables facts.old captured.old arguments.old work.old)
-        (outcome_of result facts.new captured.new arguments.new work.new) }
+fn run(records: &[u32], classes: &[u8], twice: bool, tables: &mut Tables) -> Result<(), Refusal>
+    ensures answers { Answers (outcome_by twice) classes.now records.now (held tables.old) (outcome_in result tables.new) }
+    ensures same { Same tables.old tables.new }
 {
-    if !fit(records, facts, captured, arguments, work) {
-        return Answer::Refused(1, 0);
+    if !tables.fit(records) {
+        return Err(Refusal::Lengths);
     }
-    clear_start(facts, captured, arguments, work);
-    let a = run_checked(records, classes, twice, facts, captured, arguments, work);
-    clear_after(
-        a,
-        tree::record::len(records),
-        facts,
-        captured,
-        arguments,
-        work,
-    );
-    a
+    tables.clear_start();
+    let answer = run_checked(records, classes, twice, tables);
+    tables.clear_after(answer, tree::record::len(records));
+    answer
 }
 
 pub fn fresh(
@@ -171,11 +140,17 @@ pub fn fresh(
     captured: &mut [u32],
     arguments: &mut [u32],
     work: &mut [u32],
-) -> Answer
+) -> Result<(), Refusal>
     ensures { Fresh classes.now records.now (tables facts.old captured.old arguments.old work.old)
         (outcome_of result facts.new captured.new arguments.new work.new) }
 {
-    run(records, classes, false, facts, captured, arguments, work)
+    let mut lent = Tables {
+        facts,
+        captured,
+        arguments,
+        work,
+    };
+    run(records, classes, false, &mut lent)
 }
 
 pub fn settled(
@@ -185,9 +160,15 @@ pub fn settled(
     captured: &mut [u32],
     arguments: &mut [u32],
     work: &mut [u32],
-) -> Answer
+) -> Result<(), Refusal>
     ensures { Settled classes.now records.now (tables facts.old captured.old arguments.old work.old)
         (outcome_of result facts.new captured.new arguments.new work.new) }
 {
-    run(records, classes, true, facts, captured, arguments, work)
+    let mut lent = Tables {
+        facts,
+        captured,
+        arguments,
+        work,
+    };
+    run(records, classes, true, &mut lent)
 }

@@ -1,8 +1,8 @@
-// What is printed of an answer and of a table.
+// What is printed of an answer and of the tables that it leaves.
 ghost use Rattle.std.specs.Prelude.{◌≡◌};
-ghost use Rattle.analysis_main.specs.Tried.{is_filled};
+ghost use Rattle.analysis_main.specs.Filled.{is_filled};
 
-use answers::Answer;
+use answers::{Refusal, Tables};
 use std::io;
 
 // What every number is before a call.
@@ -12,35 +12,30 @@ pub const FILLING: u32 = 1234567891;
 fn is_filled(t: &[u32], x: u32) -> bool
     ensures { result ≡ is_filled x t.now }
 {
-    let mut i = 0;
-    while i < t.len() {
-        if t[i] != x {
-            return false;
-        }
-        i += 1;
-    }
-    true
+    t.iter().all(|y| *y == x)
 }
 
 // A table without numbers is as it was.
-pub fn say_table(rt: &impl Print, name: &str, t: &[u32]) -> io::Result<()> {
-    print!(rt; "{name}")?;
+fn state(t: &[u32]) -> &'static str {
     if is_filled(t, FILLING) {
-        return print!(rt; "unchanged");
+        "unchanged"
+    } else if is_filled(t, 0) {
+        "zero"
+    } else {
+        "changed"
     }
-    if is_filled(t, 0) {
-        return print!(rt; "zero");
-    }
-    print!(rt; "changed")
 }
 
-fn say_refused(rt: &impl Print, number: u32, at: usize) -> io::Result<()> {
-    print!(rt; "refused={number} at={at}")
-}
-
-pub fn say_answer(rt: &impl Print, a: Answer) -> io::Result<()> {
-    match a {
-        Answer::Accepted => print!(rt; "accepted"),
-        Answer::Refused(n, i) => say_refused(rt, n, i),
+pub fn say(rt: &impl Print, answer: Result<(), Refusal>, tables: &Tables) -> io::Result<()> {
+    match answer {
+        Ok(()) => print!(rt; "accepted")?,
+        Err(r) => print!(rt; "refused={} at={}", r.number(), r.record())?,
     }
+    println!(rt;
+        " facts={} captured={} arguments={} work={}",
+        state(tables.facts),
+        state(tables.captured),
+        state(tables.arguments),
+        state(tables.work),
+    )
 }

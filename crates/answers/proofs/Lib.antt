@@ -1,3 +1,2 @@
 pub mod Work
-pub mod Tables
-pub mod Noted
+pub mod SetLengths

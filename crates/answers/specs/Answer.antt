@@ -1,17 +1,26 @@
 -- What the operations answer, as the definitions say it.
-use Rattle.std.specs.Prelude.{ℕ, List, Option, None, Some}
+use Rattle.std.specs.Prelude.{ℕ, List, Option, None, Some, Result, Ok, Err}
 use Rattle.tree.specs.Check.{Refusal}
+use Rattle.checks.specs.Answer as checks
 use Rattle.pass.specs.Run.{Tables, Outcome}
-use Rattle.answers.specs.declared.Answer.{Answer}
-use Rattle.answers.specs.declared.Answer.TheVariants as answer
+use Rattle.work.specs.Coded as work
+use Rattle.answers.specs.declared.Refusal.{Refusal as Refused}
+use Rattle.answers.specs.declared.Refusal.TheVariants.{Lengths, Unfit, NameTwice, ListsFull, Second}
 
-abbrev pub refusal_in : Answer → Option Refusal
-refusal_in answer.Accepted = None
-refusal_in (answer.Refused n i) = Some (record { number = n; at = i })
+abbrev pub numbered : Refused → Refusal
+numbered Lengths = record { number = 1; at = 0 }
+numbered (Unfit r) = checks.numbered r
+numbered (NameTwice i) = record { number = 9; at = i }
+numbered (ListsFull i) = record { number = 10; at = i }
+numbered (Second r) = work.refusal_of r
+
+abbrev pub refusal_in : Result (Unit {0}) Refused → Option Refusal
+refusal_in (Ok t) = None
+refusal_in (Err r) = Some (numbered r)
 
 abbrev pub tables : List ℕ → List ℕ → List ℕ → List ℕ → Tables
 tables F C A w = record { facts = F; captured = C; arguments = A; work = w }
 
 -- an answer and the tables that it leaves
-abbrev pub outcome_of : Answer → List ℕ → List ℕ → List ℕ → List ℕ → Outcome
+abbrev pub outcome_of : Result (Unit {0}) Refused → List ℕ → List ℕ → List ℕ → List ℕ → Outcome
 outcome_of r F C A w = record { refused = refusal_in r; tables = tables F C A w }

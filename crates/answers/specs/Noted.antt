@@ -2,8 +2,7 @@
 use Rattle.std.specs.Prelude.{Option}
 use Rattle.tree.specs.Check.{Refusal}
 use Rattle.pass.specs.Run.{nine_or, ten_at}
-use Rattle.work.specs.Coded.{noted_of}
 use Rattle.work.specs.declared.Pass.{Pass}
 
 abbrev pub first_in : Pass → Option Refusal
-first_in p = nine_or (noted_of p.nine) (ten_at (noted_of p.ten))
+first_in p = nine_or p.nine (ten_at p.ten)

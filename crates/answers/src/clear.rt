@@ -1,22 +1,12 @@
 // What an operation clears: before a run, between two runs, and after them.
 ghost use Rattle.std.specs.Prelude.{◌≡◌, true, ◌-◌, ◌≤◌, length, replicate};
 ghost use Rattle.pass.specs.Run.{work_length, zeros, lengths_fit};
-ghost use Rattle.answers.specs.Answer.{tables, refusal_in};
+ghost use Rattle.answers.specs.Answer.{refusal_in};
+ghost use Rattle.answers.specs.Lent.{held, Same};
 ghost use Rattle.answers.specs.Clear.{left, zeroed, names_cleared, Rested, Blank};
 
-use crate::Answer;
+use crate::{Refusal, Tables};
 use work::{BINDERS, CAPTURES, CAPTURES_HINTS, ENTRIES, ENTRY, RECORDS, SCOPE_HINTS, TAKEN, WORK};
-
-// What a refusal leaves, but 1.
-pub fn clear_all(facts: &mut [u32], captured: &mut [u32], arguments: &mut [u32], work: &mut [u32])
-    requires { lengths_fit (tables facts.old captured.old arguments.old work.old) ≡ true }
-    ensures { tables facts.new captured.new arguments.new work.new ≡ zeros }
-{
-    table::clear(facts);
-    table::clear(captured);
-    table::clear(arguments);
-    table::clear(work);
-}
 
 // The numbers from `start` up to `end` become zeros.
 fn clear_part(work: &mut [u32], start: usize, end: usize)
@@ -35,27 +25,6 @@ fn clear_work(work: &mut [u32], n: usize)
     clear_part(work, CAPTURES, WORK);
 }
 
-// The work table holds no answer, and a refusal leaves none. There are n records.
-pub fn clear_after(
-    a: Answer,
-    n: usize,
-    facts: &mut [u32],
-    captured: &mut [u32],
-    arguments: &mut [u32],
-    work: &mut [u32],
-)
-    requires { (lengths_fit (tables facts.old captured.old arguments.old work.old) ≡ true)
-        × (refusal_in a ≡ None → Rested n work.old) }
-    ensures { tables facts.new captured.new arguments.new work.new
-        ≡ left (refusal_in a) (tables facts.old captured.old arguments.old work.old) }
-{
-    if let Answer::Accepted = a {
-        clear_work(work, n);
-    } else {
-        clear_all(facts, captured, arguments, work);
-    }
-}
-
 // What a run starts without: the hints of both maps, and the entries, of which n records have some. Those of other records are zero already
 // (docs/SPEED.md, 50). Rows and captures of an empty map are not looked at.
 pub fn clear_names(work: &mut [u32], n: usize)
@@ -67,14 +36,42 @@ pub fn clear_names(work: &mut [u32], n: usize)
     clear_part(work, CAPTURES_HINTS, TAKEN);
 }
 
-// No facts yet, and a work table as a run starts with.
-pub fn clear_start(facts: &mut [u32], captured: &mut [u32], arguments: &mut [u32], work: &mut [u32])
-    requires { lengths_fit (tables facts.old captured.old arguments.old work.old) ≡ true }
-    ensures { Blank (tables facts.new captured.new arguments.new work.new) }
-{
-    table::clear(facts);
-    table::clear(captured);
-    table::clear(arguments);
-    clear_names(work, RECORDS);
-    clear_part(work, BINDERS, WORK);
+impl Tables<'_> {
+    // What a refusal leaves, but 1.
+    pub fn clear_all(&mut self)
+        requires { lengths_fit (held self.old) ≡ true }
+        ensures zeros { held self.new ≡ zeros }
+        ensures same { Same self.old self.new }
+    {
+        table::clear(self.facts);
+        table::clear(self.captured);
+        table::clear(self.arguments);
+        table::clear(self.work);
+    }
+
+    // The work table holds no answer, and a refusal leaves none. There are n records.
+    pub fn clear_after(&mut self, answer: Result<(), Refusal>, n: usize)
+        requires lengths { lengths_fit (held self.old) ≡ true }
+        requires rested { refusal_in answer ≡ None → Rested n self.old.work.now }
+        ensures left { held self.new ≡ left (refusal_in answer) (held self.old) }
+        ensures same { Same self.old self.new }
+    {
+        match answer {
+            Ok(()) => clear_work(self.work, n),
+            Err(_) => self.clear_all(),
+        }
+    }
+
+    // No facts yet, and a work table as a run starts with.
+    pub fn clear_start(&mut self)
+        requires { lengths_fit (held self.old) ≡ true }
+        ensures blank { Blank (held self.new) }
+        ensures same { Same self.old self.new }
+    {
+        table::clear(self.facts);
+        table::clear(self.captured);
+        table::clear(self.arguments);
+        clear_names(self.work, RECORDS);
+        clear_part(self.work, BINDERS, WORK);
+    }
 }

@@ -1,27 +1,83 @@
 #![tactic(auto)]
-// What an operation answers: check 1, and the numbers of the refusals.
+// What an operation answers: the refusals and their numbers; and the tables that are lent to it, with check 1.
 pub mod clear;
 
 ghost use Rattle.std.specs.Prelude.{◌≡◌};
-ghost use Rattle.checks.specs.Answer.{refusal_of};
 ghost use Rattle.pass.specs.Run.{fitting};
 ghost use Rattle.work.specs.Coded.{second_of};
-ghost use Rattle.answers.specs.Answer.{tables, refusal_in};
+ghost use Rattle.answers.specs.Answer.{numbered, refusal_in, tables};
+ghost use Rattle.answers.specs.Lent.{held};
 ghost use Rattle.answers.specs.Noted.{first_in};
 
-use checks::Checked;
+use table::wide;
 use tree::record::WIDTH;
-use work::{Pass, WORK};
+use work::{Pass, SecondRefusal, WORK};
 
 pub const FACTS: usize = 81920;
 
 pub const LIST_ENTRIES: usize = 53248;
 
-// What an operation answers: that the tables hold the facts, or a refusal's number and record.
-#[derive(Clone, Copy)]
-pub enum Answer {
-    Accepted,
-    Refused(u32, usize),
+// Why a script is refused, with the record that it applies to.
+#[derive(Clone, Copy, PartialEq, Eq)]
+pub enum Refusal {
+    // 1: no whole records, or a lent table that is not of its set length
+    Lengths,
+    // 1 to 8 and 16: a check
+    Unfit(checks::Refusal),
+    // 9: a name that is live in its layer enters again
+    NameTwice(usize),
+    // 10: a list entry that has no room
+    ListsFull(usize),
+    // 11 and 12: of a second run
+    Second(SecondRefusal),
+}
+
+impl From<checks::Refusal> for Refusal {
+    ghost use Rattle.answers.specs.declared.Refusal.TheVariants.{Unfit};
+
+    ghost from_gives = { λ r e. e ≡ Unfit r };
+
+    fn from(r: checks::Refusal) -> Self {
+        Refusal::Unfit(r)
+    }
+}
+
+impl Refusal {
+    // The document's number for it.
+    pub fn number(self) -> u32
+        ensures { result ≡ (numbered self).number }
+    {
+        match self {
+            Refusal::Lengths => 1,
+            Refusal::Unfit(r) => r.number(),
+            Refusal::NameTwice(_) => 9,
+            Refusal::ListsFull(_) => 10,
+            Refusal::Second(SecondRefusal::NoLambda(_)) => 11,
+            Refusal::Second(SecondRefusal::NoCapture(_)) => 12,
+        }
+    }
+
+    pub fn record(self) -> usize
+        ensures { result ≡ (numbered self).at }
+    {
+        match self {
+            Refusal::Lengths => 0,
+            Refusal::Unfit(r) => r.record(),
+            Refusal::NameTwice(at) => at,
+            Refusal::ListsFull(at) => at,
+            Refusal::Second(SecondRefusal::NoLambda(at)) => wide(at),
+            Refusal::Second(SecondRefusal::NoCapture(at)) => wide(at),
+        }
+    }
+}
+
+// The tables that a caller lends.
+#[derive(Drop)]
+pub struct Tables<'a> {
+    pub facts: &'a mut [u32],
+    pub captured: &'a mut [u32],
+    pub arguments: &'a mut [u32],
+    pub work: &'a mut [u32],
 }
 
 // Check 1: whole records, and every lent table of its set length.
@@ -49,44 +105,35 @@ pub fn fit(
     work.len() == WORK
 }
 
-pub fn answer_of(c: Checked) -> Answer
-    ensures { refusal_in result ≡ refusal_of c }
-{
-    match c {
-        Checked::Fit => Answer::Accepted,
-        Checked::Ragged => Answer::Refused(1, 0),
-        Checked::TooMany => Answer::Refused(2, 0),
-        Checked::Field(i) => Answer::Refused(3, i),
-        Checked::Missing(i) => Answer::Refused(4, i),
-        Checked::Deep(i) => Answer::Refused(5, i),
-        Checked::NotAName(i) => Answer::Refused(6, i),
-        Checked::EmptyCall(i) => Answer::Refused(7, i),
-        Checked::Untested(i) => Answer::Refused(16, i),
-        Checked::Repeated(i) => Answer::Refused(8, i),
+impl Tables<'_> {
+    pub fn fit(&self, records: &[u32]) -> bool
+        ensures { result ≡ fitting records.now (held self.now) }
+    {
+        fit(
+            records,
+            self.facts,
+            self.captured,
+            self.arguments,
+            self.work,
+        )
     }
 }
 
 // 9 covers the whole input before 10.
-pub fn refused_first(p: Pass) -> Answer
+pub fn refused_first(p: Pass) -> Result<(), Refusal>
     ensures { refusal_in result ≡ first_in p }
 {
-    let nine = p.nine;
-    if nine.code != 0 {
-        return Answer::Refused(9, nine.code - 1);
+    if let Some(at) = p.nine {
+        return Err(Refusal::NameTwice(wide(at)));
     }
-    let ten = p.ten;
-    if ten.code != 0 {
-        return Answer::Refused(10, ten.code - 1);
+    if let Some(at) = p.ten {
+        return Err(Refusal::ListsFull(wide(at)));
     }
-    Answer::Accepted
+    Ok(())
 }
 
-pub fn refused_second(p: Pass) -> Answer
+pub fn refused_second(p: Pass) -> Result<(), Refusal>
     ensures { refusal_in result ≡ second_of p.second }
 {
-    let second = p.second;
-    if second.number != 0 {
-        return Answer::Refused(second.number, second.at);
-    }
-    Answer::Accepted
+    p.second.map_or(Ok(()), |r| Err(Refusal::Second(r)))
 }

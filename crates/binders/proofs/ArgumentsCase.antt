@@ -105,76 +105,73 @@ pub record NamesLeft (rs : List ℕ) (at k : ℕ) (s : State) (list_entries : Li
   pub count : length rest ≡ k
   pub filled : Filled s list_entries to A (entered rest s)
 
-pub record Storing (rs : List ℕ) (n : Names) (p : Pass) (A w : List ℕ) (to j : ℕ) (A' : List ℕ) : Type 0 where
+pub record Storing (rs : List ℕ) (n : Names) (p : Pass) (A w : List ℕ) (to at : ℕ) (A' : List ℕ) : Type 0 where
   pub is : (F C : List ℕ) (s : State) (xs : List Ident) → Told rs n xs → Fits rs (raw p F C A w) s
-      → NamesLeft rs (n.first + j) (n.count - j) s (entered xs s) to A'
+      → NamesLeft rs at (n.first + n.count - at) s (entered xs s) to A'
 
 module _ {rs : List ℕ} {n : Names} {p : Pass} {A w : List ℕ} where
-  pub storing_starts : Storing rs n p A w p.arguments_top 0 A
+  pub storing_starts : Storing rs n p A w p.arguments_top n.first A
   storing_starts = record {
-    is = λ F C s xs t f.
-        let e : n.first ≡ n.first + 0 = omega arith in
-        record {
-          N = t.many;
-          rest = xs;
-          stand = subst (λ (i : ℕ). NamesStand t.many rs i xs) e t.stand;
-          count = omega (arith, t.count);
-          filled = filled_none f (arguments_top_lem f.tied.works);
-        };
+    is = λ F C s xs t f. record {
+      N = t.many;
+      rest = xs;
+      stand = t.stand;
+      count = omega (arith, t.count);
+      filled = filled_none f (arguments_top_lem f.tied.works);
+    };
   }
 
   pub store_few : NamesStore rs n p A w → n.first + n.count ≤ 4096
   store_few a = omega (arith, a.told.stand.within.few, length-map a.xs named, a.told.count)
 
-  module _ {to j : ℕ} {A' : List ℕ} (m : Storing rs n p A w to j A') where
-    pub storing_ends : n.count ≤ j → {p' : Pass} → p' ≡ with_tops p.captured_top to p → StoresNames rs n p A w p' A'
+  module _ {to i : ℕ} {A' : List ℕ} (m : Storing rs n p A w to i A') where
+    pub storing_ends : n.first + n.count ≤ i → {p' : Pass} → p' ≡ with_tops p.captured_top to p → StoresNames rs n p A w p' A'
     unfolding entered
     storing_ends h {p'} e = record {
       is = λ F C s xs t f. let l = m.is F C s xs t f in filled_all f (none l.rest l.count l.filled) e;
     }
       where
-        none : {s : State} {list_entries : List ListEntry} (xs : List Ident) → length xs ≡ n.count - j → Filled s list_entries to A' (entered xs s) → Filled s list_entries to A' []
+        none : {s : State} {list_entries : List ListEntry} (xs : List Ident) → length xs ≡ n.first + n.count - i → Filled s list_entries to A' (entered xs s) → Filled s list_entries to A' []
         none [] c d = d
         none (x ∷ xs) c d = absurd (omega arith)
 
-    pub storing_goes : j < n.count → {i : ℕ} {A'' : List ℕ} → i ≡ n.first + j → to < list_entries_most → StoresArgument rs i to A' w A'' → Storing rs n p A w (to + 1) (j + 1) A''
+    pub storing_goes : i < n.first + n.count → {A'' : List ℕ} → to < list_entries_most → StoresArgument rs i to A' w A'' → Storing rs n p A w (to + 1) (i + 1) A''
     unfolding entered NumNames
-    storing_goes h {i} {A''} ei room k = record {
+    storing_goes h {A''} room k = record {
       is = λ F C s xs t f. let l = m.is F C s xs t f in go F C s (entered xs s) l.N l.rest l.stand l.count l.filled f;
     }
       where
-        go : (F C : List ℕ) (s : State) (list_entries : List ListEntry) (N : ℕ) (xs : List Ident) → NamesStand N rs (n.first + j) xs → length xs ≡ n.count - j
-            → Filled s list_entries to A' (entered xs s) → Fits rs (raw p F C A w) s → NamesLeft rs (n.first + (j + 1)) (n.count - (j + 1)) s list_entries (to + 1) A''
+        go : (F C : List ℕ) (s : State) (list_entries : List ListEntry) (N : ℕ) (xs : List Ident) → NamesStand N rs i xs → length xs ≡ n.first + n.count - i
+            → Filled s list_entries to A' (entered xs s) → Fits rs (raw p F C A w) s → NamesLeft rs (i + 1) (n.first + n.count - (i + 1)) s list_entries (to + 1) A''
         go F C s list_entries N [] a c d f = absurd (omega arith)
         go F C s list_entries N (x ∷ xs) a c d f =
-            let at : x.at ≡ i = a.num.0 ∙ sym ei in
+            let at : x.at ≡ i = a.num.0 in
             let e : A'' ≡ layout put_list_entry (set d.l to (list_entry_of x (entry_at s x.at))) =
             k.is p F C A d.l s x (known_ident (first_name a)) at f d.table (omega (arith, d.many))
             ∙ ap (λ (z : ℕ). layout put_list_entry (set d.l to (list_entry_of x (entry_at s z)))) (sym at) in
-            let u : n.first + j + 1 ≡ n.first + (j + 1) = omega arith in
             record {
               N = N;
               rest = xs;
-              stand = subst (λ (z : ℕ). NamesStand N rs z xs) u (later-names a);
+              stand = later-names a;
               count = omega arith;
               filled = filled_more d e;
             }
 
     module _ (a : NamesStore rs n p A w) where
-      here : NamesLeft rs (n.first + j) (n.count - j) a.s (entered a.xs a.s) to A'
+      here : NamesLeft rs i (n.first + n.count - i) a.s (entered a.xs a.s) to A'
       here = m.is a.facts a.captured a.s a.xs a.told a.fits
 
-      pub storing_room : j < n.count → to < list_entries_most
+      pub storing_room : i < n.first + n.count → to < list_entries_most
       storing_room h = omega (arith, here.filled.ends, here.count, entered-length here.rest a.s, entered-length a.xs a.s, a.told.count, a.room)
 
       pub storing_table : length A' ≡ list_entries_length
       storing_table = omega (arith, ap length here.filled.table, length-layout list_entry_width put_list_entry list-entry_long here.filled.l, here.filled.many)
 
-      pub storing_binder : j < n.count → BinderFits rs (n.first + j) w
+      pub storing_binder : i < n.first + n.count → BinderFits rs i w
       unfolding NumNames
       storing_binder h = go here.rest here.stand here.count
         where
-          go : (xs : List Ident) → NamesStand here.N rs (n.first + j) xs → length xs ≡ n.count - j → BinderFits rs (n.first + j) w
+          go : (xs : List Ident) → NamesStand here.N rs i xs → length xs ≡ n.first + n.count - i → BinderFits rs i w
           go [] s c = absurd (omega arith)
           go (x ∷ xs) s c = record {
             p = p;

@@ -34,7 +34,7 @@ use Rattle.work.specs.Laws.Fits.{fact_inside, facts_length_lem, tied_amend}
 use Rattle.binders.specs.Laws.Good.{good_last, good_ended, good_removed}
 use Rattle.binders.specs.Leave.{Marked, MarksLast, MarksLasts, NamesEnd, EndsParameters, LeavesNames}
 use Rattle.names.specs.Laws.Idents.{known_name}
-use Rattle.binders.proofs.Names.{Left, left-all, left_done, left-head}
+use Rattle.binders.proofs.Names.{Left, left-all, moved, left_done, left-head}
 
 -- A last use
 
@@ -157,17 +157,13 @@ ended_as {F} {F'} {i} {i'} {n} {m} {id} o ei en eo k =
     (subst (λ (c : ℕ). Amends put_row Blank (amended (λ v. shadows c (with_usage_count n v))) F i' F') eo
     (subst (λ (c : ℕ). Amends put_row Blank (amended (λ v. shadows id (with_usage_count n v))) F c F') ei k))
 
-pub record Ending (rs : List ℕ) (n : Names) (p : Pass) (F w : List ℕ) (j : ℕ) (F' : List ℕ) : Type 0 where
+pub record Ending (rs : List ℕ) (n : Names) (p : Pass) (F w : List ℕ) (at : ℕ) (F' : List ℕ) : Type 0 where
   pub is : (C A : List ℕ) (s : State) (xs : List Ident) → Told rs n xs → Fits rs (raw p F C A w) s
-      → Left rs (n.first + j) (n.count - j) (raw p F' C A w) end_parameters (end_parameters xs s)
-
--- the numbers of a row's place, moved
-moved : (rs : List ℕ) {a a' k k' : ℕ} {z : Raw} {each : List Ident → State → State} {out : State} → a ≡ a' → k ≡ k' → Left rs a k z each out → Left rs a' k' z each out
-moved rs ea ek l = rw (← ea, ← ek) l
+      → Left rs at (n.first + n.count - at) (raw p F' C A w) end_parameters (end_parameters xs s)
 
 module _ {rs : List ℕ} {n : Names} {p : Pass} {F w : List ℕ} where
-  pub ending-starts : Ending rs n p F w 0 F
-  ending-starts = record { is = λ C A s xs t f. left-all rs n xs _ end_parameters s t f }
+  pub ending-starts : Ending rs n p F w n.first F
+  ending-starts = record { is = λ C A s xs t f. moved rs refl (omega arith) (left-all rs n xs _ end_parameters s t f) }
 
   pub end_few : NamesEnd rs n p F w → n.first + n.count ≤ 4096
   end_few a = omega (arith, a.told.stand.within.few, length-map a.xs named, a.told.count)
@@ -175,20 +171,20 @@ module _ {rs : List ℕ} {n : Names} {p : Pass} {F w : List ℕ} where
   pub end-inside : NamesEnd rs n p F w → n.first + n.count ≤ length (records rs)
   end-inside a = omega (arith, names-inside a.told.stand, a.told.count)
 
-  module _ {j : ℕ} {F' : List ℕ} (m : Ending rs n p F w j F') where
-    pub ending_ends : n.count ≤ j → EndsParameters rs n p F w F'
+  module _ {i : ℕ} {F' : List ℕ} (m : Ending rs n p F w i F') where
+    pub ending_ends : n.first + n.count ≤ i → EndsParameters rs n p F w F'
     unfolding end_parameters
     ending_ends h = record { is = λ C A s xs t f. left_done rs (m.is C A s xs t f) (omega arith) (λ u. refl) }
 
-    pub ending_goes : j < n.count → {i hidden name : ℕ} {e : Coded} {F'' : List ℕ} → i ≡ n.first + j → LoadsEntry w i e → name ≡ (nth rs i).name
-        → TellsId rs p w name hidden → Amends put_row Blank (amended (λ v. shadows hidden (with_usage_count e.uses v))) F' i F'' → Ending rs n p F w (j + 1) F''
+    pub ending_goes : i < n.first + n.count → {hidden name : ℕ} {e : Coded} {F'' : List ℕ} → LoadsEntry w i e → name ≡ (nth rs i).name
+        → TellsId rs p w name hidden → Amends put_row Blank (amended (λ v. shadows hidden (with_usage_count e.uses v))) F' i F'' → Ending rs n p F w (i + 1) F''
     unfolding end_parameters end_one
-    ending_goes h {i} {hidden} {name} {e} {F''} ei le en t k = record {
+    ending_goes h {hidden} {name} {e} {F''} le en t k = record {
       is = λ C A s xs q f.
           let l = m.is C A s xs q f in
           let x = left-head rs l (omega arith) in
           let y = x.x in
-          let at : y.at ≡ i = x.here.place ∙ sym ei in
+          let at : y.at ≡ i = x.here.place in
           let u : e.uses ≡ (entry_at l.s y.at).usage_count =
           ap (λ (c : Coded). c.uses) (le.is p l.s l.fits.tied.works) ∙ ap (λ (z : ℕ). (entry_at l.s z).usage_count) (sym at) in
           let o : hidden ≡ id_of (newest l.s y.name) =
@@ -199,42 +195,42 @@ module _ {rs : List ℕ} {n : Names} {p : Pass} {F w : List ℕ} where
             good = good_ended y l.fits.good;
             tied = tied_amend l.fits.tied l.fits.good.rows y.at x.here.known.few _ k';
           } in
-          moved rs (omega arith) (omega arith) (x.next _ end_one end_parameters (λ ys. refl) g);
+          moved rs refl (omega arith) (x.next _ end_one end_parameters (λ ys. refl) g);
     }
 
     pub ending-known : NamesEnd rs n p F w → KnownHere rs p w
     ending-known a = record { s = a.s; works = a.fits.tied.works; binders = a.fits.good.sound.binders }
 
-    pub ending_fact : NamesEnd rs n p F w → {i : ℕ} → i < rows_most → row_width * i + row_width ≤ length F'
-    ending_fact a {i} h = let l = m.is a.captured a.arguments a.s a.xs a.told a.fits in fact_inside l.fits.tied l.fits.good.rows i h
+    pub ending_fact : NamesEnd rs n p F w → i < rows_most → row_width * i + row_width ≤ length F'
+    ending_fact a h = let l = m.is a.captured a.arguments a.s a.xs a.told a.fits in fact_inside l.fits.tied l.fits.good.rows i h
 
 -- The names of a let
 
 leave_one : Ident → State → State
 leave_one x s = mark_last (entry_at s x.at).last_used (removed x.name s)
 
-pub record Leaving (rs : List ℕ) (n : Names) (p : Pass) (F w : List ℕ) (j : ℕ) (q : Pass) (F' w' : List ℕ) : Type 0 where
+pub record Leaving (rs : List ℕ) (n : Names) (p : Pass) (F w : List ℕ) (at : ℕ) (q : Pass) (F' w' : List ℕ) : Type 0 where
   pub is : (C A : List ℕ) (s : State) (xs : List Ident) → Told rs n xs → Fits rs (raw p F C A w) s
-      → Left rs (n.first + j) (n.count - j) (raw q F' C A w') leave_names (leave_names xs s)
+      → Left rs at (n.first + n.count - at) (raw q F' C A w') leave_names (leave_names xs s)
 
 module _ {rs : List ℕ} {n : Names} {p : Pass} {F w : List ℕ} where
-  pub leaving_starts : Leaving rs n p F w 0 p F w
-  leaving_starts = record { is = λ C A s xs t f. left-all rs n xs _ leave_names s t f }
+  pub leaving_starts : Leaving rs n p F w n.first p F w
+  leaving_starts = record { is = λ C A s xs t f. moved rs refl (omega arith) (left-all rs n xs _ leave_names s t f) }
 
-  module _ {j : ℕ} {q : Pass} {F' w' : List ℕ} (m : Leaving rs n p F w j q F' w') where
-    pub leaving_ends : n.count ≤ j → LeavesNames rs n p F w q F' w'
+  module _ {i : ℕ} {q : Pass} {F' w' : List ℕ} (m : Leaving rs n p F w i q F' w') where
+    pub leaving_ends : n.first + n.count ≤ i → LeavesNames rs n p F w q F' w'
     unfolding leave_names
     leaving_ends h = record { is = λ C A s xs t f. left_done rs (m.is C A s xs t f) (omega arith) (λ u. refl) }
 
-    pub leaving_goes : j < n.count → {i name : ℕ} {e : Coded} {q' : Pass} {F'' w'' : List ℕ} → i ≡ n.first + j → LoadsEntry w' i e → name ≡ (nth rs i).name
-        → Becomes q w' (removed name) q' w'' → MarksLast e.last F' F'' → Leaving rs n p F w (j + 1) q' F'' w''
+    pub leaving_goes : i < n.first + n.count → {name : ℕ} {e : Coded} {q' : Pass} {F'' w'' : List ℕ} → LoadsEntry w' i e → name ≡ (nth rs i).name
+        → Becomes q w' (removed name) q' w'' → MarksLast e.last F' F'' → Leaving rs n p F w (i + 1) q' F'' w''
     unfolding leave_names leave_one
-    leaving_goes h {i} {name} {e} {q'} {F''} {w''} ei le en b k = record {
+    leaving_goes h {name} {e} {q'} {F''} {w''} le en b k = record {
       is = λ C A s xs t f.
           let l = m.is C A s xs t f in
           let x = left-head rs l (omega arith) in
           let y = x.x in
-          let at : y.at ≡ i = x.here.place ∙ sym ei in
+          let at : y.at ≡ i = x.here.place in
           let o = (entry_at l.s y.at).last_used in
           let u : e.last ≡ last_code o = last_of le l.fits.tied.works ∙ ap (λ (z : ℕ). last_code (entry_at l.s z).last_used) (sym at) in
           let mid : Fits rs (raw q' F' C A w'') (removed y.name l.s) = record {
@@ -248,18 +244,18 @@ module _ {rs : List ℕ} {n : Names} {p : Pass} {F w : List ℕ} where
           } in
           let g : Fits rs (raw q' F'' C A w'') (leave_one y l.s) =
           record { good = good_last o mid.good; tied = k.is rs q' C A w'' (removed y.name l.s) o u mid } in
-          moved rs (omega arith) (omega arith) (x.next _ leave_one leave_names (λ ys. refl) g);
+          moved rs refl (omega arith) (x.next _ leave_one leave_names (λ ys. refl) g);
     }
 
     module _ (a : NamesEnd rs n p F w) where
-      here : Left rs (n.first + j) (n.count - j) (raw q F' a.captured a.arguments w') leave_names (leave_names a.xs a.s)
+      here : Left rs i (n.first + n.count - i) (raw q F' a.captured a.arguments w') leave_names (leave_names a.xs a.s)
       here = m.is a.captured a.arguments a.s a.xs a.told a.fits
 
       pub leaving_spacious : Spacious q w'
       leaving_spacious = spacious here.fits.tied.works
 
-      pub leaving_last : {i : ℕ} {e : Coded} → LoadsEntry w' i e → e.last ≤ rows_most
-      leaving_last {i} k = omega (arith, last_of k here.fits.tied.works, last_few i here.fits.good)
+      pub leaving_last : {e : Coded} → LoadsEntry w' i e → e.last ≤ rows_most
+      leaving_last k = omega (arith, last_of k here.fits.tied.works, last_few i here.fits.good)
 
       pub leaving_facts : length F' ≡ facts_length
       leaving_facts = facts_length_lem here.fits.tied here.fits.good.rows

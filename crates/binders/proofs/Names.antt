@@ -35,18 +35,12 @@ module _ (rs : List ℕ) where
         → ((xs : List Ident) → each (x ∷ xs) s ≡ then xs (step x s)) → Fits rs z' (step x s) → Left (at + 1) (k - 1) z' then out
 
   pub left-all : (n : Names) (xs : List Ident) (z : Raw) (each : List Ident → State → State) (s : State) → Told rs n xs → Fits rs z s
-      → Left (n.first + 0) (n.count - 0) z each (each xs s)
-  left-all n xs z each s t f =
-      let e : n.first ≡ n.first + 0 = omega arith in
-      record {
-        N = t.many;
-        rest = xs;
-        s = s;
-        stand = subst (λ (i : ℕ). NamesStand t.many rs i xs) e t.stand;
-        count = omega (arith, t.count);
-        fits = f;
-        same = refl;
-      }
+      → Left n.first n.count z each (each xs s)
+  left-all n xs z each s t f = record { N = t.many; rest = xs; s = s; stand = t.stand; count = t.count; fits = f; same = refl }
+
+  -- the numbers of a row's place, moved
+  pub moved : {at at' k k' : ℕ} {z : Raw} {each : List Ident → State → State} {out : State} → at ≡ at' → k ≡ k' → Left at k z each out → Left at' k' z each out
+  moved ea ek l = rw (← ea, ← ek) l
 
   module _ {at k : ℕ} {z : Raw} {each : List Ident → State → State} {out : State} (l : Left at k z each out) where
     pub left_done : k ≡ 0 → ((s : State) → each [] s ≡ s) → Tied z out

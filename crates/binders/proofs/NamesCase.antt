@@ -1,4 +1,5 @@
 -- Names enter one after another, over states.
+use Rattle.std.specs.Prelude.{Option}
 use Prim.Native.Nat.{ℕ, suc, ◌+◌, ◌-◌, ◌≤◌, ◌<◌}
 use mathlib.Core.List.{List}
 use mathlib.Core.Bool.{Bool, cond}
@@ -15,11 +16,11 @@ use Rattle.work.specs.Laws.Works.{names-many}
 use Rattle.work.specs.Passes.{with_second}
 use Rattle.work.specs.Tied.{Raw, raw, Tied, Fits}
 use Rattle.work.specs.declared.Pass.{Pass}
-use Rattle.work.specs.declared.Second.{Second}
+use Rattle.work.specs.declared.SecondRefusal.{SecondRefusal}
 use Rattle.walk.specs.declared.uses.Names.{Names}
 use Rattle.names.specs.Contract.{Room, Defined, NamesRoom}
 use Rattle.lists.specs.Contract.{Told}
-use Rattle.binders.specs.Enter.{NamesFit, EntersNames, heaps_in, TellsHeap, NotesHeap, EntersName}
+use Rattle.binders.specs.Enter.{NamesFit, EntersNames, TellsHeap, NotesHeap, EntersName}
 use Rattle.binders.specs.declared.enter.Entering.{Entering}
 use Rattle.work.specs.Laws.Fits.{arguments_length}
 use Rattle.binders.specs.Laws.Good.{good_name, grows_name}
@@ -28,10 +29,10 @@ use Rattle.binders.proofs.Names.{Left, Head, left-all, left_done, left-head}
 
 -- what is still to be done from place j on, after h heap entries
 abbrev pub enters_from : Entering → List ListEntry → ℕ → ℕ → List Ident → State → State
-enters_from g before j h xs s = enter_names g.kind g.base (heaps_in g.heaps) before xs j h s
+enters_from g before j h xs s = enter_names g.kind g.base g.heaps before xs j h s
 
 abbrev pub enter_one_name : Entering → List ListEntry → ℕ → ℕ → Ident → State → State
-enter_one_name g before j h x s = enter_name g.kind g.base (heaps_in g.heaps) before (is_heap before j) x j h s
+enter_one_name g before j h x s = enter_name g.kind g.base g.heaps before (is_heap before j) x j h s
 
 moved : (rs : List ℕ) (g : Entering) (before : List ListEntry) {a a' k k' j j' h h' : ℕ} {z : Raw} {out : State} → a ≡ a' → k ≡ k' → j ≡ j' → h ≡ h'
     → Left rs a k z (enters_from g before j h) out → Left rs a' k' z (enters_from g before j' h') out
@@ -45,7 +46,7 @@ pub record Coming (rs : List ℕ) (n : Names) (g : Entering) (p : Pass) (F A w :
 
 module _ {rs : List ℕ} {n : Names} {g : Entering} {p : Pass} {F A w : List ℕ} where
   pub coming_starts : Coming rs n g p F A w 0 0 p F w
-  coming_starts = record { is = λ C s xs t f. left-all rs n xs _ _ s t f }
+  coming_starts = record { is = λ C s xs t f. moved rs g _ (omega arith) (omega arith) refl refl (left-all rs n xs _ _ s t f) }
 
   pub names-length : NamesFit rs n g p F A w → length A ≡ list_entries_length
   names-length a = arguments_length a.fits.tied a.fits.good.arguments
@@ -59,7 +60,7 @@ module _ {rs : List ℕ} {n : Names} {g : Entering} {p : Pass} {F A w : List ℕ
     unfolding enter_names
     coming_ends k = record { is = λ C s xs t f. left_done rs (m.is C s xs t f) (omega arith) (λ u. refl) }
 
-    module _ (k : j < n.count) {b : Bool} (heap : TellsHeap A g.before j b) {second : Second}
+    module _ (k : j < n.count) {b : Bool} (heap : TellsHeap A g.before j b) {second : Option SecondRefusal}
         (note : NotesHeap b g.heaps (n.first + j) q.second second) where
       pub coming_fits : NamesFit rs n g p F A w → NamesRoom q (n.count - j) → Room q × Defined rs (n.first + j) (with_second second q) F' w'
       coming_fits a r =
@@ -78,11 +79,11 @@ module _ {rs : List ℕ} {n : Names} {g : Entering} {p : Pass} {F A w : List ℕ
             → Fits rs (raw q' F'' C A w'') (enter_one_name g (list_in s.facts.arguments g.before) j h x.x l.s)
         came {C} {s} f l x =
             let before = list_in s.facts.arguments g.before in
-            let t : Tied (raw q' F'' C A w'') (enter_name g.kind g.base (heaps_in g.heaps) before b x.x j h l.s) =
-            subst (Tied (raw q' F'' C A w'')) (name_noted g.kind g.base (heaps_in g.heaps) before b x.x j h l.s)
+            let t : Tied (raw q' F'' C A w'') (enter_name g.kind g.base g.heaps before b x.x j h l.s) =
+            subst (Tied (raw q' F'' C A w'')) (name_noted g.kind g.base g.heaps before b x.x j h l.s)
             ((e.is C).is A _ x.x (noted_here note x.here)) in
             record {
-              good = good_name g.kind g.base (heaps_in g.heaps) before (is_heap before j) x.x j h x.here.known l.fits.good;
+              good = good_name g.kind g.base g.heaps before (is_heap before j) x.x j h x.here.known l.fits.good;
               tied = rw (is_heap_lem f) at t;
             }
 
@@ -107,5 +108,5 @@ module _ {rs : List ℕ} {n : Names} {g : Entering} {p : Pass} {F A w : List ℕ
               arith,
               names-many l.fits.tied.works,
               names-many (came a.fits l x).tied.works,
-              (grows_name g.kind g.base (heaps_in g.heaps) before x.x j h l.s).live,
+              (grows_name g.kind g.base g.heaps before x.x j h l.s).live,
             )

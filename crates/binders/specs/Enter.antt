@@ -12,25 +12,19 @@ use Rattle.pass.specs.Read.{span, enter}
 use Rattle.pass.specs.Lists.{list_in}
 use Rattle.pass.specs.Lambda.{is_heap, or_zero, note_heap, enter_names}
 use Rattle.pass.specs.Run.{list_entries_most}
-use Rattle.work.specs.Coded.{place_in}
 use Rattle.work.specs.Passes.{with_second}
 use Rattle.work.specs.Works.{Works}
 use Rattle.work.specs.Tied.{raw, Tied, Fits}
 use Rattle.work.specs.declared.Pass.{Pass}
-use Rattle.work.specs.declared.Second.{Second}
+use Rattle.work.specs.declared.SecondRefusal.{SecondRefusal}
 use Rattle.walk.specs.declared.uses.Names.{Names}
 use Rattle.names.specs.Contract.{NamesRoom, with_name, Does}
 use Rattle.lists.specs.Contract.{Told, Inside}
 use Rattle.binders.specs.declared.enter.Entering.{Entering}
 use Rattle.binders.specs.declared.enter.EnteredNames.{EnteredNames}
-use Rattle.binders.specs.declared.enter.Heaps.{Heaps}
 
--- a count is kept as a place is: plus one, and 0 is none
-abbrev pub heaps_in : Heaps → Option ℕ
-heaps_in o = place_in o.code
-
-abbrev pub FewHeaps : Heaps → Type 0
-FewHeaps o = o.code ≤ list_entries_most + 1
+abbrev pub FewHeaps : Option ℕ → Type 0
+FewHeaps o = or_zero o ≤ list_entries_most
 
 -- whether the entry at place j of a list is captured and mutated
 pub record TellsHeap (A : List ℕ) (before : ListAt) (j : ℕ) (r : Bool) : Type 0 where
@@ -50,11 +44,11 @@ abbrev pub entered_name : Bool → IdentifierStatus → ℕ → Option ℕ → �
 entered_name heap kind base heaps j h x s =
     insert x.at (Variable (new (cond heap HeapAllocated kind) (depth s) (span x))) (enter x (name_entry heap base heaps j h (depth s)) s)
 
-pub record NotesHeap (heap : Bool) (heaps : Heaps) (at : ℕ) (before r : Second) : Type 0 where
-  pub is : (p : Pass) (w : List ℕ) (s : State) (x : Ident) → p.second ≡ before → x.at ≡ at → Works p w s → Works (with_second r p) w (noted_name heap (heaps_in heaps) x s)
+pub record NotesHeap (heap : Bool) (heaps : Option ℕ) (at : ℕ) (before r : Option SecondRefusal) : Type 0 where
+  pub is : (p : Pass) (w : List ℕ) (s : State) (x : Ident) → p.second ≡ before → x.at ≡ at → Works p w s → Works (with_second r p) w (noted_name heap heaps x s)
 
 pub record EntersName (heap : Bool) (g : Entering) (rs : List ℕ) (at j h : ℕ) (p : Pass) (F w : List ℕ) (p' : Pass) (F' w' : List ℕ) : Type 0 where
-  pub is : (C : List ℕ) → Does rs at p F C w (entered_name heap g.kind g.base (heaps_in g.heaps) j h) p' F' w'
+  pub is : (C : List ℕ) → Does rs at p F C w (entered_name heap g.kind g.base g.heaps j h) p' F' w'
 
 -- what its offsets may be
 pub record SlotsFit (g : Entering) (j h : ℕ) : Type 0 where
@@ -77,7 +71,7 @@ pub record NamesFit (rs : List ℕ) (n : Names) (g : Entering) (p : Pass) (F A w
 
 pub record EntersNames (rs : List ℕ) (n : Names) (g : Entering) (p : Pass) (F A w : List ℕ) (p' : Pass) (F' w' : List ℕ) : Type 0 where
   pub is : (C : List ℕ) (s : State) (xs : List Ident) → Told rs n xs → Fits rs (raw p F C A w) s
-      → Tied (raw p' F' C A w') (enter_names g.kind g.base (heaps_in g.heaps) (list_in s.facts.arguments g.before) xs 0 0 s)
+      → Tied (raw p' F' C A w') (enter_names g.kind g.base g.heaps (list_in s.facts.arguments g.before) xs 0 0 s)
 
 -- the pass with what they changed
 abbrev pub with_names : EnteredNames → Pass → Pass

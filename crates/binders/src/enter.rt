@@ -1,20 +1,18 @@
 // Names of a lambda or a let, as they enter.
-ghost use Rattle.std.specs.Prelude.{◌≡◌, cond, suc, ◌<◌, length};
+ghost use Rattle.std.specs.Prelude.{◌≡◌, cond, ◌<◌, length};
 ghost use Rattle.semantic.specs.declared.IdentifierStatus.TheVariants.{HeapAllocated};
-ghost use Rattle.pass.specs.Lambda.{or_zero};
 ghost use Rattle.pass.specs.Run.{list_entries_length};
 ghost use Rattle.work.specs.Coded.{coded};
 ghost use Rattle.names.specs.Contract.{Room, with_name, Defined};
 ghost use Rattle.lists.specs.Contract.{Inside};
-ghost use Rattle.binders.specs.Enter.{heaps_in, TellsHeap, name_entry, NotesHeap, EntersName, SlotsFit, NamesFit, EntersNames, with_names};
+ghost use Rattle.binders.specs.Enter.{TellsHeap, name_entry, NotesHeap, EntersName, SlotsFit, NamesFit, EntersNames, with_names};
 
 use names::define::{EnteredName, name_in, with_name};
 use semantic::{IdentifierStatus, ListAt, SemanticInformation};
 use table::wide;
 use walk::uses::Names;
 use work::entries::Entry;
-use work::notes::first_second;
-use work::{Pass, Second, narrow};
+use work::{Pass, SecondRefusal, narrow};
 
 pub fn no_list() -> ListAt
     ensures { result ≡ record { first = 0; length = 0 } }
@@ -25,19 +23,13 @@ pub fn no_list() -> ListAt
     }
 }
 
-// How many heap entries the lambda around has, plus one; 0 where there is none. An enum would be stored in narrow words and copied in a wide one,
-// and such a copy waits for the stores (docs/SPEED.md, 49).
-#[derive(Clone, Copy)]
-pub struct Heaps {
-    pub code: u32,
-}
-
-// What names that enter have in common: their kind, the slot of the first, the heap entries around, and the list of the run before.
+// What names that enter have in common: their kind, the slot of the first, how many heap entries the lambda around has, if there is one, and the
+// list of the run before.
 #[derive(Clone, Copy)]
 pub struct Entering {
     pub kind: IdentifierStatus,
     pub base: u32,
-    pub heaps: Heaps,
+    pub heaps: Option<u32>,
     pub before: ListAt,
 }
 
@@ -52,57 +44,43 @@ fn is_heap(arguments: &[u32], before: ListAt, j: usize) -> bool
     semantic::list_entries::is_heap(arguments, wide(before.first) + j)
 }
 
-fn next_heap(heap: bool, h: u32) -> u32
-    requires { h < 4294967295 }
-    ensures { result ≡ cond heap (suc h) h }
-{
-    if heap {
-        return h + 1;
-    }
-    h
-}
-
-fn or_zero(heaps: Heaps) -> u32
-    ensures { result ≡ or_zero (heaps_in heaps) }
-{
-    if heaps.code == 0 {
-        return 0;
-    }
-    heaps.code - 1
-}
-
 // The entry of the name at place j, with h heap entries before it: on the heap, if it was captured and mutated on the run before, or with a slot.
 fn name_entry(heap: bool, g: Entering, j: u32, h: u32, depth: u32) -> Entry
     requires { SlotsFit g j h }
-    ensures { result ≡ coded (name_entry heap g.base (heaps_in g.heaps) j h depth) }
+    ensures { result ≡ coded (name_entry heap g.base g.heaps j h depth) }
 {
-    let heaps = g.heaps;
     if heap {
-        return Entry::on_heap(j, h + or_zero(heaps), depth);
+        Entry::on_heap(j, h + g.heaps.unwrap_or(0), depth)
+    } else {
+        Entry::local(g.base + j, depth)
     }
-    Entry::local(g.base + j, depth)
 }
 
 fn name_kind(heap: bool, kind: IdentifierStatus) -> IdentifierStatus
     ensures { result ≡ cond heap HeapAllocated kind }
 {
     if heap {
-        return IdentifierStatus::HeapAllocated;
+        IdentifierStatus::HeapAllocated
+    } else {
+        kind
     }
-    kind
 }
 
 // Refusal 11: on the heap, with no lambda around.
-fn note_heap(heap: bool, heaps: Heaps, at: usize, before: Second) -> Second
+fn note_heap(
+    heap: bool,
+    heaps: Option<u32>,
+    at: usize,
+    before: Option<SecondRefusal>,
+) -> Option<SecondRefusal>
+    requires { at < 4294967296 }
     ensures { NotesHeap heap heaps at before result }
 {
-    if !heap {
-        return before;
+    if heap && heaps.is_none() {
+        before.or(Some(SecondRefusal::NoLambda(narrow(at))))
+    } else {
+        before
     }
-    if heaps.code == 0 {
-        return first_second(before, 11, at);
-    }
-    before
 }
 
 // The name at place j, with h heap entries before it.
@@ -120,11 +98,10 @@ fn enter_name(
     requires { Room p × Defined all.now at p facts.old work.old × SlotsFit g j h }
     ensures { EntersName heap g all.now at j h p facts.old work.old (with_name result p) facts.new work.new }
 {
-    let kind = g.kind;
     let depth = p.depth();
     let e = name_entry(heap, g, j, h, depth);
     let fact = SemanticInformation::new(
-        name_kind(heap, kind),
+        name_kind(heap, g.kind),
         depth,
         names::facts::span_at(all, at),
     );
@@ -135,17 +112,16 @@ fn enter_name(
 #[derive(Clone, Copy)]
 pub struct EnteredNames {
     pub name: EnteredName,
-    pub second: Second,
+    pub second: Option<SecondRefusal>,
 }
 
 pub fn with_names(p: Pass, e: EnteredNames) -> Pass
     ensures { result ≡ with_names e p }
 {
-    let name = e.name;
-    let second = e.second;
-    let mut q = with_name(p, name);
-    q.second = second;
-    q
+    Pass {
+        second: e.second,
+        ..with_name(p, e.name)
+    }
 }
 
 // The loop holds only what changes: a whole pass would be stored in narrow words and copied in wide ones at each name, and such a copy waits for the
@@ -162,22 +138,18 @@ pub fn enter_names(
     requires { NamesFit all.now names g p facts.old arguments.now work.old }
     ensures { EntersNames all.now names g p facts.old arguments.now work.old (with_names result p) facts.new work.new }
 {
-    let first = names.first;
-    let before = g.before;
-    let heaps = g.heaps;
     let mut name = name_in(p);
     let mut second = p.second;
     let mut h = 0;
-    let mut j = 0;
-    while j < names.count {
-        let at = first + j;
-        let heap = is_heap(arguments, before, j);
-        second = note_heap(heap, heaps, at, second);
-        let e = EnteredNames { name, second };
-        let q = with_names(p, e);
+    for j in 0..names.count {
+        let at = names.first + j;
+        let heap = is_heap(arguments, g.before, j);
+        second = note_heap(heap, g.heaps, at, second);
+        let q = with_names(p, EnteredNames { name, second });
         name = enter_name(all, at, heap, g, narrow(j), h, q, facts, work);
-        h = next_heap(heap, h);
-        j += 1;
+        if heap {
+            h += 1;
+        }
     }
     EnteredNames { name, second }
 }

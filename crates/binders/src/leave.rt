@@ -26,14 +26,10 @@ pub fn mark_lasts(p: Pass, low: usize, facts: &mut [u32], work: &[u32])
     requires { Marked p facts.old work.now × StartsLayer p work.now low }
     ensures { MarksLasts p facts.old work.now facts.new }
 {
-    let scope = p.scope;
-    let end = scope.length;
-    let mut i = low;
-    while i < end {
+    for i in low..p.scope.length {
         let r = live_at(p, work, i);
         let e = load_entry(work, wide(r.value));
         mark_last(e.last, facts);
-        i += 1;
     }
 }
 
@@ -56,19 +52,16 @@ pub fn store_layer(all: &[u32], p: Pass, arguments: &mut [u32], work: &[u32]) ->
     requires { LayerFits all.now p arguments.old work.now }
     ensures { StoresLayer all.now p arguments.old work.now result arguments.new }
 {
-    let scope = p.scope;
-    let end = scope.length;
     let mut to = p.arguments_top;
-    let mut i = newest_layer(p, work);
-    while i < end {
+    for i in newest_layer(p, work)..p.scope.length {
         let r = live_at(p, work, i);
         store_argument(all, wide(r.value), to, arguments, work);
         to += 1;
-        i += 1;
     }
-    let mut q = p;
-    q.arguments_top = to;
-    q
+    Pass {
+        arguments_top: to,
+        ..p
+    }
 }
 
 // A let's names as an argument list.
@@ -76,17 +69,15 @@ pub fn store_names(all: &[u32], names: Names, p: Pass, arguments: &mut [u32], wo
     requires { NamesStore all.now names p arguments.old work.now }
     ensures { StoresNames all.now names p arguments.old work.now result arguments.new }
 {
-    let first = names.first;
     let mut to = p.arguments_top;
-    let mut j = 0;
-    while j < names.count {
-        store_argument(all, first + j, to, arguments, work);
+    for at in names.first..names.first + names.count {
+        store_argument(all, at, to, arguments, work);
         to += 1;
-        j += 1;
     }
-    let mut q = p;
-    q.arguments_top = to;
-    q
+    Pass {
+        arguments_top: to,
+        ..p
+    }
 }
 
 // A parameter's fact takes its entry's uses, and the id of what it hides.
@@ -94,14 +85,10 @@ pub fn end_parameters(all: &[u32], names: Names, p: Pass, facts: &mut [u32], wor
     requires { NamesEnd all.now names p facts.old work.now }
     ensures { EndsParameters all.now names p facts.old work.now facts.new }
 {
-    let first = names.first;
-    let mut j = 0;
-    while j < names.count {
-        let at = first + j;
+    for at in names.first..names.first + names.count {
         let e = load_entry(work, at);
         let hidden = newest_id(all, p, work, tree::record::name(all, at));
         semantic::amend::end_parameter(facts, at, e.uses, hidden);
-        j += 1;
     }
 }
 
@@ -110,15 +97,11 @@ pub fn leave_names(all: &[u32], names: Names, p: Pass, facts: &mut [u32], work: 
     requires { NamesEnd all.now names p facts.old work.old }
     ensures { LeavesNames all.now names p facts.old work.old result facts.new work.new }
 {
-    let first = names.first;
     let mut q = p;
-    let mut j = 0;
-    while j < names.count {
-        let at = first + j;
+    for at in names.first..names.first + names.count {
         let e = load_entry(work, at);
         q = remove_name(q, work, tree::record::name(all, at));
         mark_last(e.last, facts);
-        j += 1;
     }
     q
 }

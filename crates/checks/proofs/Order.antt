@@ -2,7 +2,7 @@
 use Rattle.std.specs.Prelude.{Option, None, Some}
 use Prim.Native.Nat.{ℕ, ◌%◌, ◌≤◌, ◌<◌}
 use mathlib.Core.List.{List}
-use mathlib.Core.Path.{◌≡◌, sym, ◌∙◌}
+use mathlib.Core.Path.{◌≡◌}
 use native.Mathlib.Omega.{arith}
 use borrow.Author.Tests.{eq-eqb, ne_eqb, lt-ltb, le-ltb}
 use lib.ListN.{length}
@@ -11,9 +11,6 @@ use Rattle.tree.specs.Check.{Refusal, or_else, check1, check2, check3, check4, c
 use Rattle.checks.specs.Private.Order.{from3, from8}
 use Rattle.tree.proofs.Laws.Acceptance.Passes.{silent}
 use Rattle.checks.specs.Private.Clear.{Clear}
-use Rattle.scans.specs.declared.scan.Found.{Found}
-use Rattle.scans.specs.declared.scan.Found.TheVariants.{At, Nothing}
-use Rattle.scans.specs.Found.{found_of}
 
 module _ (N : ℕ) (rs : List ℕ) where
   pub ragged : (length rs % width ≡ 0 → ⊥) → Some (record { number = 1; at = 0 }) ≡ refusal N rs
@@ -60,15 +57,3 @@ cleared N rs c = rw (c.fields, c.children, c.nesting, c.names, c.calls, c.tests)
 -- where none refuses, none of them applies
 pub unrefused : (N : ℕ) (rs : List ℕ) → refusal N rs ≡ None → Clear N rs
 unrefused N rs e = let c = silent N rs e in record { fields = c.c3; children = c.c4; nesting = c.c5; names = c.c6; calls = c.c7; tests = c.c16 }
-
--- of the checks from 3 on, check n is next
-pub record Next (N : ℕ) (rs : List ℕ) (n : ℕ) (check : ℕ → List ℕ → Option ℕ) (later : ℕ → List ℕ → Option Refusal) : Type 0 where
-  pub is : from3 N rs ≡ or_else n (check N rs) (later N rs)
-
--- it finds a record, or nothing, and the later ones decide
-module _ {N : ℕ} {rs : List ℕ} {n : ℕ} {check : ℕ → List ℕ → Option ℕ} {later : ℕ → List ℕ → Option Refusal} (p : Next N rs n check later) {f : Found} (e : found_of f ≡ check N rs) where
-  pub refused : {i : ℕ} → f ≡ At i → Some (record { number = n; at = i }) ≡ from3 N rs
-  refused q = sym (p.is ∙ rw (← e, q))
-
-  pub passed : f ≡ Nothing → from3 N rs ≡ later N rs
-  passed q = p.is ∙ rw (← e, q)

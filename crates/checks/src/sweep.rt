@@ -8,9 +8,10 @@ ghost use Rattle.checks.specs.Private.Clear.{Clear};
 ghost use Rattle.checks.specs.Leaves.{tops_in, Stores};
 ghost use Rattle.tree.specs.Starts.{StartsWith};
 
+use scans::limits::Limits;
 use scans::nest::DEEPEST;
+use scans::pick;
 use scans::scan::taken;
-use scans::{limits, pick};
 use table::wide;
 use tree::record;
 
@@ -64,7 +65,7 @@ pub fn clear(rs: &[u32], names: usize, tops: &mut [u16]) -> bool
     ensures stores { Stores rs.now tops.old tops.new }
 {
     let n = record::len(rs);
-    let t = limits::all(names);
+    let limits = Limits::new(names);
     let mut kept = [0u32; PLACES];
     let mut inner = Innermost {
         word: CHILD * (n + 1),
@@ -72,19 +73,17 @@ pub fn clear(rs: &[u32], names: usize, tops: &mut [u16]) -> bool
     };
     let mut due = 0;
     let mut top = 0;
-    let mut i = 0;
-    while i < n {
-        if !limits::within(&t, rs, i, due) {
+    for i in 0..n {
+        if !limits.within(rs, i, due) {
             return false;
         }
-        due = taken(due) + limits::parts(&t, rs, i, limits::NAMES);
+        due = taken(due) + limits.names.of(rs, i);
         if DEEPEST <= inner.word % CHILD {
             return false;
         }
         tops[top] = i as u16;
         top += pick(inner.word % CHILD == 0, 1, 0);
-        inner = step(&mut kept, inner, limits::parts(&t, rs, i, limits::CHILDREN));
-        i += 1;
+        inner = step(&mut kept, inner, limits.children.of(rs, i));
     }
     tops[top] = n as u16;
     inner.word % CHILD == 0

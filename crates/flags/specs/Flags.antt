@@ -1,14 +1,15 @@
 -- What a visit inherits, as the code holds it.
-use Rattle.std.specs.Prelude.{ℕ, ◌+◌, Bool, ◌≡◌, Option, None, Some}
+use Rattle.std.specs.Prelude.{ℕ, Bool, ◌≡◌, Option, None, Some}
 use Rattle.tree.specs.Tree.{Node, Tree}
-use Rattle.semantic.specs.Information.{NONE}
 use Rattle.pass.specs.Visit.{Flags, is_lambda, body_flags, head_flags}
 use Rattle.flags.specs.declared.Flags.{Flags as Coded}
 use Rattle.flags.specs.declared.Around.{Around}
 
-abbrev pub AroundIs : Around → Option Node → Type 0
-AroundIs a (Some n) = (a.code ≡ n.at + 1) × (a.id ≡ n.id)
-AroundIs a None = (a.code ≡ 0) × (a.id ≡ NONE)
+abbrev pub AroundIs : Option Around → Option Node → Type 0
+AroundIs (Some a) (Some n) = (a.at ≡ n.at) × (a.id ≡ n.id)
+AroundIs None None = Unit {0}
+AroundIs (Some a) None = ⊥
+AroundIs None (Some n) = ⊥
 
 pub record FlagsAre (g : Coded) (f : Flags) : Type 0 where
   pub tail : g.tail ≡ f.tail

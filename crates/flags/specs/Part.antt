@@ -1,5 +1,5 @@
 -- What each part of an expression is handed.
-use Rattle.std.specs.Prelude.{◌+◌, ◌<◌, true, false, cond, not, ◌&&◌}
+use Rattle.std.specs.Prelude.{◌+◌, ◌<◌, true, false, cond, not, ◌&&◌, Some}
 use Rattle.pass.specs.Visit.{not_tail, same_tail, pushed, let_body_flags, argument_flags, in_begin, in_and, child_flags, define_flags}
 use Rattle.flags.specs.Flags.{Most, Handed, HandsBody, HandsHead}
 use Rattle.flags.specs.declared.Flags.{Flags as Coded}
@@ -25,7 +25,7 @@ abbrev pub at_part : Part → Coded → Coded
 at_part NotTail g = record { height = g.height; counter = g.counter; function = g.function; tail = false; escape = g.escape; direct = false }
 at_part SameTail g = record { height = g.height; counter = g.counter; function = g.function; tail = g.tail; escape = g.escape; direct = false }
 at_part (LetBody k) g = record { height = g.height + k; counter = g.counter; function = g.function; tail = g.tail; escape = g.escape; direct = false }
-at_part (Body at id k) g = record { height = k; counter = g.counter + 1; function = record { code = at + 1; id = id }; tail = true; escape = g.escape; direct = false }
+at_part (Body at id k) g = record { height = k; counter = g.counter + 1; function = Some (record { at = at; id = id }); tail = true; escape = g.escape; direct = false }
 at_part Argument g = record { height = g.height; counter = g.counter; function = g.function; tail = false; escape = true; direct = false }
 at_part Next g = record { height = g.height + 1; counter = g.counter; function = g.function; tail = g.tail; escape = g.escape; direct = g.direct }
 at_part (Head lambda k) g = record { height = g.height + k; counter = g.counter; function = g.function; tail = false; escape = g.tail && not lambda; direct = false }

@@ -26,7 +26,7 @@ use Rattle.pass.specs.Visit.{last_use_of, same_ident, mark_argument, mark_argume
 use Rattle.pass_laws.specs.Laws.Sound.Calls.{each_marks}
 use Rattle.pass.specs.Run.{rows_most}
 use Rattle.work.specs.Known.{Known}
-use Rattle.work.specs.Coded.{last_code, record_in, record_of}
+use Rattle.work.specs.Coded.{last_code, record_in}
 use Rattle.work.specs.Works.{Works}
 use Rattle.work.specs.Leaves.{Tells, LoadsEntry}
 use Rattle.work.specs.Laws.Works.{depth_is}
@@ -35,7 +35,6 @@ use Rattle.work.specs.Tied.{raw, Tied, Good, Fits}
 use Rattle.work.specs.Laws.Good.{Sized, sized_same, sized_then, good_each, sized_last}
 use Rattle.work.specs.declared.Pass.{Pass}
 use Rattle.work.specs.declared.entries.Entry.{Entry as Coded}
-use Rattle.work.specs.declared.scope.Binder.{Binder}
 use Rattle.walk.specs.Contract.{SomeTree, StepsOver, Reaches}
 use Rattle.forms.specs.Contract.{CallFits, ClosesCall}
 use Rattle.work.specs.Laws.Fits.{fact_inside, tied_amend}
@@ -43,11 +42,10 @@ use Rattle.forms.specs.Calls.{Mentioned, IsLast, ArgumentFits, MarksArgument, Ar
 use Rattle.work.specs.Laws.Known.{known_ident}
 use Rattle.names.specs.Laws.Idents.{known_name, known_id}
 use Rattle.forms.proofs.Trees.{Walks, Left, Head, left-all, left_done, left-head, step_few}
-use Rattle.work.specs.declared.scope.Binder.TheVariants as binder
 
 -- the newest binder of a name, as the code finds it
-abbrev pub Finds : Pass → List ℕ → ℕ → Binder → Type 0
-Finds p w n r = Tells p w (λ s. record_in (newest s n)) (record_of r)
+abbrev pub Finds : Pass → List ℕ → ℕ → Option ℕ → Type 0
+Finds p w n r = Tells p w (λ s. record_in (newest s n)) r
 
 none_record : (o : Option Ident) → None ≡ record_in o → o ≡ None
 none_record None e = refl
@@ -60,18 +58,18 @@ record LastAt (rs : List ℕ) (s : State) (b i : ℕ) : Type 0 where
   pub place : y.at ≡ i
   pub known : Known rs y
 
-module _ (rs : List ℕ) (at n : ℕ) {p : Pass} {w : List ℕ} {r : Binder} (named : n ≡ (nth rs at).name) (found : Finds p w n r) where
-  pub not_found : r ≡ binder.Nothing → IsLast rs at p w false
+module _ (rs : List ℕ) (at n : ℕ) {p : Pass} {w : List ℕ} {r : Option ℕ} (named : n ≡ (nth rs at).name) (found : Finds p w n r) where
+  pub not_found : r ≡ None → IsLast rs at p w false
   not_found e = record {
     is = λ s x k q a g.
-        let z = none_record (newest s n) (ap record_of (sym e) ∙ found.is s a) in
+        let z = none_record (newest s n) (sym e ∙ found.is s a) in
         rw (← (named ∙ known_name k q), z);
   }
 
   -- the binder found, in one state
-  module _ {b : ℕ} (e : r ≡ binder.At b) where
+  module _ {b : ℕ} (e : r ≡ Some b) where
     binder_at_lem : (s : State) → Works p w s → Good rs s → KnownAt rs (newest s n) b
-    binder_at_lem s a g = newest-known rs s n b g.sound.binders (ap record_of (sym e) ∙ found.is s a)
+    binder_at_lem s a g = newest-known rs s n b g.sound.binders (sym e ∙ found.is s a)
 
     pub binder_few : Mentioned rs at p w → b < rows_most
     binder_few m = let y = binder_at_lem m.s m.works m.good in omega (arith, y.at, y.known.few)
@@ -203,7 +201,7 @@ module _ {rs : List ℕ} {first k : ℕ} {p : Pass} {F w : List ℕ} where
     pub marking_ends : k ≤ i → MarksArguments rs first k p F w F'
     marking_ends h = record { is = λ N C A s es a b f. left_done marks_walk N rs (m.is N C A s es a b f) (omega arith) }
 
-    pub marking_goes : i < k → {n r : ℕ} {F'' : List ℕ} → Reaches rs at r → MarksArgument rs r p F' w F'' → StepsOver rs at (k - (i + 1)) n → Marking rs first k p F w (at + n) (i + 1) F''
+    pub marking_goes : i < k → {n r : ℕ} {F'' : List ℕ} → Reaches rs at r → MarksArgument rs r p F' w F'' → StepsOver rs at (k - 1 - i) n → Marking rs first k p F w (at + n) (i + 1) F''
     marking_goes h {n} {F'' = F''} c d x = record {
       is = λ N C A s es a b f.
           let l = m.is N C A s es a b f in

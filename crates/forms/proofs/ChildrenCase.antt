@@ -121,7 +121,7 @@ module _ {classes rs : List ℕ} {first k : ℕ} {kind : IdentifierStatus} {p : 
           subst (Fits rs _) (sym (by_peel (λ (v : Tree). enter_child classes kind v l.s) (λ m. refl) t.t))
           (record { good = good_one classes kind (peel t.t) u l.fits.good; tied = d.is C A l.s (peel t.t) u l.fits })
 
-      pub going_goes : {n r : ℕ} {q' : Pass} {F'' w'' : List ℕ} → Reaches rs at r → EntersChild classes rs r kind q F' w' q' F'' w'' → StepsOver rs at (k - (i + 1)) n
+      pub going_goes : {n r : ℕ} {q' : Pass} {F'' w'' : List ℕ} → Reaches rs at r → EntersChild classes rs r kind q F' w' q' F'' w'' → StepsOver rs at (k - 1 - i) n
           → Going classes rs first k kind p F w (at + n) (i + 1) q' F'' w''
       going_goes {n} {q' = q'} {F''} {w''} c d x = record {
         is = λ C A s es a b f.

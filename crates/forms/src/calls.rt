@@ -16,22 +16,18 @@ use walk::body::core_at;
 use walk::extent::step_over;
 use work::Pass;
 use work::entries::load_entry;
-use work::scope::{Binder, newest};
+use work::scope::newest;
 
 // Whether the identifier's last use so far is the one at the record.
 fn is_last_use(all: &[u32], at: usize, p: Pass, work: &[u32]) -> bool
     requires { Mentioned all.now at p work.now }
     ensures { IsLast all.now at p work.now result }
 {
-    let found = newest(p, work, tree::record::name(all, at));
-    let Binder::At(b) = found else {
+    let Some(b) = newest(p, work, tree::record::name(all, at)) else {
         return false;
     };
-    let e = load_entry(work, b);
-    if e.last == 0 {
-        return false;
-    }
-    tree::record::id(all, wide(e.last - 1)) == tree::record::id(all, at)
+    let last = load_entry(work, b).last;
+    last != 0 && tree::record::id(all, wide(last - 1)) == tree::record::id(all, at)
 }
 
 // An argument that is an identifier is marked where it is its name's last use so far.
@@ -39,10 +35,8 @@ fn mark_argument(all: &[u32], at: usize, p: Pass, facts: &mut [u32], work: &[u32
     requires { ArgumentFits all.now at p facts.old work.now }
     ensures { MarksArgument all.now at p facts.old work.now facts.new }
 {
-    if tree::record::form(all, at) == IDENTIFIER {
-        if is_last_use(all, at, p, work) {
-            semantic::amend::mark_last_usage(facts, at);
-        }
+    if tree::record::form(all, at) == IDENTIFIER && is_last_use(all, at, p, work) {
+        semantic::amend::mark_last_usage(facts, at);
     }
 }
 
@@ -52,11 +46,9 @@ fn mark_arguments(all: &[u32], first: usize, k: usize, p: Pass, facts: &mut [u32
     ensures { MarksArguments all.now first k p facts.old work.now facts.new }
 {
     let mut at = first;
-    let mut i = 0;
-    while i < k {
+    for i in 0..k {
         mark_argument(all, core_at(all, at), p, facts, work);
-        i += 1;
-        at += step_over(all, at, k - i);
+        at += step_over(all, at, k - 1 - i);
     }
 }
 
@@ -72,9 +64,8 @@ fn call_kind(tail: bool, own: bool, k: u32) -> CallKind
     ensures { result ≡ call_kind tail own k }
 {
     if !tail {
-        return CallKind::Normal;
-    }
-    if own {
+        CallKind::Normal
+    } else if own {
         CallKind::SelfTailCall(k)
     } else {
         CallKind::TailCall
@@ -85,7 +76,7 @@ fn call_site(at: usize, kind: CallKind, span: Span, facts: &mut [u32])
     requires { row_width * at + row_width ≤ length facts.old }
     ensures { Stores put_row facts.old at (CallSite (record { kind = kind; span = span })) facts.new }
 {
-    semantic::rows::store_call_site(facts, at, CallSiteInformation::new(kind, span));
+    semantic::rows::store(facts, at, CallSiteInformation::new(kind, span));
 }
 
 // Whether the tree at the record is a constant: an and of none is #t.
@@ -166,7 +157,8 @@ pub fn clear_context(at: usize, p: Pass, facts: &[u32]) -> u32
     ensures { ClearsContext at p facts.now (in_context result p) }
 {
     if is_self(at, p, facts) {
-        return NONE;
+        NONE
+    } else {
+        p.context
     }
-    p.context
 }

@@ -99,15 +99,13 @@ pub fn close_define(
     ensures { ClosesDefine all.now at direct context b p facts.old work.old (with_define result p) facts.new work.new }
 {
     let name = enter_inner_value(all, at, b, p, facts, work);
-    if direct {
-        return EnteredDefine { context, name };
-    }
-    if b.lambda {
-        return EnteredDefine { context, name };
-    }
-    EnteredDefine {
-        context: p.context,
-        name,
+    if direct || b.lambda {
+        EnteredDefine { context, name }
+    } else {
+        EnteredDefine {
+            context: p.context,
+            name,
+        }
     }
 }
 
@@ -152,12 +150,10 @@ pub fn enter_children(
 {
     let mut e = name_in(p);
     let mut at = first;
-    let mut i = 0;
-    while i < k {
+    for i in 0..k {
         let q = with_name(p, e);
         e = enter_child(classes, all, core_at(all, at), kind, q, facts, work);
-        i += 1;
-        at += step_over(all, at, k - i);
+        at += step_over(all, at, k - 1 - i);
     }
     e
 }

@@ -13,11 +13,10 @@ use Rattle.tree.specs.Check.{member}
 use Rattle.tree.specs.Accepted.{All}
 use Rattle.scope_map.specs.ScopeMap.{ScopeMap, Live, newest_layer}
 use Rattle.semantic.specs.Rows.{Blank, Function, ListEntry, row_width, put_row}
-use Rattle.semantic.specs.Kinds.{function_in, function_found}
+use Rattle.semantic.specs.Kinds.{function_in}
 use Rattle.semantic.specs.Leaves.{Stores, Tells}
 use Rattle.semantic.specs.declared.ListAt.{ListAt}
 use Rattle.semantic.specs.declared.FunctionInformation.{FunctionInformation}
-use Rattle.semantic.specs.declared.FoundFunction.{FoundFunction}
 use Rattle.pass.specs.State.{State, Capture, row_at, entry_at, newest, insert, list_entry_of, depth}
 use Rattle.pass.specs.Lists.{add_captured, captured_in, captured_vars, list_in, keep, name_of, names_of, amend_list, store_captured, store_arguments, rewrite_captured}
 use Rattle.pass.specs.Lambda.{name_in, list_entries_of, mark_lasts, close_scope, close_captures, end_parameters, make_function, now_used, kept_of, holds_lambda, amend_function, function_ends, close_lambda}
@@ -42,11 +41,9 @@ use Rattle.layers.specs.Contract.{LambdaEnds, ClosesLambda}
 use Rattle.work.specs.Laws.Fits.{fact_inside, tied_insert}
 use Rattle.binders.specs.Leave.{MarksLasts, LayerFits, StoresLayer, NamesEnd, EndsParameters}
 use Rattle.layers.specs.Lambdas.{layers_closed, ClosesLayers, made_list, layer_list, with_lists, entries_between, captured_list_at, argument_list_at, function_fact, ListsEnd, EndsLists}
-use Rattle.layers.specs.declared.lambda.EndedLists.{EndedLists}
 use Rattle.binders.specs.Laws.Lengths.{list_entries_length_lem}
 use Rattle.layers.proofs.LambdaEnter.{fact_is}
 use Rattle.layers.proofs.Closing.{Lists, lists_of, put, closed-lists, commutes, lasts_closed, captured_stored, captured_put, arguments_stored, stored-put, rewritten, rewritten-put}
-use Rattle.semantic.specs.declared.FoundFunction.TheVariants as function
 
 -- The layer goes
 
@@ -179,7 +176,7 @@ good_lists (Some i) at xs b {s} g =
 
 -- The lists are made
 
-module _ {rs : List ℕ} {at : ℕ} (d : Lambda) {v : FoundFunction} {p : Pass} {C A w : List ℕ} (nothing : v ≡ function.Nothing)
+module _ {rs : List ℕ} {at : ℕ} (d : Lambda) {v : Option FunctionInformation} {p : Pass} {C A w : List ℕ} (nothing : v ≡ None)
     {a : Pass} {C' w' : List ℕ} (lists : StoresList rs at d.names p C w a C' w') where
   list-fits : {F : List ℕ} {s : State} {xs : List Ident} → Told rs d.names xs → Fits rs (raw p F C A w) s → Fits rs (raw a F C' A w') (store_captured at (made_list xs s) s)
   list-fits {F} {s} {xs} t f = record { good = good_made at xs f.good; tied = (lists.is xs t).is F A s f.good f.tied }
@@ -190,7 +187,7 @@ module _ {rs : List ℕ} {at : ℕ} (d : Lambda) {v : FoundFunction} {p : Pass} 
     captured = C';
     s = store_captured at (made_list b.xs b.s) b.s;
     fits = list-fits b.told b.fits;
-    room = rw (captured_put at (made_list b.xs b.s) b.s) (b.made (ap function_found nothing));
+    room = rw (captured_put at (made_list b.xs b.s) b.s) (b.made nothing);
   }
 
   module _ {b : Pass} {A' : List ℕ} (layer : StoresLayer rs a A w' b A') where
@@ -220,11 +217,11 @@ module _ {rs : List ℕ} {at : ℕ} (d : Lambda) {v : FoundFunction} {p : Pass} 
         let few : length c ≤ list_entries_most = captured_few (map name_in m.xs) m.s (omega (arith, names-many m.fits.tied.works)) in
         let x : b.captured_top ≡ p.captured_top + length c = t.0 ∙ ap (λ (i : ℕ). p.captured_top + i) (sorted_length c) in
         let y = list_entries_length_lem m.s (newest_layer m.s.scope.names) in
-        let room = m.made (ap function_found nothing) in
+        let room = m.made nothing in
         (omega (arith, x), omega (arith, x, m.captured), omega (arith, t.1), omega (arith, t.1, room, arguments_top_lem m.fits.tied.works))
 
     pub lists-made : {c l : ListAt} → c ≡ entries_between p.captured_top b.captured_top → l ≡ entries_between p.arguments_top b.arguments_top
-        → EndsLists rs at d v p C A w (record { pass = b; captured = c; arguments = l }) C' A' w'
+        → EndsLists rs at d v p C A w (b, c, l) C' A' w'
     lists-made ec el = record {
       is = λ F s xs body t y f.
           let top = tops t f in
@@ -239,10 +236,10 @@ module _ {rs : List ℕ} {at : ℕ} (d : Lambda) {v : FoundFunction} {p : Pass} 
 
 -- or the captured one is amended
 
-module _ {rs : List ℕ} {at : ℕ} {d : Lambda} {v : FoundFunction} {p : Pass} {C A w : List ℕ} {i : FunctionInformation} (found : v ≡ function.Found i) where
+module _ {rs : List ℕ} {at : ℕ} {d : Lambda} {v : Option FunctionInformation} {p : Pass} {C A w : List ℕ} {i : FunctionInformation} (found : v ≡ Some i) where
   pub amend-held : ListsEnd rs at d v p C A w → Inside i.captured_vars × SomeLambda rs d × Held rs p C w
   amend-held a = (
-    a.amended i (ap function_found found),
+    a.amended i found,
     record { xs = a.xs; b = a.b; names = a.told; body = a.body },
     record { facts = a.facts; arguments = A; s = a.s; good = a.fits.good; tied = a.fits.tied },
   )
@@ -253,11 +250,11 @@ module _ {rs : List ℕ} {at : ℕ} {d : Lambda} {v : FoundFunction} {p : Pass} 
       arith,
       amends.many a.facts A a.s a.xs a.b a.told a.body a.fits.good a.fits.tied,
       amended-length a.xs a.b i.captured_vars a.s,
-      a.amended i (ap function_found found),
+      a.amended i found,
     )
 
     pub lists-amended : {k : ℕ} → k ≡ n
-        → EndsLists rs at d v p C A w (record { pass = p; captured = record { first = i.captured_vars.first; length = k }; arguments = i.arguments }) C' A w'
+        → EndsLists rs at d v p C A w (p, record { first = i.captured_vars.first; length = k }, i.arguments) C' A w'
     lists-amended e = record {
       is = λ F s xs b t y f. rw found (record {
         tied = amends.is F A s xs b t y f.good f.tied;
@@ -294,8 +291,8 @@ leaves_by (Some i) m xs b escapes s =
     insert m.at (Function (function_fact (Some i) (record { first = e.first; length = length h }) i.arguments escapes i.depth)) (rewrite_captured e h (layers_closed xs s)) in
     ap out r ∙ rw (← c)
 
-module _ {rs : List ℕ} {at : ℕ} {d : Lambda} {p : Pass} {F C A w : List ℕ} (few : at < rows_most) (v : FoundFunction)
-    (found : Tells put_row Blank function_in F at (function_found v)) where
+module _ {rs : List ℕ} {at : ℕ} {d : Lambda} {p : Pass} {F C A w : List ℕ} (few : at < rows_most) (v : Option FunctionInformation)
+    (found : Tells put_row Blank function_in F at v) where
   pub ends_lists : LambdaEnds rs at d p F C A w → ListsEnd rs at d v p C A w
   ends_lists a = record {
     facts = F;
@@ -311,22 +308,22 @@ module _ {rs : List ℕ} {at : ℕ} {d : Lambda} {p : Pass} {F C A w : List ℕ}
     captured = a.ends.captured;
   }
 
-  module _ {e : EndedLists} {C' A' w' : List ℕ} (ends : EndsLists rs at d v p C A w e C' A' w') where
+  module _ {e : Pass × ListAt × ListAt} {C' A' w' : List ℕ} (ends : EndsLists rs at d v p C A w e C' A' w') where
     ended-fits : {s : State} {xs : List Ident} {b : Tree} → Told rs d.names xs → HasBody rs d b → Fits rs (raw p F C A w) s
-        → Fits rs (raw e.pass F C' A' w') (with_lists (function_found v) at xs b s)
-    ended-fits {s} {xs} {b} t y f = record { good = good_lists (function_found v) at xs b f.good; tied = (ends.is F s xs b t y f).tied }
+        → Fits rs (raw e.0 F C' A' w') (with_lists v at xs b s)
+    ended-fits {s} {xs} {b} t y f = record { good = good_lists v at xs b f.good; tied = (ends.is F s xs b t y f).tied }
 
-    pub ended-names : LambdaEnds rs at d p F C A w → NamesEnd rs d.names e.pass F w'
+    pub ended-names : LambdaEnds rs at d p F C A w → NamesEnd rs d.names e.0 F w'
     ended-names a = record { captured = C'; arguments = A'; s = _; xs = a.xs; told = a.told; fits = ended-fits a.told a.body a.fits }
 
-    module _ {q : Pass} {F₁ w'' : List ℕ} (closes : ClosesLayers rs d.names e.pass F w' q F₁ w'') where
+    module _ {q : Pass} {F₁ w'' : List ℕ} (closes : ClosesLayers rs d.names e.0 F w' q F₁ w'') where
       pub ended_fact_lem : LambdaEnds rs at d p F C A w → row_width * at + row_width ≤ length F₁
       ended_fact_lem a =
           let f = ended-fits a.told a.body a.fits in
           fact_inside (closes.is C' A' _ a.xs a.told f) ((sized_closed a.xs _).rows ∙ f.good.rows) at few
 
       pub lambda_closes : {escapes : Bool} {k : ℕ} {u : FunctionInformation} {F₂ : List ℕ} → k ≡ q.scope.depth
-          → u ≡ function_fact (function_found v) e.captured e.arguments escapes k → Stores put_row F₁ at (Function u) F₂
+          → u ≡ function_fact v e.1 e.2 escapes k → Stores put_row F₁ at (Function u) F₂
           → ClosesLambda rs at d escapes p F C A w q F₂ C' A' w''
       unfolding close_lambda
       lambda_closes {escapes} {u = u} {F₂} ek eu st = record {
@@ -335,7 +332,7 @@ module _ {rs : List ℕ} {at : ℕ} {d : Lambda} {p : Pass} {F C A w : List ℕ}
             let g = ended-fits t y f in
             let c = closes.is C' A' _ xs t g in
             let i = tied_insert c ((sized_closed xs _).rows ∙ g.good.rows) at few (Function u) st in
-            let o = function_found v in
+            let o = v in
             let z : function_in (row_at s m.at) ≡ o = ap (λ (i : ℕ). function_in (row_at s i)) em ∙ sym (fact_is few v found f) in
             let r : u ≡ function_fact o (captured_list_at o xs b s) (argument_list_at o s) escapes (depth (layers_closed xs (with_lists o at xs b s))) =
             eu ∙ rw (l.captured, l.arguments, ek, depth_is c.works) in

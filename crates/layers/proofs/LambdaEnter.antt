@@ -1,21 +1,19 @@
 -- A lambda is entered, over states.
 use Rattle.std.specs.Prelude.{Option, None, Some}
-use Prim.Native.Nat.{ℕ, zero, suc, ◌+◌, ◌≤◌, ◌<◌}
+use Prim.Native.Nat.{ℕ, zero, suc, ◌≤◌, ◌<◌}
 use mathlib.Core.List.{List}
 use mathlib.Core.Bool.{Bool, true, false, cond}
 use mathlib.Core.Path.{◌≡◌, refl, ap, sym, subst, ◌∙◌}
 use native.Mathlib.Omega.{arith}
-use native.Mathlib.Numerals.{add-one}
 use lib.ListN.{length, length-map}
 use Rattle.tree.specs.Tree.{named}
 use Rattle.scope_map.specs.Map.{map_values}
 use Rattle.scope_map.specs.declared.ScopeMap.{ScopeMap}
 use Rattle.semantic.specs.Rows.{Blank, ListEntry, put_row}
-use Rattle.semantic.specs.Kinds.{function_in, function_found}
+use Rattle.semantic.specs.Kinds.{function_in}
 use Rattle.semantic.specs.Leaves.{Tells}
 use Rattle.semantic.specs.declared.ListAt.{ListAt}
 use Rattle.semantic.specs.declared.FunctionInformation.{FunctionInformation}
-use Rattle.semantic.specs.declared.FoundFunction.{FoundFunction}
 use Rattle.semantic.specs.declared.IdentifierStatus.TheVariants.{Local}
 use Rattle.semantic.specs.declared.ScopeInfo.{ScopeInfo}
 use Rattle.pass.specs.State.{State, Scope, with_context, row_at, list_entry_at}
@@ -45,7 +43,6 @@ use Rattle.binders.specs.declared.enter.Entering.{Entering}
 use Rattle.work.specs.Laws.Fits.{told, tied_context}
 use Rattle.layers.specs.Lambdas.{ListRoom, number_found, NumbersCaptures, context_within, ListOpens, OpensList, ListInside, EntersBy}
 use Rattle.layers.proofs.LetsCase.{captured_length}
-use Rattle.semantic.specs.declared.FoundFunction.TheVariants as function
 use Rattle.pass_laws.specs.Sound as pass
 
 -- What numbering a list leaves as it was
@@ -84,13 +81,13 @@ works_numbered {t = t} a b n =
     works_as b _ t (held_same a.names b.names (ap (λ (c : Scope). map_values record_at c.names) (sym n.scope))) refl refl refl refl
     (a.beside ∙ sym n.beside)
 
-module _ {v : FoundFunction} {p : Pass} {C w : List ℕ} where
-  pub numbers_nothing : v ≡ function.Nothing → NumbersCaptures v p C w p.captures C w
+module _ {v : Option FunctionInformation} {p : Pass} {C w : List ℕ} where
+  pub numbers_nothing : v ≡ None → NumbersCaptures v p C w p.captures C w
   numbers_nothing e = record { is = λ rs. record { is = λ F A s g t. rw e t } }
 
-  module _ {i : FunctionInformation} (e : v ≡ function.Found i) where
+  module _ {i : FunctionInformation} (e : v ≡ Some i) where
     pub list-numbers : ListRoom v p × SomeHeld p C w → Inside i.captured_vars × CapturesRoom p i.captured_vars × SomeHeld p C w
-    list-numbers a = let l = a.0 i (ap function_found e) in (l.0, l.1, a.1)
+    list-numbers a = let l = a.0 i e in (l.0, l.1, a.1)
 
     pub numbers_found : {q : Pass} {C' w' : List ℕ} → Numbers i.captured_vars p C w q C' w' → NumbersCaptures v p C w q.captures C' w'
     numbers_found k = record {
@@ -125,7 +122,7 @@ unfolding open_captures
 open_is None s = refl
 open_is (Some i) s = refl
 
-module _ {v : FoundFunction} {p : Pass} {C w : List ℕ} {q : Pass} (opens : (w : List ℕ) → Becomes p w opened q w) where
+module _ {v : Option FunctionInformation} {p : Pass} {C w : List ℕ} {q : Pass} (opens : (w : List ℕ) → Becomes p w opened q w) where
   pub list_room : ListOpens v p C w → ListRoom v q × SomeHeld q C w
   list_room a =
       let f = opened-fits opens a.fits in (
@@ -133,12 +130,12 @@ module _ {v : FoundFunction} {p : Pass} {C w : List ℕ} {q : Pass} (opens : (w 
         record { rs = a.rs; held = record { facts = a.facts; arguments = a.arguments; s = opened a.s; good = f.good; tied = f.tied } },
       )
 
-  pub list_opens : {m : ScopeMap} {C' w' : List ℕ} → NumbersCaptures v q C w m C' w' → {c : ℕ} → c ≡ context_within (function_found v) p.context
+  pub list_opens : {m : ScopeMap} {C' w' : List ℕ} → NumbersCaptures v q C w m C' w' → {c : ℕ} → c ≡ context_within v p.context
       → {r : Pass} → r ≡ in_context c (in_captures m q) → OpensList v p C w r C' w'
   list_opens {C' = C'} {w'} numbers {c} e {r} k = record {
     is = λ rs F A s f.
         let g = opened-fits opens f in
-        let o = function_found v in
+        let o = v in
         let x : c ≡ context_within o s.context = e ∙ ap (context_within o) (context_is f.tied.works) in
         let y : with_context c (number_found o (opened s)) ≡ open_captures o s = rw x (open_is o s) in
         subst (λ (t : State). Tied (raw r F C' A w') t) y (rw k (tied_context c ((numbers.is rs).is F A (opened s) g.good g.tied)));
@@ -146,19 +143,19 @@ module _ {v : FoundFunction} {p : Pass} {C w : List ℕ} {q : Pass} (opens : (w 
 
 -- What the parameters have in common
 
-module _ {v : FoundFunction} {C : List ℕ} where
-  pub enters_first : v ≡ function.Nothing → {e : ListAt} → e ≡ record { first = 0; length = 0 }
-      → EntersBy v C (record { kind = Local; base = 0; heaps = record { code = 0 }; before = e })
+module _ {v : Option FunctionInformation} {C : List ℕ} where
+  pub enters_first : v ≡ None → {e : ListAt} → e ≡ record { first = 0; length = 0 }
+      → EntersBy v C (record { kind = Local; base = 0; heaps = None; before = e })
   unfolding enter_parameters
   enters_first q k = record { is = λ rs p F A w s xs f. rw (q, k); base = refl; inside = rw k (omega arith); few = omega arith }
 
-  pub enters_again : {i : FunctionInformation} → v ≡ function.Found i → ListInside v → {n : ℕ} → CountsHeap C i.captured_vars n → n ≤ list_entries_most
-      → EntersBy v C (record { kind = Local; base = 0; heaps = record { code = n + 1 }; before = i.arguments })
+  pub enters_again : {i : FunctionInformation} → v ≡ Some i → ListInside v → {n : ℕ} → CountsHeap C i.captured_vars n → n ≤ list_entries_most
+      → EntersBy v C (record { kind = Local; base = 0; heaps = Some n; before = i.arguments })
   unfolding enter_parameters
   enters_again {i} q l {n} c small = record {
-    is = λ rs p F A w s xs f. rw (q, add-one n, c.is s.facts.captured f.tied.captured (captured_many f.tied.works));
+    is = λ rs p F A w s xs f. rw (q, c.is s.facts.captured f.tied.captured (captured_many f.tied.works));
     base = refl;
-    inside = (l i (ap function_found q)).1;
+    inside = (l i q).1;
     few = omega arith;
   }
 
@@ -168,10 +165,10 @@ inside_of : (x : Option FunctionInformation) → ((i : FunctionInformation) → 
 inside_of None h = tt
 inside_of (Some i) h = h i refl
 
-module _ {rs : List ℕ} {at : ℕ} {p : Pass} {F C A w : List ℕ} (few : at < rows_most) (v : FoundFunction)
-    (found : Tells put_row Blank function_in F at (function_found v)) where
+module _ {rs : List ℕ} {at : ℕ} {p : Pass} {F C A w : List ℕ} (few : at < rows_most) (v : Option FunctionInformation)
+    (found : Tells put_row Blank function_in F at v) where
   -- the fact that the row holds
-  pub fact_is : {s : State} → Fits rs (raw p F C A w) s → function_found v ≡ function_in (row_at s at)
+  pub fact_is : {s : State} → Fits rs (raw p F C A w) s → v ≡ function_in (row_at s at)
   fact_is f = told f.tied f.good.rows at few function_in found
 
   pub lambda_list_opens : {n : Names} → LambdaFits rs at n p F C A w → ListOpens v p C w
@@ -189,24 +186,24 @@ module _ {rs : List ℕ} {at : ℕ} {p : Pass} {F C A w : List ℕ} (few : at < 
   lambda_inside b = λ i e. let l = b.lists i (sym (fact_is b.fits) ∙ e) in (l.0, l.1)
 
   module _ {o : Pass} {C' w' : List ℕ} (opens : OpensList v p C w o C' w') where
-    captures_fit : {s : State} → Fits rs (raw p F C A w) s → ListsFit p s at → Fits rs (raw o F C' A w') (open_captures (function_found v) s)
+    captures_fit : {s : State} → Fits rs (raw p F C A w) s → ListsFit p s at → Fits rs (raw o F C' A w') (open_captures v s)
     captures_fit {s} f l =
-        let k = captures_opened (function_found v) s in
-        let i = inside_of (function_found v) (λ i e. (l i (sym (fact_is f) ∙ e)).0) in
+        let k = captures_opened v s in
+        let i = inside_of v (λ i e. (l i (sym (fact_is f) ∙ e)).0) in
         record {
-          good = good_where (λ Q. pass.Listed Q.row (function_found v)) (inside_listed (function_found v) i) (any_listed (function_found v)) f.good
-              (record { rows = ap length k.rows; arguments = ap length k.arguments }) (λ Q l q F z h. each_open l z (function_found v) q h);
+          good = good_where (λ Q. pass.Listed Q.row v) (inside_listed v i) (any_listed v) f.good
+              (record { rows = ap length k.rows; arguments = ap length k.arguments }) (λ Q l q F z h. each_open l z v q h);
           tied = opens.is rs F A s f;
         }
 
     pub scope_shallow : {n : Names} → LambdaFits rs at n p F C A w → o.scope.depth < 4294967295
     scope_shallow b =
         let g = captures_fit b.fits b.lists in
-        let k = ap (λ (c : Scope). c.names.depth) (captures_opened (function_found v) b.s).scope in
+        let k = ap (λ (c : Scope). c.names.depth) (captures_opened v b.s).scope in
         omega (arith, b.shallow.scope, depth_is b.fits.tied.works, depth_is g.tied.works)
 
     module _ {q : Pass} (layer : (w : List ℕ) → Becomes o w open_scope q w) where
-      scope_fit : {s : State} → Fits rs (raw p F C A w) s → ListsFit p s at → Fits rs (raw q F C' A w') (open_scope (open_captures (function_found v) s))
+      scope_fit : {s : State} → Fits rs (raw p F C A w) s → ListsFit p s at → Fits rs (raw q F C' A w') (open_scope (open_captures v s))
       unfolding open_scope
       scope_fit f l =
           let g = captures_fit f l in
@@ -223,10 +220,10 @@ module _ {rs : List ℕ} {at : ℕ} {p : Pass} {F C A w : List ℕ} (few : at < 
         unfolding open_scope
         lambda_names b =
             let f = scope_fit b.fits b.lists in
-            let k = ap (λ (c : Scope). length c.names.live) (captures_opened (function_found v) b.s).scope in
+            let k = ap (λ (c : Scope). length c.names.live) (captures_opened v b.s).scope in
             record {
               captured = C';
-              s = open_scope (open_captures (function_found v) b.s);
+              s = open_scope (open_captures v b.s);
               xs = b.xs;
               told = b.told;
               fits = f;
@@ -240,9 +237,9 @@ module _ {rs : List ℕ} {at : ℕ} {p : Pass} {F C A w : List ℕ} (few : at < 
         unfolding open_lambda
         lambda_opens {n} {p'} {F'} {w''} m = record {
           is = λ s xs node em t f l.
-              let u = open_scope (open_captures (function_found v) s) in
+              let u = open_scope (open_captures v s) in
               let z = scope_fit f l in
-              let x : function_found v ≡ function_in (row_at s node.at) = fact_is f ∙ ap (λ (i : ℕ). function_in (row_at s i)) (sym em) in
+              let x : v ≡ function_in (row_at s node.at) = fact_is f ∙ ap (λ (i : ℕ). function_in (row_at s i)) (sym em) in
               let y = subst (λ (r : State). Tied (raw p' F' C' A w'') r) (by.is rs q F A w' u xs z) (m.is C' u xs t z) in
               subst (λ (fn : Option FunctionInformation). Tied (raw p' F' C' A w'') (enter_parameters fn xs (open_scope (open_captures fn s)))) x y;
         }

@@ -66,7 +66,7 @@ entered_as (x ∷ xs) s t e =
 
 -- The fact
 
-module _ {rs : List ℕ} {blank : Bool} {at : ℕ} {n : Names} {a : Around} {p : Pass} {F A w : List ℕ} where
+module _ {rs : List ℕ} {blank : Bool} {at : ℕ} {n : Names} {a : Option Around} {p : Pass} {F A w : List ℕ} where
   pub not_made : {height : ℕ} → not blank ≡ true → MakesLet rs blank at n height a p F A w p F A
   not_made e = record { is = λ C s xs m function en ar t f. rw (not-true blank e) f.tied }
 
@@ -130,11 +130,11 @@ left-fits : {rs : List ℕ} {n : Names} {p q : Pass} {F F₁ C A w w₁ : List �
 left-fits {C = C} {A} {s = s} {xs} leaves u f = record { good = good_leave xs f.good; tied = leaves.is C A s xs u f }
 
 module _ {rs : List ℕ} {at : ℕ} {n : Names} {p : Pass} {F A w : List ℕ} where
-  pub ends_fact : {a : Around} → LetEnds rs at n a p F A w → row_width * at + row_width ≤ length F
+  pub ends_fact : {a : Option Around} → LetEnds rs at n a p F A w → row_width * at + row_width ≤ length F
   ends_fact b = fact_inside b.fits.tied b.fits.good.rows at b.few
 
   module _ {blank : Bool} (t : Tells put_row Blank is_blank F at blank) {q : Pass} {F₁ w₁ : List ℕ} (leaves : LeavesNames rs n p F w q F₁ w₁) where
-    pub ends_make : {a : Around} → LetEnds rs at n a p F A w → MakeFits rs blank at n a q F₁ A w₁
+    pub ends_make : {a : Option Around} → LetEnds rs at n a p F A w → MakeFits rs blank at n a q F₁ A w₁
     ends_make b = record {
       captured = b.captured;
       s = leave_names b.xs b.s;
@@ -147,7 +147,7 @@ module _ {rs : List ℕ} {at : ℕ} {n : Names} {p : Pass} {F A w : List ℕ} wh
           omega (arith, b.room z, (leave_kept b.xs b.s).top);
     }
 
-    module _ {a : Around} {height : ℕ} {r : Pass} {F' A' : List ℕ} (makes : MakesLet rs blank at n height a q F₁ A w₁ r F' A') where
+    module _ {a : Option Around} {height : ℕ} {r : Pass} {F' A' : List ℕ} (makes : MakesLet rs blank at n height a q F₁ A w₁ r F' A') where
       pub ends_spacious : LetEnds rs at n a p F A w → Spacious r w₁
       ends_spacious b =
           let m : Node = record { at = at; id = 0; from = 0; to = 0 } in

@@ -66,7 +66,7 @@ pub record ClosesLambda (rs : List ℕ) (at : ℕ) (d : Lambda) (escapes : Bool)
 
 -- Let
 
-pub record LetFits (rs : List ℕ) (at : ℕ) (n : Names) (height : ℕ) (a : Around) (p : Pass) (F C A w : List ℕ) : Type 0 where
+pub record LetFits (rs : List ℕ) (at : ℕ) (n : Names) (height : ℕ) (a : Option Around) (p : Pass) (F C A w : List ℕ) : Type 0 where
   pub s : State
   pub xs : List Ident
   pub function : Option Node
@@ -80,11 +80,11 @@ pub record LetFits (rs : List ℕ) (at : ℕ) (n : Names) (height : ℕ) (a : Ar
   pub list : (v : LetInformation) → let_in (row_at s at) ≡ Some v → Inside v.arguments
   pub outer : (m : Node) → function ≡ Some m → (m.at < rows_most) × ((v : FunctionInformation) → function_in (row_at s m.at) ≡ Some v → Inside v.captured_vars)
 
-pub record OpensLet (rs : List ℕ) (at : ℕ) (n : Names) (height : ℕ) (a : Around) (p : Pass) (F C A w : List ℕ) (p' : Pass) (F' w' : List ℕ) : Type 0 where
+pub record OpensLet (rs : List ℕ) (at : ℕ) (n : Names) (height : ℕ) (a : Option Around) (p : Pass) (F C A w : List ℕ) (p' : Pass) (F' w' : List ℕ) : Type 0 where
   pub is : (s : State) (xs : List Ident) (m : Node) (function : Option Node) → m.at ≡ at → AroundIs a function → Told rs n xs
       → Fits rs (raw p F C A w) s → Tied (raw p' F' C A w') (open_let m xs height function s)
 
-pub record LetEnds (rs : List ℕ) (at : ℕ) (n : Names) (a : Around) (p : Pass) (F A w : List ℕ) : Type 0 where
+pub record LetEnds (rs : List ℕ) (at : ℕ) (n : Names) (a : Option Around) (p : Pass) (F A w : List ℕ) : Type 0 where
   pub captured : List ℕ
   pub s : State
   pub xs : List Ident
@@ -95,6 +95,6 @@ pub record LetEnds (rs : List ℕ) (at : ℕ) (n : Names) (a : Around) (p : Pass
   pub few : at < rows_most
   pub room : row_at s at ≡ Blank → s.facts.arguments_top + n.count ≤ list_entries_most
 
-pub record ClosesLet (rs : List ℕ) (opened : Bool) (at : ℕ) (n : Names) (height : ℕ) (a : Around) (p : Pass) (F A w : List ℕ) (p' : Pass) (F' A' w' : List ℕ) : Type 0 where
+pub record ClosesLet (rs : List ℕ) (opened : Bool) (at : ℕ) (n : Names) (height : ℕ) (a : Option Around) (p : Pass) (F A w : List ℕ) (p' : Pass) (F' A' w' : List ℕ) : Type 0 where
   pub is : (C : List ℕ) (s : State) (xs : List Ident) (m : Node) (function : Option Node) → m.at ≡ at → AroundIs a function → Told rs n xs
       → Fits rs (raw p F C A w) s → Tied (raw p' F' C A' w') (close_let opened m xs height function s)

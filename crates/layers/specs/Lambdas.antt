@@ -3,11 +3,9 @@ use Rattle.std.specs.Prelude.{ℕ, ◌+◌, ◌-◌, ◌≤◌, ◌<◌, List, m
 use Rattle.tree.specs.Tree.{Ident, Tree}
 use Rattle.scope_map.specs.ScopeMap.{newest_layer}
 use Rattle.scope_map.specs.declared.ScopeMap.{ScopeMap}
-use Rattle.semantic.specs.Kinds.{function_found}
 use Rattle.semantic.specs.Information.{NONE}
 use Rattle.semantic.specs.Rows.{ListEntry}
 use Rattle.semantic.specs.declared.ListAt.{ListAt}
-use Rattle.semantic.specs.declared.FoundFunction.{FoundFunction}
 use Rattle.semantic.specs.declared.FunctionInformation.{FunctionInformation}
 use Rattle.pass.specs.State.{State}
 use Rattle.pass.specs.Lists.{list_in, captured_vars, sort_by_id, store_captured, store_arguments, rewrite_captured, number_list}
@@ -20,15 +18,14 @@ use Rattle.walk.specs.declared.uses.Names.{Names}
 use Rattle.lists.specs.Contract.{Told, Becomes, Inside}
 use Rattle.amending.specs.Contract.{CapturesRoom, HasBody, amended_list}
 use Rattle.amending.specs.declared.amend.Lambda.{Lambda}
-use Rattle.binders.specs.Enter.{FewHeaps, heaps_in}
+use Rattle.binders.specs.Enter.{FewHeaps}
 use Rattle.binders.specs.declared.enter.Entering.{Entering}
-use Rattle.layers.specs.declared.lambda.EndedLists.{EndedLists}
 
 -- As it opens
 
 -- its list, where it has a fact, lies inside, and the captures have room for it
-abbrev pub ListRoom : FoundFunction → Pass → Type 0
-ListRoom v p = (i : FunctionInformation) → function_found v ≡ Some i → Inside i.captured_vars × CapturesRoom p i.captured_vars
+abbrev pub ListRoom : Option FunctionInformation → Pass → Type 0
+ListRoom v p = (i : FunctionInformation) → v ≡ Some i → Inside i.captured_vars × CapturesRoom p i.captured_vars
 
 -- the list is numbered
 abbrev pub number_found : Option FunctionInformation → State → State
@@ -36,8 +33,8 @@ number_found None s = s
 number_found (Some i) s = number_list i.captured_vars s
 
 -- of the pass, the captures alone change
-pub record NumbersCaptures (v : FoundFunction) (p : Pass) (C w : List ℕ) (m : ScopeMap) (C' w' : List ℕ) : Type 0 where
-  pub is : (rs : List ℕ) → Becomes rs p C w (number_found (function_found v)) (in_captures m p) C' w'
+pub record NumbersCaptures (v : Option FunctionInformation) (p : Pass) (C w : List ℕ) (m : ScopeMap) (C' w' : List ℕ) : Type 0 where
+  pub is : (rs : List ℕ) → Becomes rs p C w (number_found v) (in_captures m p) C' w'
 
 -- one that escapes ends the context
 abbrev pub context_within : Option FunctionInformation → ℕ → ℕ
@@ -45,7 +42,7 @@ context_within None context = context
 context_within (Some i) context = cond i.escapes NONE context
 
 -- the captures' layer
-pub record ListOpens (v : FoundFunction) (p : Pass) (C w : List ℕ) : Type 0 where
+pub record ListOpens (v : Option FunctionInformation) (p : Pass) (C w : List ℕ) : Type 0 where
   pub rs : List ℕ
   pub facts : List ℕ
   pub arguments : List ℕ
@@ -54,17 +51,17 @@ pub record ListOpens (v : FoundFunction) (p : Pass) (C w : List ℕ) : Type 0 wh
   pub shallow : p.captures.depth < 4294967295
   pub lists : ListRoom v p
 
-pub record OpensList (v : FoundFunction) (p : Pass) (C w : List ℕ) (p' : Pass) (C' w' : List ℕ) : Type 0 where
-  pub is : (rs F A : List ℕ) (s : State) → Fits rs (raw p F C A w) s → Tied (raw p' F C' A w') (open_captures (function_found v) s)
+pub record OpensList (v : Option FunctionInformation) (p : Pass) (C w : List ℕ) (p' : Pass) (C' w' : List ℕ) : Type 0 where
+  pub is : (rs F A : List ℕ) (s : State) → Fits rs (raw p F C A w) s → Tied (raw p' F C' A w') (open_captures v s)
 
 -- its lists lie inside
-abbrev pub ListInside : FoundFunction → Type 0
-ListInside v = (i : FunctionInformation) → function_found v ≡ Some i → Inside i.captured_vars × Inside i.arguments
+abbrev pub ListInside : Option FunctionInformation → Type 0
+ListInside v = (i : FunctionInformation) → v ≡ Some i → Inside i.captured_vars × Inside i.arguments
 
 -- what the parameters have in common
-pub record EntersBy (v : FoundFunction) (C : List ℕ) (g : Entering) : Type 0 where
+pub record EntersBy (v : Option FunctionInformation) (C : List ℕ) (g : Entering) : Type 0 where
   pub is : (rs : List ℕ) (p : Pass) (F A w : List ℕ) (s : State) (xs : List Ident) → Fits rs (raw p F C A w) s
-      → enter_names g.kind g.base (heaps_in g.heaps) (list_in s.facts.arguments g.before) xs 0 0 s ≡ enter_parameters (function_found v) xs s
+      → enter_names g.kind g.base g.heaps (list_in s.facts.arguments g.before) xs 0 0 s ≡ enter_parameters v xs s
   pub base : g.base ≡ 0
   pub inside : Inside g.before
   pub few : FewHeaps g.heaps
@@ -121,7 +118,7 @@ function_fact (Some i) captured arguments escapes depth = record {
 }
 
 -- what they need
-pub record ListsEnd (rs : List ℕ) (at : ℕ) (d : Lambda) (v : FoundFunction) (p : Pass) (C A w : List ℕ) : Type 0 where
+pub record ListsEnd (rs : List ℕ) (at : ℕ) (d : Lambda) (v : Option FunctionInformation) (p : Pass) (C A w : List ℕ) : Type 0 where
   pub facts : List ℕ
   pub s : State
   pub xs : List Ident
@@ -130,16 +127,16 @@ pub record ListsEnd (rs : List ℕ) (at : ℕ) (d : Lambda) (v : FoundFunction) 
   pub body : HasBody rs d b
   pub fits : Fits rs (raw p facts C A w) s
   pub few : at < rows_most
-  pub made : function_found v ≡ None → s.facts.arguments_top + length (newest_layer s.scope.names) ≤ list_entries_most
-  pub amended : (i : FunctionInformation) → function_found v ≡ Some i → Inside i.captured_vars
+  pub made : v ≡ None → s.facts.arguments_top + length (newest_layer s.scope.names) ≤ list_entries_most
+  pub amended : (i : FunctionInformation) → v ≡ Some i → Inside i.captured_vars
   pub captured : p.captured_top + list_entries_most < 4294967296
 
 -- the lists are in the tables, and the code says where they lie
-pub record Listed (o : Option FunctionInformation) (at : ℕ) (xs : List Ident) (b : Tree) (s : State) (e : EndedLists) (F C A w : List ℕ) : Type 0 where
-  pub tied : Tied (raw e.pass F C A w) (with_lists o at xs b s)
-  pub captured : e.captured ≡ captured_list_at o xs b s
-  pub arguments : e.arguments ≡ argument_list_at o s
+pub record Listed (o : Option FunctionInformation) (at : ℕ) (xs : List Ident) (b : Tree) (s : State) (e : Pass × ListAt × ListAt) (F C A w : List ℕ) : Type 0 where
+  pub tied : Tied (raw e.0 F C A w) (with_lists o at xs b s)
+  pub captured : e.1 ≡ captured_list_at o xs b s
+  pub arguments : e.2 ≡ argument_list_at o s
 
-pub record EndsLists (rs : List ℕ) (at : ℕ) (d : Lambda) (v : FoundFunction) (p : Pass) (C A w : List ℕ) (e : EndedLists) (C' A' w' : List ℕ) : Type 0 where
+pub record EndsLists (rs : List ℕ) (at : ℕ) (d : Lambda) (v : Option FunctionInformation) (p : Pass) (C A w : List ℕ) (e : Pass × ListAt × ListAt) (C' A' w' : List ℕ) : Type 0 where
   pub is : (F : List ℕ) (s : State) (xs : List Ident) (b : Tree) → Told rs d.names xs → HasBody rs d b → Fits rs (raw p F C A w) s
-      → Listed (function_found v) at xs b s e F C' A' w'
+      → Listed v at xs b s e F C' A' w'

@@ -15,12 +15,11 @@ use Rattle.work.specs.declared.Pass.{Pass}
 use Rattle.walk.specs.declared.uses.Names.{Names}
 use Rattle.lists.specs.Contract.{Told, Inside}
 use Rattle.flags.specs.Flags.{AroundIs}
-use Rattle.binders.specs.Enter.{FewHeaps, heaps_in}
+use Rattle.binders.specs.Enter.{FewHeaps}
 use Rattle.flags.specs.declared.Around.{Around}
-use Rattle.binders.specs.declared.enter.Heaps.{Heaps}
 
 -- the lambda around, and its list
-pub record AroundFits (a : Around) (F C : List ℕ) : Type 0 where
+pub record AroundFits (a : Option Around) (F C : List ℕ) : Type 0 where
   pub rs : List ℕ
   pub p : Pass
   pub arguments : List ℕ
@@ -31,12 +30,12 @@ pub record AroundFits (a : Around) (F C : List ℕ) : Type 0 where
   pub fits : Fits rs (raw p F C arguments work) s
   pub outer : (m : Node) → function ≡ Some m → (m.at < rows_most) × ((v : FunctionInformation) → function_in (row_at s m.at) ≡ Some v → Inside v.captured_vars)
 
-pub record TellsHeaps (a : Around) (F C : List ℕ) (r : Heaps) : Type 0 where
+pub record TellsHeaps (a : Option Around) (F C : List ℕ) (r : Option ℕ) : Type 0 where
   pub is : (rs : List ℕ) (p : Pass) (A w : List ℕ) (s : State) (function : Option Node) → AroundIs a function → Fits rs (raw p F C A w) s
-      → heaps_in r ≡ heaps_around s function
+      → r ≡ heaps_around s function
   pub few : FewHeaps r
 
-pub record TellsFunction (a : Around) (r : ℕ) : Type 0 where
+pub record TellsFunction (a : Option Around) (r : ℕ) : Type 0 where
   pub is : (function : Option Node) → AroundIs a function → r ≡ function_id function
 
 -- the list of the let's fact, if it has one
@@ -60,7 +59,7 @@ abbrev pub make_if : Bool → Node → List ListEntry → ℕ → Option Node �
 make_if true n l height function s = make_let Blank n l height function s
 make_if false n l height function s = s
 
-pub record MakeFits (rs : List ℕ) (blank : Bool) (at : ℕ) (n : Names) (a : Around) (p : Pass) (F A w : List ℕ) : Type 0 where
+pub record MakeFits (rs : List ℕ) (blank : Bool) (at : ℕ) (n : Names) (a : Option Around) (p : Pass) (F A w : List ℕ) : Type 0 where
   pub captured : List ℕ
   pub s : State
   pub xs : List Ident
@@ -69,6 +68,6 @@ pub record MakeFits (rs : List ℕ) (blank : Bool) (at : ℕ) (n : Names) (a : A
   pub few : at < rows_most
   pub room : blank ≡ true → s.facts.arguments_top + n.count ≤ list_entries_most
 
-pub record MakesLet (rs : List ℕ) (blank : Bool) (at : ℕ) (n : Names) (height : ℕ) (a : Around) (p : Pass) (F A w : List ℕ) (p' : Pass) (F' A' : List ℕ) : Type 0 where
+pub record MakesLet (rs : List ℕ) (blank : Bool) (at : ℕ) (n : Names) (height : ℕ) (a : Option Around) (p : Pass) (F A w : List ℕ) (p' : Pass) (F' A' : List ℕ) : Type 0 where
   pub is : (C : List ℕ) (s : State) (xs : List Ident) (m : Node) (function : Option Node) → m.at ≡ at → AroundIs a function → Told rs n xs
       → Fits rs (raw p F C A w) s → Tied (raw p' F' C A' w) (make_if blank m (entered xs s) height function s)

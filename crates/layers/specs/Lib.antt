@@ -1,3 +1,4 @@
 pub mod Contract
 pub mod Lets
 pub mod Lambdas
+pub mod Laws

@@ -1,6 +1,5 @@
 // Lambdas, as they open and close: layers, parameters, lists and their fact.
 ghost use Rattle.std.specs.Prelude.{◌≡◌, ◌≤◌, ◌<◌, length};
-ghost use Rattle.semantic.specs.Kinds.{function_found};
 ghost use Rattle.pass.specs.Run.{list_entries_length};
 ghost use Rattle.amending.specs.Contract.{SomeHeld};
 ghost use Rattle.layers.specs.Contract.{LambdaFits, OpensLambda, LambdaEnds, ClosesLambda};
@@ -9,75 +8,71 @@ ghost use Rattle.layers.specs.Lambdas.{ListRoom, NumbersCaptures, context_within
 
 use amending::amend::{Lambda, amend_list};
 use amending::number::{heap_count, number_list};
-use binders::enter::{Entering, Heaps, enter_names, no_list, with_names};
+use binders::enter::{Entering, enter_names, no_list, with_names};
 use binders::leave::{end_parameters, mark_lasts, store_layer};
 use lists::captured::store_captured;
 use scope_map::ScopeMap;
-use semantic::{FoundFunction, FunctionInformation, IdentifierStatus, ListAt, NONE};
+use semantic::{FunctionInformation, IdentifierStatus, ListAt, NONE};
 use walk::uses::Names;
 use work::captures::{close_captures, open_captures};
 use work::scope::{close_scope, newest_layer, open_scope};
 use work::{Pass, narrow};
 
 // The captures after the lambda's list is numbered, where it has a fact.
-fn number_captures(v: FoundFunction, p: Pass, captured: &mut [u32], work: &mut [u32]) -> ScopeMap
+fn number_captures(
+    v: Option<FunctionInformation>,
+    p: Pass,
+    captured: &mut [u32],
+    work: &mut [u32],
+) -> ScopeMap
     requires { ListRoom v p × SomeHeld p captured.old work.old }
     ensures { NumbersCaptures v p captured.old work.old result captured.new work.new }
 {
-    let FoundFunction::Found(i) = v else {
-        return p.captures;
-    };
-    let list = i.captured_vars;
-    let q = number_list(list, p, captured, work);
-    q.captures
+    match v {
+        Some(i) => number_list(i.captured_vars, p, captured, work).captures,
+        None => p.captures,
+    }
 }
 
 // A lambda that escapes ends the context.
-fn context_within(v: FoundFunction, context: u32) -> u32
-    ensures { result ≡ context_within (function_found v) context }
+fn context_within(v: Option<FunctionInformation>, context: u32) -> u32
+    ensures { result ≡ context_within v context }
 {
-    let FoundFunction::Found(i) = v else {
-        return context;
-    };
-    if i.escapes {
-        return NONE;
+    match v {
+        Some(i) if i.escapes => NONE,
+        _ => context,
     }
-    context
 }
 
 // The captures' layer opens, with the lambda's list where it has a fact; one that escapes ends the context. The pass is built in one
 // place: if each case returned one, it would be stored in narrow words and copied in wide ones, and such a copy waits for the stores
 // (docs/SPEED.md, 49).
-fn open_list(v: FoundFunction, p: Pass, captured: &mut [u32], work: &mut [u32]) -> Pass
+fn open_list(
+    v: Option<FunctionInformation>,
+    p: Pass,
+    captured: &mut [u32],
+    work: &mut [u32],
+) -> Pass
     requires { ListOpens v p captured.old work.old }
     ensures { OpensList v p captured.old work.old result captured.new work.new }
 {
     let o = open_captures(p);
     let captures = number_captures(v, o, captured, work);
-    let mut q = o;
-    q.captures = captures;
-    q.with_context(context_within(v, p.context))
+    Pass {
+        captures,
+        context: context_within(v, p.context),
+        ..o
+    }
 }
 
 // What the parameters have in common.
-fn entering(v: FoundFunction, captured: &[u32]) -> Entering
+fn entering(v: Option<FunctionInformation>, captured: &[u32]) -> Entering
     requires { ListInside v × (length captured.now ≡ list_entries_length) }
     ensures { EntersBy v captured.now result }
 {
-    let FoundFunction::Found(i) = v else {
-        let none = no_list();
-        let heaps = Heaps { code: 0 };
-        return Entering {
-            kind: IdentifierStatus::Local,
-            base: 0,
-            heaps,
-            before: none,
-        };
-    };
-    let list = i.captured_vars;
-    let before = i.arguments;
-    let heaps = Heaps {
-        code: heap_count(list, captured) + 1,
+    let (heaps, before) = match v {
+        Some(i) => (Some(heap_count(i.captured_vars, captured)), i.arguments),
+        None => (None, no_list()),
     };
     Entering {
         kind: IdentifierStatus::Local,
@@ -134,79 +129,64 @@ fn between(from: usize, to: usize) -> ListAt
     }
 }
 
-// The pass after a lambda's lists are made or amended, and where they lie.
-#[derive(Clone, Copy)]
-struct EndedLists {
-    pass: Pass,
-    captured: ListAt,
-    arguments: ListAt,
-}
-
-// The first run makes the lists, the second amends the captured one.
+// The first run makes the lists, the second amends the captured one. Answers the pass then, and where both lie: the captured one and the
+// arguments.
 fn end_lists(
     all: &[u32],
     at: usize,
     d: Lambda,
-    v: FoundFunction,
+    v: Option<FunctionInformation>,
     p: Pass,
     captured: &mut [u32],
     arguments: &mut [u32],
     work: &mut [u32],
-) -> EndedLists
+) -> (Pass, ListAt, ListAt)
     requires { ListsEnd all.now at d v p captured.old arguments.old work.old }
     ensures { EndsLists all.now at d v p captured.old arguments.old work.old
         result captured.new arguments.new work.new }
 {
-    let FoundFunction::Found(i) = v else {
-        let names = d.names;
-        let a = store_captured(all, at, names, p, captured, work);
-        let b = store_layer(all, a, arguments, work);
-        let made = between(p.captured_top, b.captured_top);
-        let layer = between(p.arguments_top, b.arguments_top);
-        return EndedLists {
-            pass: b,
-            captured: made,
-            arguments: layer,
-        };
-    };
-    let list = i.captured_vars;
-    let kept = i.arguments;
-    let n = amend_list(all, d, list, p, captured, work);
-    EndedLists {
-        pass: p,
-        captured: ListAt {
-            first: list.first,
-            length: narrow(n),
-        },
-        arguments: kept,
+    match v {
+        Some(i) => {
+            let n = amend_list(all, d, i.captured_vars, p, captured, work);
+            let kept = ListAt {
+                length: narrow(n),
+                ..i.captured_vars
+            };
+            (p, kept, i.arguments)
+        }
+        None => {
+            let a = store_captured(all, at, d.names, p, captured, work);
+            let b = store_layer(all, a, arguments, work);
+            let made = between(p.captured_top, b.captured_top);
+            let layer = between(p.arguments_top, b.arguments_top);
+            (b, made, layer)
+        }
     }
 }
 
 // The fact with its lists: a new one, or the one that the lambda has.
 fn function_fact(
-    v: FoundFunction,
+    v: Option<FunctionInformation>,
     captured: ListAt,
     arguments: ListAt,
     escapes: bool,
     depth: u32,
 ) -> FunctionInformation
-    ensures { result ≡ function_fact (function_found v) captured arguments escapes depth }
+    ensures { result ≡ function_fact v captured arguments escapes depth }
 {
-    let FoundFunction::Found(i) = v else {
-        return FunctionInformation {
+    match v {
+        Some(i) => FunctionInformation {
+            captured_vars: captured,
+            arguments,
+            ..i
+        },
+        None => FunctionInformation {
             captured_vars: captured,
             arguments,
             escapes,
             aliases_to: NONE,
             depth,
-        };
-    };
-    FunctionInformation {
-        captured_vars: captured,
-        arguments,
-        escapes: i.escapes,
-        aliases_to: i.aliases_to,
-        depth: i.depth,
+        },
     }
 }
 
@@ -225,14 +205,10 @@ pub fn close_lambda(
     ensures { ClosesLambda all.now at d escapes p facts.old captured.old arguments.old work.old
         result facts.new captured.new arguments.new work.new }
 {
-    let names = d.names;
     let found = semantic::kinds::function_at(facts, at);
-    let e = end_lists(all, at, d, found, p, captured, arguments, work);
-    let b = e.pass;
-    let q = close_layers(all, names, b, facts, work);
-    let list = e.captured;
-    let layer = e.arguments;
+    let (b, list, layer) = end_lists(all, at, d, found, p, captured, arguments, work);
+    let q = close_layers(all, d.names, b, facts, work);
     let v = function_fact(found, list, layer, escapes, q.depth());
-    semantic::rows::store_function(facts, at, v);
+    semantic::rows::store(facts, at, v);
     q
 }

@@ -7,48 +7,42 @@ ghost use Rattle.layers.specs.Contract.{LetFits, OpensLet, LetEnds, ClosesLet};
 ghost use Rattle.layers.specs.Lets.{AroundFits, TellsHeaps, TellsFunction, LetAt, TellsLet, MakeFits, MakesLet};
 
 use amending::number::heap_count;
-use binders::enter::{Entering, Heaps, enter_names, no_list, with_names};
+use binders::enter::{Entering, enter_names, no_list, with_names};
 use binders::leave::{leave_names, store_names};
 use flags::Around;
-use semantic::{FoundFunction, FoundLet, IdentifierStatus, LetInformation, ListAt};
+use semantic::{IdentifierStatus, LetInformation, ListAt, NONE};
+use table::wide;
 use walk::uses::Names;
 use work::scope::{close_scope, newest_layer, open_scope};
 use work::{Pass, narrow};
 
 // How many heap entries the lambda around has.
-fn heaps_around(f: Around, facts: &[u32], captured: &[u32]) -> Heaps
+fn heaps_around(f: Option<Around>, facts: &[u32], captured: &[u32]) -> Option<u32>
     requires { AroundFits f facts.now captured.now }
     ensures { TellsHeaps f facts.now captured.now result }
 {
-    if f.code == 0 {
-        return Heaps { code: 0 };
-    }
-    let at = (f.code - 1) as usize;
-    let found = semantic::kinds::function_at(facts, at);
-    let FoundFunction::Found(v) = found else {
-        return Heaps { code: 0 };
-    };
-    let list = v.captured_vars;
-    Heaps {
-        code: heap_count(list, captured) + 1,
-    }
+    let a = f?;
+    let v = semantic::kinds::function_at(facts, wide(a.at))?;
+    Some(heap_count(v.captured_vars, captured))
 }
 
-fn function_id(f: Around) -> u32
+fn function_id(f: Option<Around>) -> u32
     ensures { TellsFunction f result }
 {
-    f.id
+    match f {
+        Some(a) => a.id,
+        None => NONE,
+    }
 }
 
 fn let_arguments(facts: &[u32], at: usize) -> ListAt
     requires { LetAt at facts.now }
     ensures { TellsLet at facts.now result }
 {
-    let found = semantic::kinds::let_at(facts, at);
-    let FoundLet::Found(v) = found else {
-        return no_list();
-    };
-    v.arguments
+    match semantic::kinds::let_at(facts, at) {
+        Some(v) => v.arguments,
+        None => no_list(),
+    }
 }
 
 // A let opens a layer only at depth 1.
@@ -56,10 +50,7 @@ fn open_layer(p: Pass) -> Pass
     requires { p.scope.depth < 4294967295 }
     ensures { (w : List ℕ) → Becomes p w (λ s. open_layer (at_bottom s) s) result w }
 {
-    if p.depth() == 1 {
-        return open_scope(p);
-    }
-    p
+    if p.depth() == 1 { open_scope(p) } else { p }
 }
 
 pub fn open_let(
@@ -67,7 +58,7 @@ pub fn open_let(
     at: usize,
     names: Names,
     height: u32,
-    f: Around,
+    f: Option<Around>,
     p: Pass,
     facts: &mut [u32],
     captured: &[u32],
@@ -78,13 +69,11 @@ pub fn open_let(
     ensures { OpensLet all.now at names height f p facts.old captured.now arguments.now work.old
         result facts.new work.new }
 {
-    let heaps = heaps_around(f, facts, captured);
-    let before = let_arguments(facts, at);
     let g = Entering {
         kind: IdentifierStatus::LetVar,
         base: height,
-        heaps,
-        before,
+        heaps: heaps_around(f, facts, captured),
+        before: let_arguments(facts, at),
     };
     let q = open_layer(p);
     let e = enter_names(all, names, g, q, facts, arguments, work);
@@ -98,7 +87,7 @@ fn make_let(
     at: usize,
     names: Names,
     height: u32,
-    f: Around,
+    f: Option<Around>,
     p: Pass,
     facts: &mut [u32],
     arguments: &mut [u32],
@@ -117,7 +106,7 @@ fn make_let(
         length: narrow(names.count),
     };
     let fact = LetInformation::new(height, function_id(f), list);
-    semantic::rows::store_let(facts, at, fact);
+    semantic::rows::store(facts, at, fact);
     q
 }
 
@@ -139,7 +128,7 @@ pub fn close_let(
     at: usize,
     names: Names,
     height: u32,
-    f: Around,
+    f: Option<Around>,
     p: Pass,
     facts: &mut [u32],
     arguments: &mut [u32],

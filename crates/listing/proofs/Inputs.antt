@@ -1,5 +1,5 @@
 -- The text for an input, from its counts.
-use Rattle.std.specs.Prelude.{Option, None, Some}
+use Rattle.std.specs.Prelude.{Option, None, Some, Result, Ok, Err}
 use Rattle.std.proofs.lemmas.Option.{none-some}
 use Prim.Native.Nat.{ℕ, ◌*◌, ◌%◌, ◌≤◌, ◌<◌}
 use mathlib.Core.Bool.{Bool, true, false, ◌||◌, true≢false}
@@ -21,8 +21,8 @@ use Rattle.printing.specs.Text.{refused_text, bad_text}
 use Rattle.reading.specs.Held.{shown, Kept, Answers, is_bad, is_good, Finished}
 use Rattle.reading.specs.Reading.{bad, good}
 use Rattle.reading.specs.declared.reader.Reading.{Reading}
-use Rattle.reading.specs.declared.reader.Input.{Input}
-use Rattle.reading.specs.declared.reader.Input.TheVariants as input
+use Rattle.reading.specs.declared.reader.Counts.{Counts}
+use Rattle.reading.specs.declared.reader.BadLine.{BadLine}
 use Rattle.listing.specs.Listing.{records_most, classes_length, text_length, all_fit, Shows, unfit, too_many, refused, accepted, Prints, bad_line, shows}
 use Rattle.listing.specs.Laws.Fits.{fits}
 use Rattle.listing.specs.Left.{Left, Leaves}
@@ -146,11 +146,11 @@ never : {n : ℕ} {cs : List ℕ} {rs : List Record} {P : Type 0} → bad n ≡ 
 never e = let z : ◌≡◌ {A = ℕ} 0 1 = cc in absurd (omega arith)
 
 module _ (b T R d : List ℕ) (t t' : Tables) (n : ℕ) where
-  told_prints : {a : Input} → Answers b T R a → Told a T R t t' d n → Prints (all_fit T R t) b (take n d)
+  told_prints : {a : Result Counts BadLine} → Answers b T R a → Told a T R t t' d n → Prints (all_fit T R t) b (take n d)
   told_prints (is_bad m e q) v = subst (Prints (all_fit T R t) b) (sym (v.text ∙ ap bad_text q)) (bad_line e)
   told_prints (is_good cs rs e p q k) v = shows e (input_shows v cs rs p q k)
 
-  told_leaves : {a : Input} → Answers b T R a → Told a T R t t' d n → Leaves (all_fit T R t) b t t'
+  told_leaves : {a : Result Counts BadLine} → Answers b T R a → Told a T R t t' d n → Leaves (all_fit T R t) b t t'
   told_leaves (is_bad m e q) v = record { bad_line = λ i f. v.tables; good_input = λ cs rs f. never (sym e ∙ f) }
   told_leaves (is_good cs rs e p q k) v = record {
     bad_line = λ i f. never (sym f ∙ e);
@@ -160,20 +160,22 @@ module _ (b T R d : List ℕ) (t t' : Tables) (n : ℕ) where
         rw (x, y) at (input-left v cs rs p q k);
   }
 
-module _ {r : Reading} {a : Input} {T R d d' : List ℕ} {t t' : Tables} {n : ℕ} (f : Finished r a) (room : text_length ≤ length d) (l : length d' ≡ length d) where
+module _ {r : Reading} {a : Result Counts BadLine} {T R d d' : List ℕ} {t t' : Tables} {n : ℕ} (f : Finished r a) (room : text_length ≤ length d) (l : length d' ≡ length d) where
   answered : Told a T R t t' d' n → n ≤ length d' → Answered r T R t d t' d' n
   answered v h = record {
     is = λ g b L k. told_prints b T R d' t t' n (f.is b L T R k) v;
     leaves = λ g b L k. told_leaves b T R d' t t' n (f.is b L T R k) v;
-    any = λ g. subst (λ (e : Input). Told e T R t t' d' n) f.any v;
+    any = λ g. subst (λ (e : Result Counts BadLine). Told e T R t t' d' n) f.any v;
     cramped = λ g. absurd (omega arith);
     inside = h;
     long = l;
   }
 
-  pub bad_answered : {k : ℕ} → a ≡ input.Bad k → Line (bad_text k) d' n → t' ≡ t → Answered r T R t d t' d' n
+  pub bad_answered : {k : BadLine} → a ≡ Err k → Line (bad_text k.0) d' n → t' ≡ t → Answered r T R t d t' d' n
   bad_answered e v z =
-      answered (subst (λ (x : Input). Told x T R t t' d' n) (sym e) (record { text = v.text; tables = z })) (omega (arith, v.short))
+      answered (subst (λ (x : Result Counts BadLine). Told x T R t t' d' n) (sym e) (record { text = v.text; tables = z })) (omega (arith, v.short))
 
-  pub good_answered : {i j : ℕ} → a ≡ input.Good i j → InputIn i j T R t t' d' n → Answered r T R t d t' d' n
-  good_answered e v = answered (subst (λ (x : Input). Told x T R t t' d' n) (sym e) v) v.inside
+  pub good_answered : {c : Counts} {u : Tables} → a ≡ Ok c → InputIn c.classes c.records T R t u d' n → t' ≡ u → Answered r T R t d t' d' n
+  good_answered {c} e v z =
+      let w : InputIn c.classes c.records T R t t' d' n = rw z v in
+      answered (subst (λ (x : Result Counts BadLine). Told x T R t t' d' n) (sym e) w) w.inside

@@ -1,5 +1,5 @@
 -- The text of what a fresh run answers.
-use Rattle.std.specs.Prelude.{Option, None, Some}
+use Rattle.std.specs.Prelude.{Option, None, Some, Result, Ok, Err}
 use Rattle.std.proofs.lemmas.Option.{none-some}
 use Prim.Native.Nat.{ℕ, ◌*◌, ◌≤◌}
 use mathlib.Core.Bool.{true}
@@ -20,23 +20,22 @@ use Rattle.pass_laws.specs.Laws.Rows.{key, key-blank, blank-rows}
 use Rattle.pass_laws.specs.Laws.Keeps.{keeps_run}
 use Rattle.printing.specs.Text.{refused_text}
 use Rattle.printing.specs.Puts.{Line}
-use Rattle.answers.specs.Answer.{refusal_in}
-use Rattle.answers.specs.declared.Answer.{Answer}
-use Rattle.answers.specs.declared.Answer.TheVariants as answer
+use Rattle.answers.specs.Answer.{numbered, refusal_in}
+use Rattle.answers.specs.declared.Refusal.{Refusal as Refused}
 use Rattle.listing.specs.Listing.{outcome_text, fresh_text}
 use Rattle.listing.specs.Answered.{BlankFrom, FactsIn, OutcomeIn, FreshIn}
 
 -- By what was answered
 
-module _ {a : Answer} {F d : List ℕ} {rows n : ℕ} where
-  pub accepted_in : a ≡ answer.Accepted → FactsIn F rows d n → OutcomeIn a F rows d n
+module _ {a : Result (Unit {0}) Refused} {F d : List ℕ} {rows n : ℕ} where
+  pub accepted_in : {u : Unit {0}} → a ≡ Ok u → FactsIn F rows d n → OutcomeIn a F rows d n
   accepted_in e v = record {
     is = λ o l q f b. let z : o ≡ None = sym q ∙ ap refusal_in e in v.is l (f z) b ∙ ap (λ (p : Option Refusal). outcome_text p l) (sym z);
     inside = v.inside;
   }
 
-  pub refused_in : {m i : ℕ} → a ≡ answer.Refused m i → Line (refused_text m i) d n → n ≤ length d → OutcomeIn a F rows d n
-  refused_in {m} {i} e v h = record {
+  pub refused_in : {r : Refused} → a ≡ Err r → Line (refused_text (numbered r).number (numbered r).at) d n → n ≤ length d → OutcomeIn a F rows d n
+  refused_in {r} e v h = record {
     is = λ o l q f b. v.text ∙ ap (λ (p : Option Refusal). outcome_text p l) (sym (ap refusal_in e) ∙ q);
     inside = h;
   }
@@ -59,7 +58,7 @@ unfolding tables_of
 outcome_facts None f e = refl
 outcome_facts (Some r) f e = absurd (none-some r (sym e))
 
-pub fresh_in : {classes rs d : List ℕ} {t u : Tables} {a : Answer} {rows n : ℕ} → fitting rs t ≡ true → length rs ≡ width * rows → Fresh classes rs t (record { refused = refusal_in a; tables = u })
+pub fresh_in : {classes rs d : List ℕ} {t u : Tables} {a : Result (Unit {0}) Refused} {rows n : ℕ} → fitting rs t ≡ true → length rs ≡ width * rows → Fresh classes rs t (record { refused = refusal_in a; tables = u })
     → OutcomeIn a u.facts rows d n → FreshIn classes rs u d n
 unfolding fresh_text fresh_outcome
 fresh_in {classes} {rs} {d} {t} {u} {a} {rows} {n} h m x v = record {

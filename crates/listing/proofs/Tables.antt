@@ -1,17 +1,25 @@
 -- The parts of the lent tables that an input fills.
 use Prim.Native.Nat.{ℕ, ◌*◌, ◌%◌, ◌≤◌}
-use mathlib.Core.Bool.{true, and-eq-true_iff}
+use mathlib.Core.Bool.{true, false, and-eq-true_iff}
+use mathlib.Core.Logic.{◌⊎◌, inl, inr}
 use mathlib.Core.List.{List}
 use mathlib.Core.Path.{◌≡◌, ◌∙◌}
 use native.Mathlib.Omega.{arith}
-use borrow.Author.Tests.{eq-eqb, eqb-true}
+use borrow.Author.Tests.{eq-eqb, ne_eqb, eqb-true}
 use lib.Dec.{eqb}
 use lib.ListN.{length, take}
 use lib.Seq.{length-take-le}
 use Rattle.tree.specs.Record.{width}
 use Rattle.pass.specs.Run.{Tables, facts_length, lengths_fit, fitting}
+use Rattle.listing.specs.Listing.{classes_length, records_length, all_fit}
 use Rattle.listing.specs.Laws.Fits.{fits}
 use Rattle.listing.specs.Answered.{Few}
+
+-- a lent table of another length than it should have
+pub unfit : (T R : List ℕ) (t : Tables) → ¬ (length T ≡ classes_length) ⊎ (length T ≡ classes_length) × ¬ (length R ≡ records_length) → false ≡ all_fit T R t
+unfolding all_fit
+unfit T R t (inl h) = rw (ne_eqb (length T) classes_length h)
+unfit T R t (inr (e, h)) = rw (eq-eqb (length T) classes_length e, ne_eqb (length R) records_length h)
 
 -- check 1, of whole records
 pub whole-fits : (rs : List ℕ) (t : Tables) → length rs % width ≡ 0 → fitting rs t ≡ lengths_fit t

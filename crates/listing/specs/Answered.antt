@@ -1,6 +1,6 @@
 -- What the functions that put a text into a buffer promise: its first n bytes are the text. What stands behind them is free; the buffer's length stays. And
 -- what the tables lent for a run then hold.
-use Rattle.std.specs.Prelude.{ℕ, ◌+◌, ◌*◌, ◌≤◌, ◌<◌, Bool, true, false, List, ◌++◌, ◌⊎◌, ◌≡◌, length, get_or, take, Option, None, Some}
+use Rattle.std.specs.Prelude.{ℕ, ◌+◌, ◌*◌, ◌≤◌, ◌<◌, Bool, true, false, List, ◌++◌, ◌⊎◌, ◌≡◌, length, get_or, take, Option, None, Some, Result, Ok, Err}
 use Rattle.table.specs.Layout.{layout}
 use Rattle.tree.specs.Record.{width}
 use Rattle.tree.specs.Tree.{Trees}
@@ -9,12 +9,12 @@ use Rattle.tree.specs.Accepted.{Accepted}
 use Rattle.semantic.specs.Rows.{Row, Blank, put_row}
 use Rattle.pass.specs.Run.{Tables, zeros, fresh_outcome}
 use Rattle.answers.specs.Answer.{refusal_in}
-use Rattle.answers.specs.declared.Answer.{Answer}
+use Rattle.answers.specs.declared.Refusal.{Refusal as Refused}
 use Rattle.printing.specs.Text.{row_text, rows_text, facts_text, refused_text, bad_text}
 use Rattle.reading.specs.Held.{Holds, ended}
 use Rattle.reading.specs.declared.reader.Reading.{Reading}
-use Rattle.reading.specs.declared.reader.Input.{Input}
-use Rattle.reading.specs.declared.reader.Input.TheVariants as input
+use Rattle.reading.specs.declared.reader.Counts.{Counts}
+use Rattle.reading.specs.declared.reader.BadLine.{BadLine}
 use Rattle.listing.specs.Listing.{records_most, classes_length, text_length, all_fit, refusal_text, outcome_text, fresh_text, Prints}
 use Rattle.listing.specs.Left.{Leaves}
 
@@ -37,7 +37,7 @@ pub record FactsIn (F : List ℕ) (rows : ℕ) (d : List ℕ) (n : ℕ) : Type 0
   pub inside : n ≤ length d
 
 -- a refusal, or the facts of the rows where there is none
-pub record OutcomeIn (a : Answer) (F : List ℕ) (rows : ℕ) (d : List ℕ) (n : ℕ) : Type 0 where
+pub record OutcomeIn (a : Result (Unit {0}) Refused) (F : List ℕ) (rows : ℕ) (d : List ℕ) (n : ℕ) : Type 0 where
   pub is : (o : Option Refusal) (l : List Row) → refusal_in a ≡ o → (o ≡ None → F ≡ layout put_row l) → BlankFrom rows l → take n d ≡ outcome_text o l
   pub inside : n ≤ length d
 
@@ -73,9 +73,9 @@ pub record InputIn (names many : ℕ) (T R : List ℕ) (t t' : Tables) (d : List
   pub inside : n ≤ length d
 
 -- by what the reader answers
-abbrev pub Told : Input → List ℕ → List ℕ → Tables → Tables → List ℕ → ℕ → Type 0
-Told (input.Bad k) T R t t' d n = Gives (bad_text k) t (take n d) t'
-Told (input.Good names many) T R t t' d n = InputIn names many T R t t' d n
+abbrev pub Told : Result Counts BadLine → List ℕ → List ℕ → Tables → Tables → List ℕ → ℕ → Type 0
+Told (Err k) T R t t' d n = Gives (bad_text k.0) t (take n d) t'
+Told (Ok c) T R t t' d n = InputIn c.classes c.records T R t t' d n
 
 -- Where there is room for any text: that of the bytes which the state holds, and the tables. Of a state that holds none they are those of its numbers. Where
 -- there is no room nothing is changed. What stands in the buffer behind the text is free.

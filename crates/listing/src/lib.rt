@@ -5,16 +5,16 @@ ghost use Rattle.tree.specs.Record.{width};
 ghost use Rattle.semantic.specs.Rows.{row_width};
 ghost use Rattle.pass.specs.Run.{facts_length};
 ghost use Rattle.answers.specs.Answer.{tables};
+ghost use Rattle.answers.specs.Lent.{held, Same};
 ghost use Rattle.listing.specs.Listing.{records_most, text_length, all_fit};
 ghost use Rattle.listing.specs.Answered.{RowAfter, RowsIn, FactsIn, OutcomeIn, FreshIn, Counted, Few, InputIn, Answered, TextIn};
 
 use analysis::fresh;
-use answers::clear::clear_all;
-use answers::{Answer, FACTS, LIST_ENTRIES, fit};
+use answers::{FACTS, LIST_ENTRIES, Refusal, Tables};
 use printing::refusals::{bad_line, refused_line};
 use printing::rows::row_line;
 use printing::summary::summary;
-use reading::reader::{Input, Reading, finish};
+use reading::reader::{BadLine, Counts, Reading};
 use tree::record::WIDTH;
 use work::WORK;
 
@@ -43,10 +43,8 @@ fn rows_text(facts: &[u32], rows: usize, out: &mut [u8]) -> usize
     ensures { RowsIn facts.now rows out.new result }
 {
     let mut end = 0;
-    let mut i = 0;
-    while i < rows {
+    for i in 0..rows {
         end = row_after(facts, i, out, end);
-        i += 1;
     }
     end
 }
@@ -61,13 +59,13 @@ fn facts_text(facts: &[u32], rows: usize, out: &mut [u8]) -> usize
     end + last
 }
 
-fn outcome_text(a: Answer, facts: &[u32], rows: usize, out: &mut [u8]) -> usize
-    requires { (length facts.now ≡ facts_length) × (rows ≤ records_most) × (text_length ≤ length out.old) }
-    ensures { OutcomeIn a facts.now rows out.new result }
+fn outcome_text(a: Result<(), Refusal>, tables: &Tables, rows: usize, out: &mut [u8]) -> usize
+    requires { (length tables.now.facts.now ≡ facts_length) × (rows ≤ records_most) × (text_length ≤ length out.old) }
+    ensures { OutcomeIn a tables.now.facts.now rows out.new result }
 {
     match a {
-        Answer::Accepted => facts_text(facts, rows, out),
-        Answer::Refused(number, at) => refused_line(number as u64, at as u64, out),
+        Ok(()) => facts_text(tables.facts, rows, out),
+        Err(r) => refused_line(r.number() as u64, r.record() as u64, out),
     }
 }
 
@@ -77,87 +75,67 @@ fn fresh_text(
     many: usize,
     classes: &[u8],
     records: &[u32],
-    facts: &mut [u32],
-    captured: &mut [u32],
-    arguments: &mut [u32],
-    work: &mut [u32],
+    tables: &mut Tables,
     out: &mut [u8],
 ) -> usize
-    requires few { Few classes.now records.now (tables facts.old captured.old arguments.old work.old) names many }
+    requires few { Few classes.now records.now (held tables.old) names many }
     requires text_length_in_bounds { text_length ≤ length out.old }
-    ensures { FreshIn (take names classes.now) (take (width * many) records.now)
-        (tables facts.new captured.new arguments.new work.new) out.new result }
+    ensures fresh { FreshIn (take names classes.now) (take (width * many) records.now) (held tables.new) out.new result }
+    ensures same { Same tables.old tables.new }
 {
-    let numbers = WIDTH * many;
-    let part = &records[..numbers];
-    let first = &classes[..names];
-    let a = fresh(part, first, facts, captured, arguments, work);
-    outcome_text(a, facts, many, out)
+    let a = fresh(
+        &records[..WIDTH * many],
+        &classes[..names],
+        tables.facts,
+        tables.captured,
+        tables.arguments,
+        tables.work,
+    );
+    outcome_text(a, tables, many, out)
 }
 
 // Check 1: every lent table of its set length.
-fn all_fit(
-    classes: &[u8],
-    records: &[u32],
-    facts: &[u32],
-    captured: &[u32],
-    arguments: &[u32],
-    work: &[u32],
-) -> bool
-    ensures { result ≡ all_fit classes.now records.now (tables facts.now captured.now arguments.now work.now) }
+fn all_fit(classes: &[u8], records: &[u32], tables: &Tables) -> bool
+    ensures { result ≡ all_fit classes.now records.now (held tables.now) }
 {
-    if classes.len() != CLASS_TABLE {
+    if classes.len() != CLASS_TABLE || records.len() != RECORD_TABLE {
         return false;
     }
-    if records.len() != RECORD_TABLE {
-        return false;
-    }
-    fit(records, facts, captured, arguments, work)
+    tables.fit(records)
 }
 
 // Check 2: more records than the program takes, or more names than an operation does.
-fn too_many(names: u64, many: u64) -> bool
-    ensures { Counted names many result }
+fn too_many(read: Counts) -> bool
+    ensures { Counted read.classes read.records result }
 {
-    if many > RECORDS as u64 {
-        return true;
-    }
-    names > CLASS_TABLE as u64
+    read.records > RECORDS as u64 || read.classes > CLASS_TABLE as u64
 }
 
-// A good input of so many names and records. A refusal that needs no run leaves the tables as one of the operation does.
+// A good input. A refusal that needs no run leaves the tables as one of the operation does.
 fn input_text(
-    names: u64,
-    many: u64,
+    read: Counts,
     classes: &[u8],
     records: &[u32],
-    facts: &mut [u32],
-    captured: &mut [u32],
-    arguments: &mut [u32],
-    work: &mut [u32],
+    tables: &mut Tables,
     out: &mut [u8],
 ) -> usize
     requires { text_length ≤ length out.old }
-    ensures { InputIn names many classes.now records.now
-        (tables facts.old captured.old arguments.old work.old)
-        (tables facts.new captured.new arguments.new work.new) out.new result }
+    ensures input { InputIn read.classes read.records classes.now records.now (held tables.old) (held tables.new) out.new result }
+    ensures same { Same tables.old tables.new }
 {
-    if !all_fit(classes, records, facts, captured, arguments, work) {
+    if !all_fit(classes, records, tables) {
         return refused_line(1, 0, out);
     }
-    if too_many(names, many) {
-        clear_all(facts, captured, arguments, work);
+    if too_many(read) {
+        tables.clear_all();
         return refused_line(2, 0, out);
     }
     fresh_text(
-        names as usize,
-        many as usize,
+        read.classes as usize,
+        read.records as usize,
         classes,
         records,
-        facts,
-        captured,
-        arguments,
-        work,
+        tables,
         out,
     )
 }
@@ -181,12 +159,15 @@ pub fn answer(
     if out.len() < TEXT {
         return 0;
     }
-    let input = finish(r);
-    match input {
-        Input::Bad(line) => bad_line(line, out),
-        Input::Good(names, many) => input_text(
-            names, many, classes, records, facts, captured, arguments, work, out,
-        ),
+    let mut tables = Tables {
+        facts,
+        captured,
+        arguments,
+        work,
+    };
+    match r.finish() {
+        Err(BadLine(line)) => bad_line(line, out),
+        Ok(read) => input_text(read, classes, records, &mut tables, out),
     }
 }
 

@@ -4,43 +4,20 @@ ghost use Rattle.std.specs.Prelude.{true, ◌≡◌, ◌+◌, ◌≤◌, length}
 ghost use Rattle.listing_main.specs.Parts.{Ends};
 
 use listing::{CLASS_TABLE, RECORD_TABLE, TEXT, text};
-use reading::reader::{feed, start};
+use reading::reader::{Reader, Reading};
 use std::io;
 use std::io::Read;
 
-// Whether `---` and LF stand at the place.
-fn is_parting(input: &[u8], at: usize) -> bool
-    requires { at ≤ length input.now }
-    ensures { result ≡ true → at + 4 ≤ length input.now }
+// Where the next parting, `---` and LF, stands, or the end.
+fn part_end(input: &[u8]) -> usize
+    ensures { Ends input.now result }
 {
-    if input.len() - at < 4 {
-        return false;
-    }
-    if input[at] != 45 {
-        return false;
-    }
-    if input[at + 1] != 45 {
-        return false;
-    }
-    if input[at + 2] != 45 {
-        return false;
-    }
-    input[at + 3] == 10
-}
-
-// The place of the next parting, or the end.
-fn part_end(input: &[u8], at: usize) -> usize
-    requires { at ≤ length input.now }
-    ensures { Ends input.now at result }
-{
-    let mut i = at;
-    while i < input.len() {
-        if is_parting(input, i) {
+    for i in 0..input.len() {
+        if input[i..].starts_with(b"---\n") {
             return i;
         }
-        i += 1;
     }
-    i
+    input.len()
 }
 
 fn print_one(rt: &impl Print, input: &[u8]) -> io::Result<()> {
@@ -48,7 +25,14 @@ fn print_one(rt: &impl Print, input: &[u8]) -> io::Result<()> {
     let mut classes = [0u8; CLASS_TABLE];
     let mut records = [0u32; RECORD_TABLE];
     let mut out = [0u8; TEXT];
-    let r = feed(input, &mut line, &mut classes, &mut records, start());
+    let mut reader = Reader {
+        state: Reading::start(),
+        line: &mut line,
+        classes: &mut classes,
+        records: &mut records,
+    };
+    reader.feed(input);
+    let r = reader.state;
     let n = text(r, &classes, &records, &mut out);
     rt.write_all(&out[..n])
 }
@@ -58,15 +42,15 @@ fn print_parting(rt: &impl Print) -> io::Result<()> {
 }
 
 fn print_all(rt: &impl Print, input: &[u8]) -> io::Result<()> {
-    let mut at = 0;
+    let mut rest = input;
     loop {
-        let end = part_end(input, at);
-        print_one(rt, &input[at..end])?;
-        if end == input.len() {
+        let (part, more) = rest.split_at(part_end(rest));
+        print_one(rt, part)?;
+        if more.is_empty() {
             return Ok(());
         }
         print_parting(rt)?;
-        at = end + 4;
+        rest = &more[4..];
     }
 }
 

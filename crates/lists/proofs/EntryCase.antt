@@ -2,7 +2,7 @@
 use Rattle.std.specs.Prelude.{Option, None, Some}
 use Prim.Native.Nat.{ℕ, ◌-◌, ◌<◌}
 use mathlib.Core.List.{List}
-use mathlib.Core.Bool.{Bool, true, false, cond}
+use mathlib.Core.Bool.{false}
 use mathlib.Core.Path.{◌≡◌, refl, ap, sym, ◌∙◌}
 use native.Mathlib.Omega.{arith}
 use lib.ListN.{length}
@@ -10,19 +10,18 @@ use Rattle.tree.specs.Record.{Record, records, nth}
 use Rattle.tree.specs.Tree.{Ident}
 use Rattle.semantic.specs.Information.{NONE}
 use Rattle.semantic.specs.declared.ScopeInfo.{ScopeInfo}
-use Rattle.pass.specs.State.{Scope, id_of, entry_at, newest}
+use Rattle.pass.specs.State.{State, Scope, id_of, entry_at, newest}
 use Rattle.pass.specs.Run.{rows_most}
 use Rattle.work.specs.Known.{Known}
-use Rattle.work.specs.Coded.{last_code, record_in, record_of}
+use Rattle.work.specs.Coded.{last_code, record_in}
+use Rattle.work.specs.Works.{Works}
 use Rattle.work.specs.Leaves.{Tells, LoadsEntry}
 use Rattle.work.specs.Scope.{KnownHere}
 use Rattle.work.specs.Laws.Scope.{newest-known}
 use Rattle.work.specs.declared.Pass.{Pass}
 use Rattle.work.specs.declared.entries.Entry.{Entry as Coded}
-use Rattle.work.specs.declared.scope.Binder.{Binder}
-use Rattle.work.specs.declared.scope.Binder.TheVariants as binder
 use Rattle.lists.specs.Contract.{Infos}
-use Rattle.lists.specs.Index.{entry_in, where_captured, captured_newest}
+use Rattle.lists.specs.Index.{where_captured, captured_newest, TellsCaptured}
 use Rattle.lists.specs.Given.{SomeLast, TellsLast, SomeEntry, KnownEntry, MakesListEntry}
 
 -- The id of a last use
@@ -99,35 +98,26 @@ list-entry-made {rs} {b = b} t p i = record {
 
 -- The newest binder of a name, where it is captured
 
-module _ {p : Pass} {w : List ℕ} (x : ℕ) (o : Binder) (t : Tells p w (λ s. record_in (newest s x)) (record_of o)) where
-  abbrev Captured : Binder → Type 0
-  Captured r = Tells p w (λ s. record_in (captured_newest s.scope x)) (record_of r)
+module _ {p : Pass} {w : List ℕ} (x : ℕ) (o : Option ℕ) (t : Tells p w (λ s. record_in (newest s x)) o) where
+  abbrev Captured : Option ℕ → Type 0
+  Captured r = Tells p w (λ s. record_in (captured_newest s.scope x)) r
 
-  pub newest-none : o ≡ binder.Nothing → Captured binder.Nothing
-  newest-none e = record { is = λ s k. go s.scope (newest s x) (ap record_of (sym e) ∙ t.is s k) }
+  pub newest-none : o ≡ None → Captured None
+  newest-none e = record { is = λ s k. go s.scope (newest s x) (sym e ∙ t.is s k) }
     where
       go : (c : Scope) (u : Option Ident) → None ≡ record_in u → None ≡ record_in (where_captured c u)
       go c None q = refl
       go c (Some b) q = absurd (let z : ◌≡◌ {A = ℕ} 0 1 = cc in omega arith)
 
-  module _ {b : ℕ} (e : o ≡ binder.At b) where
+  module _ {b : ℕ} (e : o ≡ Some b) where
     pub newest-inside : {rs : List ℕ} → KnownHere rs p w → b < rows_most
     newest-inside {rs} h =
-        let k = newest-known rs h.s x b h.binders (ap record_of (sym e) ∙ t.is h.s h.works) in
+        let k = newest-known rs h.s x b h.binders (sym e ∙ t.is h.s h.works) in
         omega (arith, k.at, k.known.few)
 
-    picked : (c : Scope) (u : Option Ident) (q : Bool) → Some b ≡ record_in u → (entry_in c b).captured ≡ q
-        → record_of (cond q (binder.At b) binder.Nothing) ≡ record_in (where_captured c u)
-    picked c None q h g = absurd (let z : ◌≡◌ {A = ℕ} 0 1 = cc in omega arith)
-    picked c (Some y) q h g =
-        let z : b ≡ y.at = ap (λ (m : Option ℕ). elim m [ None ↦ 0 | Some i ↦ i ]) h in
-        go q (ap (λ (i : ℕ). (entry_in c i).captured) (sym z) ∙ g)
+    pub newest-some : {rs : List ℕ} → KnownHere rs p w → {r : Option ℕ} → TellsCaptured w b r → Captured r
+    newest-some {rs} h {r} l = record { is = λ s k. go s k (newest s x) (sym e ∙ t.is s k) }
       where
-        go : (q : Bool) → (entry_in c y.at).captured ≡ q → record_of (cond q (binder.At b) binder.Nothing) ≡ record_in (where_captured c (Some y))
-        go true g = rw g h
-        go false g = rw g
-
-    pub newest-some : {v : Coded} → LoadsEntry w b v → (q : Bool) → v.captured ≡ q → Captured (cond q (binder.At b) binder.Nothing)
-    newest-some {v} l q g = record {
-      is = λ s k. picked s.scope (newest s x) q (ap record_of (sym e) ∙ t.is s k) (sym (ap (λ (d : Coded). d.captured) (l.is p s k)) ∙ g);
-    }
+        go : (s : State) → Works p w s → (u : Option Ident) → Some b ≡ record_in u → r ≡ record_in (where_captured s.scope u)
+        go s k None q = absurd (let z : ◌≡◌ {A = ℕ} 0 1 = cc in omega arith)
+        go s k (Some y) q = l.is p s y k (sym (ap (λ (m : Option ℕ). elim m [ None ↦ 0 | Some i ↦ i ]) q))

@@ -1,15 +1,14 @@
 -- What a name gives to the list of a lambda that ends, and an index of it by name.
-use Rattle.std.specs.Prelude.{ℕ, zero, suc, ◌<◌, List, ◌∷◌, map, cond, not, ◌≡◌, length, get_or, eqb, Option, None, Some}
+use Rattle.std.specs.Prelude.{ℕ, suc, ◌<◌, List, ◌∷◌, map, cond, not, ◌≡◌, length, get_or, eqb, Option, None, Some}
 use Rattle.tree.specs.Tree.{Ident}
 use Rattle.tree.specs.Check.{member}
 use Rattle.scope_map.specs.ScopeMap.{Live, get}
 use Rattle.pass.specs.State.{State, Scope, Entry, no_entry, binder_in}
 use Rattle.pass.specs.Lambda.{name_in}
-use Rattle.work.specs.Coded.{last_code, record_in, record_of}
+use Rattle.work.specs.Coded.{record_in}
 use Rattle.work.specs.Works.{Works}
 use Rattle.work.specs.Scope.{before, KnownHere}
 use Rattle.work.specs.declared.Pass.{Pass}
-use Rattle.work.specs.declared.scope.Binder.{Binder}
 use Rattle.walk.specs.declared.uses.Names.{Names}
 use Rattle.lists.specs.Contract.{Told}
 
@@ -32,18 +31,13 @@ captured_newest c x = where_captured c (binder_in (get c.names x))
 abbrev pub offered : List ℕ → Scope → ℕ → Option Ident
 offered ps c x = cond (not (member x ps)) (captured_newest c x) None
 
--- the index a tells of each name that it has what the name gives: the binder's record, counted from 1, or 0
-abbrev pub Indexes : List ℕ → List ℕ → Scope → Type 0
-Indexes a ps c = (x : ℕ) → x < length a → get_or a x 0 ≡ last_code (offered ps c x)
+-- the index a tells of each name that it has what the name gives: the binder's record
+abbrev pub Indexes : List (Option ℕ) → List ℕ → Scope → Type 0
+Indexes a ps c = (x : ℕ) → x < length a → get_or a x None ≡ record_in (offered ps c x)
 
 -- in every state held, for the parameters told
-pub record Indexed (rs : List ℕ) (n : Names) (p : Pass) (w a : List ℕ) : Type 0 where
+pub record Indexed (rs : List ℕ) (n : Names) (p : Pass) (w : List ℕ) (a : List (Option ℕ)) : Type 0 where
   pub is : (xs : List Ident) (s : State) → Told rs n xs → Works p w s → Indexes a (map name_in xs) s.scope
-
--- the record that a number of it stands for
-abbrev pub decoded : ℕ → Option ℕ
-decoded zero = None
-decoded (suc b) = Some b
 
 -- What the functions promise
 
@@ -52,30 +46,33 @@ pub record SomeHere (p : Pass) (w : List ℕ) : Type 0 where
   pub rs : List ℕ
   pub here : KnownHere rs p w
 
--- the record b of a binder, counted from 1, or 0 where its entry is not captured
-pub record CodesBinder (w : List ℕ) (b r : ℕ) : Type 0 where
-  pub is : (p : Pass) (s : State) (y : Ident) → Works p w s → y.at ≡ b → r ≡ last_code (where_captured s.scope (Some y))
+-- the record b of a binder, where its entry is captured
+pub record TellsCaptured (w : List ℕ) (b : ℕ) (r : Option ℕ) : Type 0 where
+  pub is : (p : Pass) (s : State) (y : Ident) → Works p w s → y.at ≡ b → r ≡ record_in (where_captured s.scope (Some y))
 
 -- the live name in row i is the newest of its name
-pub record PutsRow (p : Pass) (w : List ℕ) (i : ℕ) (a a' : List ℕ) : Type 0 where
+pub record PutsRow (p : Pass) (w : List ℕ) (i : ℕ) (a a' : List (Option ℕ)) : Type 0 where
   pub is : (s : State) (e : Live Ident) → Works p w s → before (suc i) s.scope.names.live ≡ e ∷ before i s.scope.names.live
-      → (x : ℕ) → x < length a → get_or a' x 0 ≡ cond (eqb e.name x) (last_code (where_captured s.scope (Some e.value))) (get_or a x 0)
+      → (x : ℕ) → x < length a → get_or a' x None ≡ cond (eqb e.name x) (record_in (where_captured s.scope (Some e.value))) (get_or a x None)
 
 abbrev pub Zeros : List ℕ → Type 0
 Zeros a = (x : ℕ) → get_or a x 0 ≡ 0
 
+abbrev pub Empty : List (Option ℕ) → Type 0
+Empty a = (x : ℕ) → get_or a x None ≡ None
+
 -- all live names are put
-pub record PutsRows (p : Pass) (w a : List ℕ) : Type 0 where
-  pub is : (s : State) → Works p w s → (x : ℕ) → x < length a → get_or a x 0 ≡ last_code (captured_newest s.scope x)
+pub record PutsRows (p : Pass) (w : List ℕ) (a : List (Option ℕ)) : Type 0 where
+  pub is : (s : State) → Works p w s → (x : ℕ) → x < length a → get_or a x None ≡ record_in (captured_newest s.scope x)
 
 -- a name gives nothing; nor do the names told
-pub record ClearsName (a : List ℕ) (y : ℕ) (a' : List ℕ) : Type 0 where
-  pub is : (x : ℕ) → x < length a → get_or a' x 0 ≡ cond (eqb x y) 0 (get_or a x 0)
+pub record ClearsName (a : List (Option ℕ)) (y : ℕ) (a' : List (Option ℕ)) : Type 0 where
+  pub is : (x : ℕ) → x < length a → get_or a' x None ≡ cond (eqb x y) None (get_or a x None)
 
-pub record ClearsNames (rs : List ℕ) (n : Names) (a a' : List ℕ) : Type 0 where
-  pub is : (xs : List Ident) → Told rs n xs → (x : ℕ) → x < length a → get_or a' x 0 ≡ cond (member x (map name_in xs)) 0 (get_or a x 0)
+pub record ClearsNames (rs : List ℕ) (n : Names) (a a' : List (Option ℕ)) : Type 0 where
+  pub is : (xs : List Ident) → Told rs n xs → (x : ℕ) → x < length a → get_or a' x None ≡ cond (member x (map name_in xs)) None (get_or a x None)
 
 -- what a name gives, by an index
-pub record Offers (rs : List ℕ) (n : Names) (p : Pass) (w a : List ℕ) (x : ℕ) (r : Binder) : Type 0 where
+pub record Offers (rs : List ℕ) (n : Names) (p : Pass) (w : List ℕ) (a : List (Option ℕ)) (x : ℕ) (r : Option ℕ) : Type 0 where
   pub is : (xs : List Ident) (s : State) → Told rs n xs → Works p w s → Indexes a (map name_in xs) s.scope
-      → record_of r ≡ record_in (offered (map name_in xs) s.scope x)
+      → r ≡ record_in (offered (map name_in xs) s.scope x)

@@ -1,5 +1,5 @@
 #![tactic(auto)]
-// Captured lists, made at a lambda's end.
+// Captured lists, made at a lambda's end. The pass and each table are parameters (`work::Pass` says why).
 pub mod captured;
 pub mod index;
 pub mod order;

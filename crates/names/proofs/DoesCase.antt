@@ -22,7 +22,7 @@ use Rattle.work.specs.Passes.{with_second}
 use Rattle.work.specs.Laws.Scope.{newest-known}
 use Rattle.work.specs.Tied.{raw, Here}
 use Rattle.work.specs.declared.Pass.{Pass}
-use Rattle.work.specs.declared.Second.{Second}
+use Rattle.work.specs.declared.SecondRefusal.{SecondRefusal}
 use Rattle.names.specs.Rules.{Stands, Same, no_entry_lem, depth-one, same_current_layer, taken-capture, same_home_slot}
 use Rattle.names.specs.Facts.{span_of, FreeFact}
 use Rattle.names.specs.Contract.{Does, Decides}
@@ -166,7 +166,7 @@ module _ {rs : List ℕ} {at : ℕ} {p : Pass} {F C w : List ℕ} {name : ℕ} (
       unfolding binder_of
       does_home e q k = does home_slot (λ y. refl) classes k (λ A s x h. (ruled_home (told h d e), q ∙ depth_is h.tied.works))
 
-      pub does_taken : {b place row : ℕ} {u : Second} → r ≡ decision.TakenCapture b place row → ReadsTaken rs at b place row p F C w u F' w'
+      pub does_taken : {b place row : ℕ} {u : Option SecondRefusal} → r ≡ decision.TakenCapture b place row → ReadsTaken rs at b place row p F C w u F' w'
           → Does rs at p F C w (read classes) (with_second u p) F' w'
       unfolding read binder_of
       does_taken e k = record {

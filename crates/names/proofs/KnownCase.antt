@@ -7,6 +7,7 @@ use mathlib.Core.Path.{◌≡◌, refl, ap, sym, subst}
 use native.Mathlib.Omega.{arith}
 use lib.ListN.{length}
 use lib.Dec.{eqb}
+use Rattle.std.proofs.lemmas.Option.{none-some}
 use Rattle.tree.specs.Tree.{Ident}
 use Rattle.tree.specs.Accepted.{All}
 use Rattle.scope_map.specs.ScopeMap.{Live, get_in}
@@ -17,7 +18,7 @@ use Rattle.semantic.specs.declared.SemanticInformation.{SemanticInformation}
 use Rattle.pass.specs.State.{State, row_at, newest}
 use Rattle.pass.specs.Run.{rows_most}
 use Rattle.pass_laws.specs.Sound.{uses_in}
-use Rattle.work.specs.Coded.{record_in, record_of}
+use Rattle.work.specs.Coded.{record_in}
 use Rattle.work.specs.Entries.{used_more}
 use Rattle.work.specs.Works.{Works, work_long}
 use Rattle.work.specs.Laws.Scope.{newest-known}
@@ -26,19 +27,14 @@ use Rattle.work.specs.Tied.{raw, Tied, Good, row_count}
 use Rattle.pass_laws.specs.Visitable.{uses_most}
 use Rattle.work.specs.declared.Pass.{Pass}
 use Rattle.work.specs.declared.entries.Entry.{Entry as Coded}
-use Rattle.work.specs.declared.scope.Binder.{Binder}
-use Rattle.work.specs.declared.scope.Binder.TheVariants as binder
 use Rattle.names.specs.Steps.{Bound}
 use Rattle.names.specs.Laws.Idents.{known_few}
 
 -- What holds of every live name holds of one that is found
 
-pub none-some : {A : Type 0} {a : A} → None ≡ Some a → ⊥
-none-some e = let z : ◌≡◌ {A = ℕ} 0 1 = cc in omega arith
-
 pub found_has : {A : Type 0} (P : Live A → Type 0) (l : List (Live A)) (x : ℕ) {e : Live A} → All P l → get_in l x ≡ Some e → P e
 unfolding get_in
-found_has P [] x h q = absurd (none-some q)
+found_has P [] x h q = absurd (none-some _ q)
 found_has P (d ∷ l) x {e} h q = pick (eqb d.name x) (λ r. found_has P l x h.1 r) q
   where
     pick : (b : Bool) → (get_in l x ≡ Some e → P e) → cond b (Some d) (get_in l x) ≡ Some e → P e
@@ -47,7 +43,7 @@ found_has P (d ∷ l) x {e} h q = pick (eqb d.name x) (λ r. found_has P l x h.1
 
 pub found_none : (o : Option Ident) → None ≡ record_in o → o ≡ None
 found_none None e = refl
-found_none (Some y) e = absurd (none-some e)
+found_none (Some y) e = absurd (none-some _ e)
 
 -- Bounds
 
@@ -106,9 +102,9 @@ pub used-fits : {e f : Coded} → f ≡ used_more e → e.uses ≤ uses_most →
 used-fits q h = omega (arith, uses_are q)
 
 -- what a lookup tells, by the answer that it gave
-module _ {p : Pass} {w : List ℕ} {f : State → Option ℕ} {r : Binder} (t : Tells p w f (record_of r)) where
-  pub told_at : {b : ℕ} → r ≡ binder.At b → Tells p w f (Some b)
-  told_at e = subst (λ (r : Binder). Tells p w f (record_of r)) e t
+module _ {p : Pass} {w : List ℕ} {f : State → Option ℕ} {r : Option ℕ} (t : Tells p w f r) where
+  pub told_at : {b : ℕ} → r ≡ Some b → Tells p w f (Some b)
+  told_at e = subst (Tells p w f) e t
 
-  pub told_none : r ≡ binder.Nothing → Tells p w f None
-  told_none e = subst (λ (r : Binder). Tells p w f (record_of r)) e t
+  pub told_none : r ≡ None → Tells p w f None
+  told_none e = subst (Tells p w f) e t

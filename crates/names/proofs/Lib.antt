@@ -1,4 +1,3 @@
-pub mod FactCase
 pub mod KnownCase
 pub mod ReadCase
 pub mod RuleCase

@@ -3,14 +3,12 @@ use Rattle.std.specs.Prelude.{Option, None, Some}
 use Prim.Native.Nat.{ℕ}
 use mathlib.Core.List.{List}
 use mathlib.Core.Path.{◌≡◌, refl, ap, sym, ◌∙◌}
-use native.Mathlib.Omega.{arith}
 use borrow.Author.Tests.{eq-eqb, ne_eqb}
 use Rattle.tree.specs.Tree.{Ident}
 use Rattle.scope_map.specs.ScopeMap.{Live, get_in}
-use Rattle.scope_map.specs.Map.{map_live}
-use Rattle.scope_map.specs.Held.{found_in}
+use Rattle.scope_map.specs.Map.{map_value, map_live}
+use Rattle.scope_map.specs.Held.{found_at, found_in}
 use Rattle.scope_map.specs.declared.Found.{Found}
-use Rattle.scope_map.specs.declared.Found.TheVariants.{At, Nothing}
 use Rattle.pass.specs.State.{State, Capture, entry_at, newest, depth}
 use Rattle.pass.specs.Read.{rule_of}
 use Rattle.work.specs.Coded.{record_in}
@@ -40,28 +38,30 @@ record Newest (o : Option (Live Capture)) (d v : ℕ) : Type 0 where
   value : v ≡ live.value.row
 
 module _ {l : List (Live Capture)} {x : ℕ} where
-  found_nothing : Looked l x → Nothing ≡ found_in (map_live row_of l) x → get_in l x ≡ None
+  found_nothing : Looked l x → None ≡ found_in (map_live row_of l) x → get_in l x ≡ None
   found_nothing (no_capture g f) q = g
   found_nothing (the_capture c i g f h) q = cc
 
-  found_live : {i d v : ℕ} → Looked l x → At i d v ≡ found_in (map_live row_of l) x → Newest (get_in l x) d v
-  found_live (no_capture g f) q = let z : ◌≡◌ {A = ℕ} 0 1 = cc in absurd (omega arith)
-  found_live (the_capture c j g f h) q = record { live = c; is = g; layer = cc; value = cc }
+  found_live : {f : Found} → Looked l x → Some f ≡ found_in (map_live row_of l) x → Newest (get_in l x) f.layer f.value
+  found_live (no_capture g e) q = cc
+  found_live {f} (the_capture c j g e h) q =
+      let z : f ≡ found_at j (map_value row_of c) = cc in
+      record { live = c; is = g; layer = ap (λ (k : Found). k.layer) z; value = ap (λ (k : Found). k.value) z }
 
 module _ {p : Pass} {w : List ℕ} {name b : ℕ} where
-  pub decides_home : {r : Found} → GetsCapture p w name r → r ≡ Nothing → DecidesCapture p w name b (HomeSlot b)
+  pub decides_home : {r : Option Found} → GetsCapture p w name r → r ≡ None → DecidesCapture p w name b (HomeSlot b)
   decides_home t q = record { is = λ s y k e. rw (found_nothing (found_capture s.captures.live name) (sym q ∙ t.is s k)) (same_home_slot e) }
 
-  pub decides_taken : {f : Found} {place layer v row : ℕ} → GetsCapture p w name f → f ≡ At place layer v → row ≡ v
-      → DecidesCapture p w name b (TakenCapture b place row)
-  decides_taken {place = place} {v = v} t q r = record {
+  pub decides_taken : {o : Option Found} {f : Found} {row : ℕ} → GetsCapture p w name o → o ≡ Some f → row ≡ f.value
+      → DecidesCapture p w name b (TakenCapture b f.row row)
+  decides_taken {f = f} {row} t q r = record {
     is = λ s y k e.
         let z = found_live (found_capture s.captures.live name) (sym q ∙ t.is s k) in
-        rw z.is (taken-capture e (record {
+        rw z.is (taken-capture {place = f.row} {row = row} e (record {
           live = z.live;
           is = refl;
           newest = z.is;
-          found = sym (t.is s k) ∙ q ∙ ap (λ (d : ℕ). At place d v) z.layer ∙ ap (At place z.live.layer) (sym r);
+          found = sym (t.is s k) ∙ q ∙ rw (← z.layer, r) refl;
           stands_for = r ∙ z.value;
         }));
   }

@@ -1,11 +1,14 @@
 -- A read that takes a capture. No place of the code stands here.
+use Rattle.std.specs.Prelude.{Option, Some}
+use Rattle.std.specs.Option.{option_or}
 use Prim.Native.Nat.{ℕ, suc, ◌+◌, ◌*◌, ◌≤◌, ◌<◌}
 use mathlib.Core.List.{List}
-use mathlib.Core.Bool.{Bool, true, false, cond, ◌&&◌}
+use mathlib.Core.Bool.{Bool, true, false, cond, not, ◌&&◌}
 use mathlib.Core.Path.{◌≡◌, refl, ap, sym, ◌∙◌, subst}
 use native.Mathlib.Omega.{arith}
 use lib.ListN.{length, get_or}
 use lib.Dec.{eqb}
+use borrow.Author.Tests.{eq-eqb, ne_eqb}
 use Rattle.tree.specs.Record.{nth}
 use Rattle.semantic.specs.Information.{NONE, with_usage_count}
 use Rattle.semantic.specs.Rows.{Blank, Variable, row_width, put_row, no_list_entry, list_entry_width, put_list_entry}
@@ -16,11 +19,11 @@ use Rattle.semantic.specs.Laws.Leaves.{list-entry-inside}
 use Rattle.semantic.specs.declared.ScopeInfo.{ScopeInfo}
 use Rattle.semantic.specs.declared.SemanticInformation.{SemanticInformation}
 use Rattle.semantic.specs.declared.Span.{Span}
-use Rattle.pass.specs.State.{State, Capture, entry_at, info_at, put_entry, insert, last_entry, captured_entry, or_kept, note_second, depth}
+use Rattle.pass.specs.State.{State, Capture, entry_at, info_at, put_entry, insert, last_entry, captured_entry, note_second, depth}
 use Rattle.pass.specs.Read.{use_capture, note_taken, has_number, count_uses, taken_fact}
 use Rattle.pass.specs.Lists.{captured_most}
 use Rattle.pass.specs.Run.{rows_most, list_entries_most}
-use Rattle.work.specs.Coded.{coded, capture_of, second_of, refusal_at}
+use Rattle.work.specs.Coded.{coded, capture_of}
 use Rattle.work.specs.Entries.{used_last, now_captured}
 use Rattle.work.specs.Works.{Works, capture_data_first}
 use Rattle.work.specs.Laws.Works.{captured_many, depth_is}
@@ -33,7 +36,8 @@ use Rattle.work.specs.Tied.{raw, Tied, Good, row_count}
 use Rattle.pass_laws.specs.Visitable.{uses_most}
 use Rattle.work.specs.Laws.Tied.{count-amend, count-entry, facts_entry, tied_works, tied_insert, tied_amend}
 use Rattle.work.specs.declared.Pass.{Pass}
-use Rattle.work.specs.declared.Second.{Second}
+use Rattle.work.specs.declared.SecondRefusal.{SecondRefusal}
+use Rattle.work.specs.declared.SecondRefusal.TheVariants.{NoCapture}
 use Rattle.work.specs.declared.captures.Capture.{Capture as CodedCapture}
 use Rattle.work.specs.declared.entries.Entry.{Entry as Coded}
 use Rattle.names.specs.Facts.{span_of, TakenFact}
@@ -84,17 +88,34 @@ module _ {place : ℕ} {w : List ℕ} (k : Takeable place w) where
 
 -- Refusal 12, or not
 
+-- an offset that is none, or not
+
+pub no_number : {n : ℕ} → n ≡ NONE → has_number n ≡ false
+no_number e = ap not (eq-eqb _ _ e)
+
+pub number : {n : ℕ} → (n ≡ NONE → ⊥) → has_number n ≡ true
+number k = ap not (ne_eqb _ _ k)
+
+pub both : {a b : Bool} → a ≡ true → b ≡ true → (a && b) ≡ true
+both e k = rw (e, k) refl
+
+pub not_first : {a : Bool} (b : Bool) → a ≡ false → (a && b) ≡ false
+not_first b e = rw e refl
+
+pub not_second : {a b : Bool} → a ≡ true → b ≡ false → (a && b) ≡ false
+not_second e k = rw (e, k) refl
+
 abbrev pub is_twelve : ScopeInfo → Bool
 is_twelve v = has_number v.read_capture_offset && eqb v.capture_offset NONE
 
-module _ {v : ScopeInfo} {at : ℕ} {before : Second} where
-  pub notes : {r : Second} → is_twelve v ≡ true → second_of r ≡ or_kept (second_of before) (refusal_at 12 at) → NotesTaken v at before r
-  notes {r} t f = record {
-    is = λ p w s x q e k. rw (t, e) (second_kept k 12 at r (f ∙ ap (λ (b : Second). or_kept (second_of b) (refusal_at 12 at)) (sym q)));
+module _ {v : ScopeInfo} {at : ℕ} {before : Option SecondRefusal} where
+  pub notes : {r : Option SecondRefusal} {i : ℕ} → is_twelve v ≡ true → i ≡ at → r ≡ option_or before (Some (NoCapture i)) → NotesTaken v at before r
+  notes {r} t ei f = record {
+    is = λ p w s x q e k. rw (t, e, f, ei, ← q) (second_kept k (NoCapture at));
   }
 
   pub notes_none : is_twelve v ≡ false → NotesTaken v at before before
-  notes_none t = record { is = λ p w s x q e k. rw t (subst (λ (b : Second). Works (with_second b p) w s) q k) }
+  notes_none t = record { is = λ p w s x q e k. rw t (subst (λ (b : Option SecondRefusal). Works (with_second b p) w s) q k) }
 
 note_facts : (b : Bool) (i : ℕ) (s : State) → (cond b (note_second 12 i s) s).facts ≡ s.facts
 note_facts true i s = refl
@@ -135,7 +156,7 @@ module _ {rs : List ℕ} {at b place row : ℕ} {p : Pass} {F C w : List ℕ} (k
 -- The read
 
 pub reads-taken : {rs : List ℕ} {at b place row : ℕ} {p : Pass} {F C w F' w' F'' : List ℕ} {v : ScopeInfo} {t : CodedCapture} {i m d : ℕ} {q : Span}
-    {r : SemanticInformation} {u' : Second}
+    {r : SemanticInformation} {u' : Option SecondRefusal}
     → Tells put_list_entry no_list_entry (λ x. x.info) C row v → UsesTaken at b place w t w' → i ≡ t.binder → m ≡ suc t.uses
     → Amends put_row Blank (amended (with_usage_count m)) F i F' → d ≡ p.scope.depth → q ≡ span_of (nth rs at) → TakenFact d t v q r
     → Stores put_row F' at (Variable r) F'' → NotesTaken v at p.second u' → ReadsTaken rs at b place row p F C w u' F'' w'

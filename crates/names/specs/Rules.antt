@@ -2,7 +2,6 @@
 use Rattle.std.specs.Prelude.{ℕ, ◌≡◌, Some}
 use Rattle.tree.specs.Tree.{Ident}
 use Rattle.scope_map.specs.ScopeMap.{Live, get}
-use Rattle.scope_map.specs.declared.Found.TheVariants.{At}
 use Rattle.pass.specs.State.{State, Capture}
 use Rattle.pass.specs.Read as pass
 use Rattle.work.specs.Captures.{capture_found}
@@ -14,7 +13,7 @@ pub record Stands (s : State) (x place row : ℕ) (c : Capture) : Type 0 where
   pub live : Live Capture
   pub is : live.value ≡ c
   pub newest : get s.captures x ≡ Some live
-  pub found : capture_found s x ≡ At place live.layer row
+  pub found : capture_found s x ≡ Some (record { row = place; layer = live.layer; value = row })
   pub stands_for : row ≡ c.row
 
 -- the code's rule says what the pass's does, for the name x

@@ -1,5 +1,5 @@
 -- What the steps of a define and of a read promise, of every state that the tables hold.
-use Rattle.std.specs.Prelude.{ℕ, List, Bool, ◌≡◌}
+use Rattle.std.specs.Prelude.{ℕ, List, Bool, ◌≡◌, Option}
 use Rattle.tree.specs.Tree.{Ident, Tree}
 use Rattle.scope_map.specs.ScopeMap.{get}
 use Rattle.semantic.specs.declared.IdentifierStatus.{IdentifierStatus}
@@ -15,7 +15,7 @@ use Rattle.work.specs.Passes.{with_second}
 use Rattle.work.specs.Scope.{BindersKnown}
 use Rattle.work.specs.Tied.{raw, Tied, Good, Here, row_count}
 use Rattle.work.specs.declared.Pass.{Pass}
-use Rattle.work.specs.declared.Second.{Second}
+use Rattle.work.specs.declared.SecondRefusal.{SecondRefusal}
 use Rattle.work.specs.declared.captures.Capture.{Capture as CodedCapture}
 use Rattle.work.specs.declared.entries.Entry.{Entry as Coded}
 use Rattle.walk.specs.Contract.{body_of}
@@ -68,7 +68,7 @@ pub record PutsUse (b : ℕ) (e : Coded) (F w F' w' : List ℕ) : Type 0 where
       → Tied (raw p F' C A w') (count_uses v.usage_count y (put_entry y.at v s))
 
 -- refusal 12, or not, of every pass that had this noted before
-pub record NotesTaken (v : ScopeInfo) (at : ℕ) (before r : Second) : Type 0 where
+pub record NotesTaken (v : ScopeInfo) (at : ℕ) (before r : Option SecondRefusal) : Type 0 where
   pub is : (p : Pass) (w : List ℕ) (s : State) (x : Ident) → p.second ≡ before → x.at ≡ at → Works p w s → Works (with_second r p) w (note_taken v x s)
 
 -- A capture that is taken
@@ -101,7 +101,7 @@ pub record TakenBound (rs : List ℕ) (at b place row : ℕ) (p : Pass) (F C w :
   pub bound : y.at ≡ b
   pub stands : Stands s x.name place row c
 
-pub record ReadsTaken (rs : List ℕ) (at b place row : ℕ) (p : Pass) (F C w : List ℕ) (r : Second) (F' w' : List ℕ) : Type 0 where
+pub record ReadsTaken (rs : List ℕ) (at b place row : ℕ) (p : Pass) (F C w : List ℕ) (r : Option SecondRefusal) (F' w' : List ℕ) : Type 0 where
   pub is : (classes A : List ℕ) (s : State) (x y : Ident) (c : Capture) → Here rs at (raw p F C A w) s x → Known rs y → y.at ≡ b
       → Stands s x.name place row c
       → Tied (raw (with_second r p) F' C A w') (read_by classes (taken_capture y c) x s)

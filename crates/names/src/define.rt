@@ -5,45 +5,41 @@ ghost use Rattle.work.specs.Scope.{KnownHere};
 ghost use Rattle.names.specs.Contract.{Room, with_name, name_in, Defined, EntersName, DefinesBy, EntersValue, Settable};
 ghost use Rattle.names.specs.Steps.{DefineFact, Shadows};
 
-use crate::facts::{mark_if_builtin, mark_if_required, status_at};
+use crate::facts::{mark_if, span_at, status_at};
 use scope_map::ScopeMap;
 use semantic::{IdentifierStatus, SemanticInformation};
 use walk::body::Body;
+use work::Pass;
 use work::entries::Entry;
-use work::scope::{Binder, is_live_row};
-use work::{Noted, Pass};
+use work::scope::is_live_row;
 
 // What a name that enters changes of the pass: how many names live, and refusal 9.
 #[derive(Clone, Copy)]
 pub struct EnteredName {
     pub length: usize,
-    pub nine: Noted,
+    pub nine: Option<u32>,
 }
 
 pub fn name_in(q: Pass) -> EnteredName
     ensures { result ≡ name_in q }
 {
-    let scope = q.scope;
-    let nine = q.nine;
     EnteredName {
-        length: scope.length,
-        nine,
+        length: q.scope.length,
+        nine: q.nine,
     }
 }
 
 pub fn with_name(p: Pass, e: EnteredName) -> Pass
     ensures { result ≡ with_name e p }
 {
-    let names = p.scope;
-    let scope = ScopeMap {
-        depth: names.depth,
-        length: e.length,
-    };
-    let nine = e.nine;
-    let mut q = p;
-    q.scope = scope;
-    q.nine = nine;
-    q
+    Pass {
+        scope: ScopeMap {
+            length: e.length,
+            ..p.scope
+        },
+        nine: e.nine,
+        ..p
+    }
 }
 
 // The name at the record enters the newest layer, with this entry and this fact: refusal 9 where its row was there before, above the bottom
@@ -64,7 +60,7 @@ pub fn enter_name(
     let name = tree::record::name(all, at);
     let place = work::scope::define_name(p, work, name, at);
     work::entries::store_entry(work, at, e);
-    semantic::rows::store_information(facts, at, fact);
+    semantic::rows::store(facts, at, fact);
     let live = is_live_row(p, place);
     let q = work::scope::with_row(p, place);
     name_in(work::notes::note_live(q, live, at))
@@ -84,15 +80,11 @@ fn define_fact(
 {
     let depth = p.depth();
     let hidden = work::scope::newest_id(all, p, work, tree::record::name(all, at));
-    let i = SemanticInformation::new(
-        status_at(depth, kind),
-        depth,
-        crate::facts::span_at(all, at),
-    );
-    let j = mark_if_required(i, b.required);
-    let k = mark_if_builtin(j, b.builtin);
-    let l = k.shadows(hidden);
-    l.aliases_to(alias)
+    let i = SemanticInformation::new(status_at(depth, kind), depth, span_at(all, at));
+    let j = mark_if(i, b.required, SemanticInformation::mark_required);
+    mark_if(j, b.builtin, SemanticInformation::mark_builtin)
+        .shadows(hidden)
+        .aliases_to(alias)
 }
 
 // A define enters, its name at this record.
@@ -118,11 +110,9 @@ fn shadow(name: u32, p: Pass, facts: &mut [u32], work: &[u32])
     requires { Settable p facts.old work.now }
     ensures { Shadows name p facts.old work.now facts.new }
 {
-    let found = work::scope::newest(p, work, name);
-    let Binder::At(hidden) = found else {
-        return;
-    };
-    semantic::amend::shadow_if_builtin(facts, hidden);
+    if let Some(hidden) = work::scope::newest(p, work, name) {
+        semantic::amend::shadow_if_builtin(facts, hidden);
+    }
 }
 
 // A top-level value define marks the builtin that it hides.

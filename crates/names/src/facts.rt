@@ -1,7 +1,7 @@
 // The facts of identifiers, by the rule that makes them.
-ghost use Rattle.std.specs.Prelude.{cond, ◌≡◌, ◌<◌, length};
+ghost use Rattle.std.specs.Prelude.{cond, true, false, ◌≡◌, ◌<◌, length};
 ghost use Rattle.tree.specs.Record.{records, nth};
-ghost use Rattle.semantic.specs.Information.{mark_builtin, mark_required};
+ghost use Rattle.semantic.specs.Information.{mark_builtin};
 ghost use Rattle.semantic.specs.declared.IdentifierStatus.TheVariants.{Captured, HeapAllocated};
 ghost use Rattle.pass.specs.Read.{mark_if, status_at, has_number, capture_offsets};
 ghost use Rattle.names.specs.Facts.{span_of, reading_of, FreeFact, GlobalFact, LocalFact, HomeFact, TakenFact};
@@ -10,16 +10,17 @@ use semantic::{IdentifierStatus, NONE, ScopeInfo, SemanticInformation, Span};
 use work::captures::Capture;
 use work::entries::Entry;
 
-pub fn mark_if_builtin(i: SemanticInformation, builtin: bool) -> SemanticInformation
-    ensures { result ≡ mark_if builtin mark_builtin i }
+// The fact, marked in this way if it is so.
+pub fn mark_if<F: FnOnce(SemanticInformation) -> SemanticInformation>(
+    i: SemanticInformation,
+    so: bool,
+    mark: F,
+) -> SemanticInformation
+    requires { F.pre mark i }
+    ensures marked { so ≡ true → F.post mark i result }
+    ensures kept { so ≡ false → result ≡ i }
 {
-    if builtin { i.mark_builtin() } else { i }
-}
-
-pub fn mark_if_required(i: SemanticInformation, required: bool) -> SemanticInformation
-    ensures { result ≡ mark_if required mark_required i }
-{
-    if required { i.mark_required() } else { i }
+    if so { mark(i) } else { i }
 }
 
 pub fn status_at(depth: u32, kind: IdentifierStatus) -> IdentifierStatus
@@ -36,46 +37,48 @@ pub fn free_fact(prelude: bool, depth: u32, span: Span) -> SemanticInformation
     ensures { FreeFact prelude depth span result }
 {
     if prelude {
-        let i = SemanticInformation::new(IdentifierStatus::Global, depth, span);
-        return i.mark_builtin();
+        SemanticInformation::new(IdentifierStatus::Global, depth, span).mark_builtin()
+    } else {
+        SemanticInformation::new(IdentifierStatus::Free, depth, span)
     }
-    SemanticInformation::new(IdentifierStatus::Free, depth, span)
 }
 
 // A read of what has this id.
 fn reading(kind: IdentifierStatus, depth: u32, id: u32, span: Span) -> SemanticInformation
     ensures { result ≡ reading_of kind depth id span }
 {
-    let i = SemanticInformation::new(kind, depth, span);
-    let j = i.with_usage_count(1);
-    j.refers_to(id)
+    SemanticInformation::new(kind, depth, span)
+        .with_usage_count(1)
+        .refers_to(id)
 }
 
 pub fn global_fact(prelude: bool, id: u32, span: Span) -> SemanticInformation
     ensures { GlobalFact prelude id span result }
 {
-    let i = reading(IdentifierStatus::Global, 1, id, span);
-    mark_if_builtin(i, prelude)
+    mark_if(
+        reading(IdentifierStatus::Global, 1, id, span),
+        prelude,
+        SemanticInformation::mark_builtin,
+    )
 }
 
 pub fn local_fact(depth: u32, id: u32, e: Entry, span: Span) -> SemanticInformation
     ensures { LocalFact depth id e span result }
 {
     if e.captured && e.mutated {
-        let i = reading(IdentifierStatus::HeapAllocated, depth, id, span);
-        let j = i.with_offset(e.slot);
-        let k = j.with_read_heap_offset(e.heap);
-        return k.with_heap_offset(e.heap);
+        reading(IdentifierStatus::HeapAllocated, depth, id, span)
+            .with_offset(e.slot)
+            .with_read_heap_offset(e.heap)
+            .with_heap_offset(e.heap)
+    } else {
+        reading(IdentifierStatus::Local, depth, id, span).with_offset(e.slot)
     }
-    let i = reading(IdentifierStatus::Local, depth, id, span);
-    i.with_offset(e.slot)
 }
 
 pub fn home_fact(depth: u32, id: u32, e: Entry, span: Span) -> SemanticInformation
     ensures { HomeFact depth id e span result }
 {
-    let i = reading(IdentifierStatus::Captured, depth, id, span);
-    i.with_offset(e.slot)
+    reading(IdentifierStatus::Captured, depth, id, span).with_offset(e.slot)
 }
 
 fn taken_kind(v: ScopeInfo) -> IdentifierStatus
@@ -94,18 +97,17 @@ fn with_capture_offsets(i: SemanticInformation, v: ScopeInfo) -> SemanticInforma
     if v.read_capture_offset == NONE {
         return i;
     }
-    let j = i.with_capture_index(v.capture_offset);
-    j.with_read_capture_offset(v.read_capture_offset)
+    i.with_capture_index(v.capture_offset)
+        .with_read_capture_offset(v.read_capture_offset)
 }
 
 pub fn taken_fact(depth: u32, t: Capture, v: ScopeInfo, span: Span) -> SemanticInformation
     ensures { TakenFact depth t v span result }
 {
-    let i = reading(taken_kind(v), depth, t.id, span);
-    let j = i.with_captured_from_enclosing(t.enclosing);
-    let k = with_capture_offsets(j, v);
-    let l = k.with_read_heap_offset(v.read_heap_offset);
-    l.with_heap_offset(v.heap_offset)
+    let i = reading(taken_kind(v), depth, t.id, span).with_captured_from_enclosing(t.enclosing);
+    with_capture_offsets(i, v)
+        .with_read_heap_offset(v.read_heap_offset)
+        .with_heap_offset(v.heap_offset)
 }
 
 pub fn span_at(all: &[u32], at: usize) -> Span

@@ -1,4 +1,5 @@
-// An identifier is read, and what set! does to its name.
+// An identifier is read, and what set! does to its name. The tables stay parameters of their own, and in no struct: a step takes those that it reads
+// and lends on those that it changes, so its contract needs no word on the others.
 ghost use Rattle.std.specs.Prelude.{◌≡◌, ◌+◌, ◌*◌, ◌≤◌, ◌<◌, length};
 ghost use Rattle.semantic.specs.Rows.{row_width};
 ghost use Rattle.pass.specs.Read.{depth_one, current_layer, home_slot, read};
@@ -9,16 +10,13 @@ ghost use Rattle.names.specs.Contract.{Readable, Does, Decided, Decides, Settabl
 ghost use Rattle.names.specs.Steps.{DecidesCapture, Bound, ToldPrelude, ToldDepth, ReadsBy, PutsUse};
 ghost use Rattle.names.specs.Steps.{NotesTaken, Takeable, UsesTaken, TakenBound, ReadsTaken};
 
-use crate::facts::{free_fact, global_fact, home_fact, local_fact, taken_fact};
-use scope_map::Found;
+use crate::facts::{free_fact, global_fact, home_fact, local_fact, span_at, taken_fact};
 use semantic::{NONE, ScopeInfo};
 use table::wide;
-use walk::body::is_class;
+use walk::body::{PRELUDE, is_class};
 use work::captures::Capture;
 use work::entries::Entry;
-use work::notes::first_second;
-use work::scope::Binder;
-use work::{Pass, Second};
+use work::{Pass, SecondRefusal, narrow};
 
 // Which rule decides a read. The numbers are the binder's record and, of a capture, its place and its row of the captured entries.
 #[derive(Clone, Copy)]
@@ -34,24 +32,17 @@ fn capture_rule(p: Pass, work: &[u32], name: u32, b: usize) -> Rule
     requires { Spacious p work.now }
     ensures { DecidesCapture p work.now name b result }
 {
-    let found = work::captures::newest_capture(p, work, name);
-    let Found::At {
-        row,
-        layer: _,
-        value,
-    } = found
-    else {
+    let Some(found) = work::captures::newest_capture(p, work, name) else {
         return Rule::HomeSlot(b);
     };
-    Rule::TakenCapture(b, row, wide(value))
+    Rule::TakenCapture(b, found.row, wide(found.value))
 }
 
 pub fn rule_of(p: Pass, work: &[u32], name: u32) -> Rule
     requires { Decided p work.now }
     ensures { Decides p work.now name result }
 {
-    let found = work::scope::newest(p, work, name);
-    let Binder::At(b) = found else {
+    let Some(b) = work::scope::newest(p, work, name) else {
         return Rule::NoEntry;
     };
     let e = work::entries::load_entry(work, b);
@@ -69,15 +60,11 @@ fn read_global(all: &[u32], at: usize, prelude: bool, b: usize, facts: &mut [u32
     ensures { ReadsBy depth_one (ToldPrelude prelude) all.now at b
         facts.old work.old facts.new work.new }
 {
-    let e = work::entries::load_entry(work, b);
-    work::entries::store_entry(work, b, e.used());
+    let e = work::entries::load_entry(work, b).used();
+    work::entries::store_entry(work, b, e);
     semantic::amend::one_use_more(facts, b);
-    let fact = global_fact(
-        prelude,
-        tree::record::id(all, b),
-        crate::facts::span_at(all, at),
-    );
-    semantic::rows::store_information(facts, at, fact);
+    let fact = global_fact(prelude, tree::record::id(all, b), span_at(all, at));
+    semantic::rows::store(facts, at, fact);
 }
 
 // The entry e of the binder at b after its use; the binder's fact takes its uses.
@@ -95,17 +82,10 @@ fn read_local(all: &[u32], at: usize, depth: u32, b: usize, facts: &mut [u32], w
     ensures { ReadsBy current_layer (ToldDepth depth) all.now at b
         facts.old work.old facts.new work.new }
 {
-    let e = work::entries::load_entry(work, b);
-    let f = e.used();
-    let g = f.used_by(at);
-    put_use(b, g, facts, work);
-    let fact = local_fact(
-        depth,
-        tree::record::id(all, b),
-        g,
-        crate::facts::span_at(all, at),
-    );
-    semantic::rows::store_information(facts, at, fact);
+    let e = work::entries::load_entry(work, b).used().used_by(at);
+    put_use(b, e, facts, work);
+    let fact = local_fact(depth, tree::record::id(all, b), e, span_at(all, at));
+    semantic::rows::store(facts, at, fact);
 }
 
 fn read_home(all: &[u32], at: usize, depth: u32, b: usize, facts: &mut [u32], work: &mut [u32])
@@ -113,28 +93,25 @@ fn read_home(all: &[u32], at: usize, depth: u32, b: usize, facts: &mut [u32], wo
     ensures { ReadsBy home_slot (ToldDepth depth) all.now at b
         facts.old work.old facts.new work.new }
 {
-    let e = work::entries::load_entry(work, b);
-    let f = e.used();
-    let g = f.used_by(at);
-    let h = g.capture();
-    put_use(b, h, facts, work);
-    let fact = home_fact(
-        depth,
-        tree::record::id(all, b),
-        h,
-        crate::facts::span_at(all, at),
-    );
-    semantic::rows::store_information(facts, at, fact);
+    let e = work::entries::load_entry(work, b)
+        .used()
+        .used_by(at)
+        .capture();
+    put_use(b, e, facts, work);
+    let fact = home_fact(depth, tree::record::id(all, b), e, span_at(all, at));
+    semantic::rows::store(facts, at, fact);
 }
 
 // Refusal 12: a read offset and no capture offset.
-fn note_taken(v: ScopeInfo, at: usize, before: Second) -> Second
+fn note_taken(v: ScopeInfo, at: usize, before: Option<SecondRefusal>) -> Option<SecondRefusal>
+    requires { at < rows_most }
     ensures { NotesTaken v at before result }
 {
     if v.read_capture_offset != NONE && v.capture_offset == NONE {
-        return first_second(before, 12, at);
+        before.or(Some(SecondRefusal::NoCapture(narrow(at))))
+    } else {
+        before
     }
-    before
 }
 
 // The capture at the place is used, and the entry of the binder at b.
@@ -144,9 +121,8 @@ fn use_taken(at: usize, b: usize, place: usize, work: &mut [u32]) -> Capture
 {
     let t = work::captures::load_capture(work, place);
     work::captures::use_capture(work, place);
-    let e = work::entries::load_entry(work, b);
-    let f = e.used_by(at);
-    work::entries::store_entry(work, b, f.capture());
+    let e = work::entries::load_entry(work, b).used_by(at).capture();
+    work::entries::store_entry(work, b, e);
     t
 }
 
@@ -160,7 +136,7 @@ fn read_taken(
     facts: &mut [u32],
     captured: &[u32],
     work: &mut [u32],
-) -> Second
+) -> Option<SecondRefusal>
     requires { TakenBound all.now at b place row p facts.old captured.now work.old }
     ensures { ReadsTaken all.now at b place row p
         facts.old captured.now work.old result facts.new work.new }
@@ -168,10 +144,9 @@ fn read_taken(
     let v = semantic::list_entries::load_info(captured, row);
     let t = use_taken(at, b, place, work);
     semantic::amend::with_usage_count(facts, wide(t.binder), t.uses + 1);
-    let fact = taken_fact(p.depth(), t, v, crate::facts::span_at(all, at));
-    semantic::rows::store_information(facts, at, fact);
-    let before = p.second;
-    note_taken(v, at, before)
+    let fact = taken_fact(p.depth(), t, v, span_at(all, at));
+    semantic::rows::store(facts, at, fact);
+    note_taken(v, at, p.second)
 }
 
 // The identifier at the record is read. Answers what the pass then has as the first refusal of a second run; nothing else of it changes
@@ -184,23 +159,19 @@ pub fn read(
     facts: &mut [u32],
     captured: &[u32],
     work: &mut [u32],
-) -> Second
+) -> Option<SecondRefusal>
     requires { Readable (length classes.now) all.now at p facts.old captured.now work.old }
     ensures { Does all.now at p
         facts.old captured.now work.old (read classes.now) (with_second result p) facts.new work.new }
 {
     let name = tree::record::name(all, at);
-    let prelude = is_class(classes, name, 1);
+    let prelude = is_class(classes, name, PRELUDE);
     let depth = p.depth();
     let second = p.second;
     let rule = rule_of(p, work, name);
     match rule {
         Rule::NoEntry => {
-            semantic::amend::use_or_store(
-                facts,
-                at,
-                free_fact(prelude, depth, crate::facts::span_at(all, at)),
-            );
+            semantic::amend::use_or_store(facts, at, free_fact(prelude, depth, span_at(all, at)));
             second
         }
         Rule::DepthOne(b) => {
@@ -226,12 +197,10 @@ pub fn mutate(name: u32, p: Pass, facts: &mut [u32], work: &mut [u32])
     requires { Settable p facts.old work.old }
     ensures { Mutates name p facts.old work.old facts.new work.new }
 {
-    let found = work::scope::newest(p, work, name);
-    let Binder::At(b) = found else {
+    let Some(b) = work::scope::newest(p, work, name) else {
         return;
     };
-    let e = work::entries::load_entry(work, b);
-    let f = e.used();
-    work::entries::store_entry(work, b, f.mutate());
+    let e = work::entries::load_entry(work, b).used().mutate();
+    work::entries::store_entry(work, b, e);
     semantic::amend::mark_set(facts, b);
 }

@@ -1,6 +1,6 @@
 -- Calls among the rows, by the rows' numbers.
 use Prim.Native.Nat.{ℕ, ◌+◌, ◌*◌, ◌/◌, ◌≤◌, ◌<◌}
-use mathlib.Core.Bool.{Bool, false, not}
+use mathlib.Core.Bool.{Bool, true, not}
 use mathlib.Core.List.{List, [], ◌∷◌, ◌++◌}
 use mathlib.Core.Path.{◌≡◌, refl, ap, sym, ◌∙◌}
 use native.Mathlib.Omega.{arith}
@@ -36,21 +36,13 @@ kind_tail Normal = refl
 kind_tail TailCall = refl
 kind_tail (SelfTailCall d) = refl
 
-row_tail : (r : Row) → get_or (put_row r) 0 0 ≡ 10 → not (eqb (get_or (put_row r) 1 0) 1) ≡ is_tail_row r
+row_tail : (r : Row) → is_call_site r ≡ true → not (eqb (get_or (put_row r) 1 0) 1) ≡ is_tail_row r
 unfolding put_row
-row_tail Blank q = absurd (omega arith)
-row_tail (Variable v) q = absurd (omega (arith, (kind_low v.kind).below))
-row_tail (Function v) q = absurd (omega arith)
+row_tail Blank q = cc
+row_tail (Variable v) q = cc
+row_tail (Function v) q = cc
 row_tail (CallSite v) q = kind_tail v.kind
-row_tail (Let v) q = absurd (omega arith)
-
-row-none : (r : Row) → (get_or (put_row r) 0 0 ≡ 10 → ⊥) → false ≡ is_tail_row r
-unfolding put_row
-row-none Blank q = refl
-row-none (Variable v) q = refl
-row-none (Function v) q = refl
-row-none (CallSite v) q = absurd (q refl)
-row-none (Let v) q = refl
+row_tail (Let v) q = cc
 
 module _ (F : List ℕ) (i : ℕ) where
   first : (l : List Row) → F ≡ layout put_row l → i < length l → get_or F (row_width * i) 0 ≡ get_or (put_row (get_or l i Blank)) 0 0
@@ -62,13 +54,11 @@ module _ (F : List ℕ) (i : ℕ) where
   pub call_told : Tells put_row Blank is_call_site F i (eqb (get_or F (row_width * i) 0) 10)
   call_told = record { is = λ l e h. ap (λ (n : ℕ). eqb n 10) (first l e h) ∙ row_call (get_or l i Blank) }
 
-  pub tail_told : get_or F (row_width * i) 0 ≡ 10 → Tells put_row Blank is_tail_row F i (not (eqb (get_or F (row_width * i + 1) 0) 1))
-  tail_told q = record {
-    is = λ l e h. ap (λ (n : ℕ). not (eqb n 1)) (second l e h) ∙ row_tail (get_or l i Blank) (sym (first l e h) ∙ q);
+  pub tail_told : {b : Bool} → Tells put_row Blank is_call_site F i b → b ≡ true
+      → Tells put_row Blank is_tail_row F i (not (eqb (get_or F (row_width * i + 1) 0) 1))
+  tail_told t q = record {
+    is = λ l e h. ap (λ (n : ℕ). not (eqb n 1)) (second l e h) ∙ row_tail (get_or l i Blank) (sym (t.is l e h) ∙ q);
   }
-
-  pub no_tail : (get_or F (row_width * i) 0 ≡ 10 → ⊥) → Tells put_row Blank is_tail_row F i false
-  no_tail q = record { is = λ l e h. row-none (get_or l i Blank) (λ r. q (first l e h ∙ r)) }
 
 -- Counting
 

@@ -1,5 +1,5 @@
 -- The line of a row, from what its numbers and its kind are told to be.
-use Prim.Native.Nat.{ℕ, ◌≤◌}
+use Prim.Native.Nat.{ℕ}
 use mathlib.Core.List.{List, [], ◌∷◌}
 use mathlib.Core.Path.{◌≡◌, ap, sym, ◌∙◌}
 use lib.ListN.{get_or, take}
@@ -15,18 +15,15 @@ use Rattle.printing.specs.Numbers.{text_of}
 use Rattle.printing.specs.Laws.Numbers.{row_text_lem}
 
 pub row_told : {F : List ℕ} {at : ℕ} {row : List ℕ} {k j : RowKind} {d : List ℕ} {r : ℕ} → Tells put_row Blank put_row F at row
-    → Tells put_row Blank row_kind F at k → k ≡ j → Line (text_of at j row) d r → (r ≤ 128) × Tells put_row Blank (row_text at) F at (take r d)
-row_told {at = at} {row} {k} {j} w v q p = (
-  p.short,
-  record {
-    is = λ l e h.
-        let r = get_or l at Blank in
-        p.text
-        ∙ ap (λ (i : RowKind). text_of at i row) (sym q ∙ v.is l e h)
-        ∙ ap (text_of at (row_kind r)) (w.is l e h)
-        ∙ row_text_lem at r;
-  },
-)
+    → Tells put_row Blank row_kind F at k → k ≡ j → Line (text_of at j row) d r → Tells put_row Blank (row_text at) F at (take r d)
+row_told {at = at} {row} {k} {j} w v q p = record {
+  is = λ l e h.
+      let r = get_or l at Blank in
+      p.text
+      ∙ ap (λ (i : RowKind). text_of at i row) (sym q ∙ v.is l e h)
+      ∙ ap (text_of at (row_kind r)) (w.is l e h)
+      ∙ row_text_lem at r;
+}
 
 -- The summary, from the counts
 

@@ -3,7 +3,6 @@ use Rattle.std.specs.Prelude.{ℕ, List, [], ◌∷◌, get_or}
 use Rattle.semantic.specs.declared.RowKind.{RowKind}
 use Rattle.semantic.specs.declared.RowKind.TheVariants as kind
 use Rattle.printing.specs.Text.{
-  Field,
   line,
   number,
   option,
@@ -22,12 +21,17 @@ use Rattle.printing.specs.Text.{
   self=,
 }
 
-abbrev pub variable_end : List ℕ → List Field
-variable_end row = option refers= (get_or row 7 0) ∷ option slot= (get_or row 11 0) ∷ number last= (get_or row 10 0) ∷ []
-
 abbrev pub variable_text : ℕ → List ℕ → List ℕ
 variable_text i row =
-    line (number at= i ∷ number kind= (get_or row 0 0) ∷ number depth= (get_or row 2 0) ∷ number uses= (get_or row 4 0) ∷ variable_end row)
+    line
+    (number at= i
+    ∷ number kind= (get_or row 0 0)
+    ∷ number depth= (get_or row 2 0)
+    ∷ number uses= (get_or row 4 0)
+    ∷ option refers= (get_or row 7 0)
+    ∷ option slot= (get_or row 11 0)
+    ∷ number last= (get_or row 10 0)
+    ∷ [])
 
 abbrev pub function_text : ℕ → List ℕ → List ℕ
 function_text i row = line (number at= i ∷ number captured= (get_or row 2 0) ∷ number escapes= (get_or row 5 0) ∷ number depth= (get_or row 7 0) ∷ [])

@@ -2,47 +2,43 @@
 ghost use Rattle.std.specs.Prelude.{◌+◌, ◌*◌, ◌≤◌, length, take};
 ghost use Rattle.semantic.specs.Rows.{Blank, row_width, put_row};
 ghost use Rattle.semantic.specs.Leaves.{Tells};
-ghost use Rattle.printing.specs.Puts.{Puts, Line};
-ghost use Rattle.printing.specs.Text.{line, row_text};
-ghost use Rattle.printing.specs.Numbers.{variable_end, variable_text, function_text, pair_text};
+ghost use Rattle.printing.specs.Puts.{Line};
+ghost use Rattle.printing.specs.Text.{row_text};
+ghost use Rattle.printing.specs.Numbers.{variable_text, function_text, pair_text};
 
-use crate::text::{long_number, number, option, word};
+use crate::text::Text;
 use semantic::RowKind;
 use semantic::fields::{ROW, call, function, lets, variable};
 use semantic::kinds::row_kind;
 use semantic::rows::row_at;
 
-// The last fields of an identifier's line, from the place p on.
-fn variable_end(row: [u32; ROW], p: usize, out: &mut [u8]) -> usize
-    requires { p + 51 ≤ length out.old }
-    ensures { Puts (line (variable_end row)) 51 out.old p out.new result }
-{
-    let f = option(out, p, b" refers=", row[variable::REFERS_TO]);
-    let s = option(out, f, b" slot=", row[variable::STACK_OFFSET]);
-    let l = number(out, s, b" last=", row[variable::LAST_USAGE]);
-    word(out, l, b"\n")
-}
-
 fn variable_line(row: [u32; ROW], at: usize, out: &mut [u8]) -> usize
     requires { 128 ≤ length out.old }
     ensures { Line (variable_text at row) out.new result }
 {
-    let a = long_number(out, 0, b"at=", at as u64);
-    let k = number(out, a, b" kind=", row[variable::KIND]);
-    let d = number(out, k, b" depth=", row[variable::DEPTH]);
-    let u = number(out, d, b" uses=", row[variable::USAGE_COUNT]);
-    variable_end(row, u, out)
+    let mut text = Text::new(out);
+    text.number(b"at=", at as u64);
+    text.number(b" kind=", row[variable::KIND] as u64);
+    text.number(b" depth=", row[variable::DEPTH] as u64);
+    text.number(b" uses=", row[variable::USAGE_COUNT] as u64);
+    text.option(b" refers=", row[variable::REFERS_TO]);
+    text.option(b" slot=", row[variable::STACK_OFFSET]);
+    text.number(b" last=", row[variable::LAST_USAGE] as u64);
+    text.word(b"\n");
+    text.len
 }
 
 fn function_line(row: [u32; ROW], at: usize, out: &mut [u8]) -> usize
     requires { 128 ≤ length out.old }
     ensures { Line (function_text at row) out.new result }
 {
-    let a = long_number(out, 0, b"at=", at as u64);
-    let c = number(out, a, b" captured=", row[function::CAPTURED_LENGTH]);
-    let e = number(out, c, b" escapes=", row[function::ESCAPES]);
-    let d = number(out, e, b" depth=", row[function::DEPTH]);
-    word(out, d, b"\n")
+    let mut text = Text::new(out);
+    text.number(b"at=", at as u64);
+    text.number(b" captured=", row[function::CAPTURED_LENGTH] as u64);
+    text.number(b" escapes=", row[function::ESCAPES] as u64);
+    text.number(b" depth=", row[function::DEPTH] as u64);
+    text.word(b"\n");
+    text.len
 }
 
 // The line of a let or a call: a number, and a number or none.
@@ -50,10 +46,12 @@ fn pair_line(at: usize, out: &mut [u8], first: &[u8], n: u32, second: &[u8], m: 
     requires { (128 ≤ length out.old) × (length first.now ≤ 8) × (length second.now ≤ 8) }
     ensures { Line (pair_text at first.now n second.now m) out.new result }
 {
-    let a = long_number(out, 0, b"at=", at as u64);
-    let f = number(out, a, first, n);
-    let s = option(out, f, second, m);
-    word(out, s, b"\n")
+    let mut text = Text::new(out);
+    text.number(b"at=", at as u64);
+    text.number(first, n as u64);
+    text.option(second, m);
+    text.word(b"\n");
+    text.len
 }
 
 // The line of the row, and none for a row without a fact.

@@ -1,68 +1,77 @@
-// Text written into a buffer, one piece after another. Each function takes the place where its piece starts and answers where it ends.
-ghost use Rattle.std.specs.Prelude.{◌≡◌, ◌++◌, ◌+◌, ◌%◌, ◌≤◌, length};
+// Text written into a lent buffer, one piece after another. Not by `fmt::Write`: what `write!` promises of the text it promises for `Ok` alone, not that it
+// is `Ok`, and a line never fails (`Line` of specs/Puts.antt).
+ghost use Rattle.std.specs.Prelude.{◌≡◌, ◌++◌, ◌+◌, ◌^◌, ◌<◌, ◌≤◌, length};
 ghost use Rattle.printing.specs.Numeral.{numeral};
 ghost use Rattle.printing.specs.Text.{or_none};
 ghost use Rattle.printing.specs.Puts.{Puts};
 
-// The bytes of w.
-pub fn word(out: &mut [u8], at: usize, w: &[u8]) -> usize
-    requires { at + length w.now ≤ length out.old }
-    ensures { Puts w.now (length w.now) out.old at out.new result }
-{
-    let mut i = 0;
-    while i < w.len() {
-        out[at + i] = w[i];
-        i += 1;
+// The text so far is the first `len` bytes of `out`.
+#[derive(Drop)]
+pub struct Text<'a> {
+    pub out: &'a mut [u8],
+    pub len: usize,
+}
+
+impl<'a> Text<'a> {
+    pub fn new(out: &'a mut [u8]) -> Text<'a>
+        ensures same { result.out.ghost_name ≡ out.entry.ghost_name }
+        ensures bytes { result.out.now ≡ out.old }
+        ensures empty { result.len ≡ 0 }
+    {
+        Text { out, len: 0 }
     }
-    at + i
-}
 
-fn digit(n: u64) -> u8
-    ensures { result ≡ 48 + n % 10 }
-{
-    (48 + n % 10) as u8
-}
-
-// n in decimal.
-pub fn numeral(out: &mut [u8], at: usize, n: u64) -> usize
-    requires { at + length (numeral n) ≤ length out.old }
-    ensures { Puts (numeral n) (length (numeral n)) out.old at out.new result }
-{
-    if n < 10 {
-        out[at] = digit(n);
-        return at + 1;
+    // The bytes of w.
+    pub fn word(&mut self, w: &[u8])
+        requires { self.old.len + length w.now ≤ length self.old.out.now }
+        ensures same { self.new.out.ghost_name ≡ self.old.out.ghost_name }
+        ensures puts { Puts w.now self.old self.new }
+        ensures long { self.new.len ≡ self.old.len + length w.now }
+    {
+        let end = self.len + w.len();
+        self.out[self.len..end].copy_from_slice(w);
+        self.len = end;
     }
-    let last = numeral(out, at, n / 10);
-    out[last] = digit(n);
-    last + 1
-}
 
-// A mark and a number after it.
-pub fn number(out: &mut [u8], at: usize, mark: &[u8], n: u32) -> usize
-    requires { at + length mark.now + 10 ≤ length out.old }
-    ensures { Puts (mark.now ++ numeral n) (length mark.now + 10) out.old at out.new result }
-{
-    let start = word(out, at, mark);
-    numeral(out, start, n as u64)
-}
-
-// The same of a number that may be larger.
-pub fn long_number(out: &mut [u8], at: usize, mark: &[u8], n: u64) -> usize
-    requires { at + length mark.now + 20 ≤ length out.old }
-    ensures { Puts (mark.now ++ numeral n) (length mark.now + 20) out.old at out.new result }
-{
-    let start = word(out, at, mark);
-    numeral(out, start, n)
-}
-
-// A mark and a number after it, or `-` for none.
-pub fn option(out: &mut [u8], at: usize, mark: &[u8], n: u32) -> usize
-    requires { at + length mark.now + 10 ≤ length out.old }
-    ensures { Puts (mark.now ++ or_none n) (length mark.now + 10) out.old at out.new result }
-{
-    if n == semantic::NONE {
-        let start = word(out, at, mark);
-        return word(out, start, b"-");
+    // n in decimal.
+    fn numeral(&mut self, n: u64)
+        requires { self.old.len + length (numeral n) ≤ length self.old.out.now }
+        ensures same { self.new.out.ghost_name ≡ self.old.out.ghost_name }
+        ensures puts { Puts (numeral n) self.old self.new }
+        ensures long { self.new.len ≡ self.old.len + length (numeral n) }
+    {
+        let last = [b'0' + (n % 10) as u8];
+        if n < 10 {
+            return self.word(&last);
+        }
+        self.numeral(n / 10);
+        self.word(&last);
     }
-    number(out, at, mark, n)
+
+    // A mark and a number after it.
+    pub fn number(&mut self, mark: &[u8], n: u64)
+        requires narrow { n < 2 ^ 32 → self.old.len + length mark.now + 10 ≤ length self.old.out.now }
+        requires wide { 2 ^ 32 ≤ n → self.old.len + length mark.now + 20 ≤ length self.old.out.now }
+        ensures same { self.new.out.ghost_name ≡ self.old.out.ghost_name }
+        ensures puts { Puts (mark.now ++ numeral n) self.old self.new }
+        ensures few { n < 2 ^ 32 → self.new.len ≤ self.old.len + length mark.now + 10 }
+        ensures most { self.new.len ≤ self.old.len + length mark.now + 20 }
+    {
+        self.word(mark);
+        self.numeral(n);
+    }
+
+    // A mark and a number after it, or `-` for none.
+    pub fn option(&mut self, mark: &[u8], n: u32)
+        requires { self.old.len + length mark.now + 10 ≤ length self.old.out.now }
+        ensures same { self.new.out.ghost_name ≡ self.old.out.ghost_name }
+        ensures puts { Puts (mark.now ++ or_none n) self.old self.new }
+        ensures few { self.new.len ≤ self.old.len + length mark.now + 10 }
+    {
+        if n == semantic::NONE {
+            self.word(mark);
+            return self.word(b"-");
+        }
+        self.number(mark, n as u64);
+    }
 }

@@ -1,4 +1,5 @@
 -- Bytes more: what the state then says.
+use Rattle.std.specs.Prelude.{Option, None, Some, is_some, true, false}
 use Prim.Native.Nat.{ℕ, ◌+◌, ◌≤◌, ◌<◌}
 use mathlib.Core.List.{List, [], ◌∷◌, ◌++◌, append_assoc, append-nil}
 use mathlib.Core.Path.{◌≡◌, refl, ap, sym, subst, ◌∙◌}
@@ -17,9 +18,19 @@ use Rattle.reading.specs.Leaves.{Spares, Same, Leaves}
 use Rattle.reading.specs.Laws.Leaves.{between_none}
 use Rattle.reading.proofs.Spared.{counted, spares_none, spares_then, spares_spoiled}
 
+-- A line was bad, or none was
+
+pub is_bad : {o : Option ℕ} → true ≡ is_some o → o ≡ None → ⊥
+is_bad {o = None} h e = cc
+is_bad {o = Some n} h e = cc
+
+pub not-bad : {o : Option ℕ} → false ≡ is_some o → o ≡ None
+not-bad {o = None} h = refl
+not-bad {o = Some n} h = cc
+
 -- What is known while the lines are good
 
-pub tied_fine : {r : Reading} {T R : List ℕ} {s : Said} → Tied r T R s → r.bad ≡ 0
+pub tied_fine : {r : Reading} {T R : List ℕ} {s : Said} → Tied r T R s → r.bad ≡ None
 tied_fine (tied_nothing h e) = e
 tied_fine (tied_says v) = v.fine
 
@@ -34,12 +45,12 @@ next-some (tied_nothing h e) = omega arith
 next-some (tied_says v) = omega arith
 
 -- the state is as it was but for the line that has not ended
-tied_as : {r : Reading} {T R : List ℕ} {s : Said} {n : ℕ} → Tied r T R s → Tied (counted r.lines r.names r.classes r.records n) T R s
-tied_as (tied_nothing h e) = tied_nothing h refl
+tied_as : {r : Reading} {T R : List ℕ} {s : Said} {n : ℕ} → Tied r T R s → Tied (counted r.bad r.lines r.names r.classes r.records n) T R s
+tied_as (tied_nothing h e) = tied_nothing h e
 tied_as (tied_says v) =
     tied_says
     (record {
-      fine = refl;
+      fine = v.fine;
       lines = v.lines;
       names = v.names;
       few = v.few;
@@ -51,33 +62,35 @@ tied_as (tied_says v) =
 
 -- A state that is lost stays so; one that is not is not marked
 
-lost_more : {r : Reading} {L T R : List ℕ} (b c : List ℕ) (n : ℕ) → 0 < n → r.bad ≡ shown n → ((t : List ℕ) → read (b ++ t) ≡ bad n) → Holds r (b ++ c) L T R
+lost_more : {r : Reading} {L T R : List ℕ} (b c : List ℕ) (n : ℕ) → 0 < n → r.bad ≡ Some (shown n) → ((t : List ℕ) → read (b ++ t) ≡ bad n) → Holds r (b ++ c) L T R
 lost_more b c n p e k = lost n p e (λ t. ap read (append_assoc b c t) ∙ k (c ++ t))
 
 leaves_none : {r : Reading} {L T R : List ℕ} → Leaves r L T R r L T R
 leaves_none = record { long = refl; tables = spares_none; after_bad = λ h. record { state = refl; line = refl; classes = refl; records = refl } }
 
-pub fed_lost : (r : Reading) (c L T R : List ℕ) → (r.bad ≡ 0 → ⊥) → Fed c r L T R r L T R
+pub fed_lost : (r : Reading) (c L T R : List ℕ) → (r.bad ≡ None → ⊥) → Fed c r L T R r L T R
 fed_lost r c L T R h = record { is = λ b x. go b x; leaves = leaves_none }
   where
     go : (b : List ℕ) → Holds r b L T R → Holds r (b ++ c) L T R
     go b (going g) = absurd (h (tied_fine g.tied))
     go b (lost n p e k) = lost_more b c n p e k
 
-pub fed : (r : Reading) (c L T R : List ℕ) {q : Reading} {L' T' R' : List ℕ} → r.bad ≡ 0 → length L' ≡ length L → Spares r T R q T' R'
+pub fed : (r : Reading) (c L T R : List ℕ) {q : Reading} {L' T' R' : List ℕ} → r.bad ≡ None → length L' ≡ length L → Spares r T R q T' R'
     → ((b : List ℕ) → Going r (reached b) L T R → Holds q (b ++ c) L' T' R') → Fed c r L T R q L' T' R'
 fed r c L T R {q} {L'} {T'} {R'} h l k f = record { is = λ b x. go b x; leaves = record { long = l; tables = k; after_bad = λ n. absurd (n h) } }
   where
     go : (b : List ℕ) → Holds r b L T R → Holds q (b ++ c) L' T' R'
     go b (going g) = f b g
-    go b (lost n p e k) = absurd (omega arith)
+    go b (lost n p e k) = cc
 
 -- One byte
 
 module _ (r : Reading) (L T R : List ℕ) where
   -- an LF
-  pub byte_line : (x : ℕ) {q : Reading} {T' R' : List ℕ} → x ≡ LF → r.bad ≡ 0 → Turns (take r.length L) r T R q T' R' → Fed (x ∷ []) r L T R q L T' R'
-  byte_line x {q} {T'} {R'} ex z w = fed r (x ∷ []) L T R z refl w.spares (λ b g. go b g (w.is (reached b).said g.tied))
+  pub byte_line : (x : ℕ) {q : Reading} {L' T' R' : List ℕ} → x ≡ LF → r.bad ≡ None → L' ≡ L → Turns (take r.length L) r T R q T' R'
+      → Fed (x ∷ []) r L T R q L' T' R'
+  byte_line x {q} {L'} {T'} {R'} ex z k w =
+      subst (λ (l : List ℕ). Fed (x ∷ []) r L T R q l T' R') (sym k) (fed r (x ∷ []) L T R z refl w.spares (λ b g. go b g (w.is (reached b).said g.tied)))
     where
       go : (b : List ℕ) → Going r (reached b) L T R → Turned (reached b).said (take r.length L) q T' R' → Holds q (b ++ (x ∷ [])) L T' R'
       go b g t =
@@ -95,19 +108,19 @@ module _ (r : Reading) (L T R : List ℕ) where
               (λ t. differs_lost (b ++ (x ∷ [])) (next (reached b).said) [] t (e ∙ ap (λ (s : Said). state s []) d))
 
   -- no room for it
-  pub byte_long : (x : ℕ) {q : Reading} → (x ≡ LF → ⊥) → r.bad ≡ 0 → r.length ≡ length L → q ≡ spoiled r → Fed (x ∷ []) r L T R q L T R
+  pub byte_long : (x : ℕ) {q : Reading} → (x ≡ LF → ⊥) → r.bad ≡ None → r.length ≡ length L → q ≡ spoiled r → Fed (x ∷ []) r L T R q L T R
   byte_long x {q} nx z n eq =
       fed r (x ∷ []) L T R z refl (spares_spoiled eq)
       (λ b g.
       let e : reached (b ++ (x ∷ [])) ≡ state (reached b).said ((reached b).rest ++ (x ∷ [])) =
       reached_byte b x ∙ byte_more (reached b) x (ne_eqb x LF nx) in
       let l : 92 < length ((reached b).rest ++ (x ∷ [])) = omega (arith, length-append (reached b).rest (x ∷ []), g.room, g.many) in
-      lost (next (reached b).said) (next-some g.tied) (ap (λ (y : Reading). y.bad) eq ∙ tied_next g.tied)
+      lost (next (reached b).said) (next-some g.tied) (ap (λ (y : Reading). y.bad) eq ∙ ap Some (tied_next g.tied))
       (λ t. long_lost (b ++ (x ∷ [])) (reached b).said ((reached b).rest ++ (x ∷ [])) t e l))
 
   -- it stands in the line
-  pub byte_kept : (x : ℕ) → (x ≡ LF → ⊥) → r.bad ≡ 0 → r.length < length L
-      → Fed (x ∷ []) r L T R (counted r.lines r.names r.classes r.records (r.length + 1)) (set L r.length x) T R
+  pub byte_kept : (x : ℕ) → (x ≡ LF → ⊥) → r.bad ≡ None → r.length < length L
+      → Fed (x ∷ []) r L T R (counted r.bad r.lines r.names r.classes r.records (r.length + 1)) (set L r.length x) T R
   byte_kept x nx z n =
       fed r (x ∷ []) L T R z (length-set L r.length x) (record { classes = between_none; records = between_none })
       (λ b g.
@@ -116,7 +129,7 @@ module _ (r : Reading) (L T R : List ℕ) where
       let k : length ((reached b).rest ++ (x ∷ [])) ≡ r.length + 1 = length-append (reached b).rest (x ∷ []) ∙ omega (arith, g.many) in
       let a : take r.length L ≡ (reached b).rest = ap (λ (i : ℕ). take i L) g.many ∙ g.rest in
       going
-      (subst (λ (s : State). Going (counted r.lines r.names r.classes r.records (r.length + 1)) s (set L r.length x) T R) (sym e)
+      (subst (λ (s : State). Going (counted r.bad r.lines r.names r.classes r.records (r.length + 1)) s (set L r.length x) T R) (sym e)
       (record {
         room = omega (arith, g.room, length-set L r.length x);
         many = sym k;
@@ -127,10 +140,6 @@ module _ (r : Reading) (L T R : List ℕ) where
             ∙ ap (λ (m : List ℕ). m ++ (x ∷ [])) a;
         tied = tied_as g.tied;
       })))
-
-  -- it cannot be
-  pub byte_never : (x : ℕ) {q : Reading} → r.bad ≡ 0 → length L < r.length → q ≡ spoiled r → Fed (x ∷ []) r L T R q L T R
-  byte_never x z h eq = fed r (x ∷ []) L T R z refl (spares_spoiled eq) (λ b g. absurd (omega (arith, g.many, g.inside)))
 
 -- One part after another
 
@@ -167,7 +176,7 @@ fed_turn chunk i {r} {q} {p} {L} {T} {R} {L'' = L''} {T'' = T''} {R'' = R''} h v
 
 -- The start
 
-pub starts : Starts (counted 0 0 0 0 0)
+pub starts : Starts (counted None 0 0 0 0 0)
 unfolding with_bytes
 starts = record { is = λ L T R h. going (record { room = h; many = refl; inside = omega arith; rest = refl; tied = tied_nothing refl refl }) }
 

@@ -3,3 +3,4 @@ pub mod Spared
 pub mod Turn
 pub mod Bytes
 pub mod Ends
+pub mod Loans

@@ -1,4 +1,5 @@
 -- What a line more leaves of the tables.
+use Rattle.std.specs.Prelude.{Option, None}
 use Prim.Native.Nat.{ℕ, ◌+◌, ◌*◌, ◌^◌, ◌≤◌, ◌<◌}
 use mathlib.Core.List.{List, ◌++◌}
 use mathlib.Core.Logic.{⊎_elim}
@@ -13,9 +14,8 @@ use Rattle.reading.specs.Laws.Leaves.{between_none, between_then, begun-none, be
 use Rattle.reading.specs.declared.reader.Reading.{Reading}
 use Rattle.reading.specs.Held.{shown, spoiled, RowStored}
 
--- a state of which no line was bad
-abbrev pub counted : ℕ → ℕ → ℕ → ℕ → ℕ → Reading
-counted a n b k z = record { lines = a; bad = 0; names = n; classes = b; records = k; length = z }
+abbrev pub counted : Option ℕ → ℕ → ℕ → ℕ → ℕ → ℕ → Reading
+counted d a n b k z = record { lines = a; bad = d; names = n; classes = b; records = k; length = z }
 
 -- Nothing is stored
 
@@ -28,7 +28,7 @@ spares_then v w = record { classes = between_then v.classes w.classes; records =
 pub spares_spoiled : {r q : Reading} {T R : List ℕ} → q ≡ spoiled r → Spares r T R q T R
 spares_spoiled {r} {q} {T} {R} e = subst (λ (x : Reading). Spares r T R x T R) (sym e) (record { classes = between_none; records = between_none })
 
-pub spares_first : {r : Reading} {n : ℕ} {T R : List ℕ} → r.lines ≡ 0 → Spares r T R (counted 1 n 0 0 0) T R
+pub spares_first : {r : Reading} {n : ℕ} {T R : List ℕ} → r.lines ≡ 0 → Spares r T R (counted None 1 n 0 0 0) T R
 unfolding begun
 spares_first {r} h = record { classes = rw (begun-none r.classes h) between_none; records = rw (begun-none r.records h) between_none }
 
@@ -75,7 +75,7 @@ module _ {R R' row : List ℕ} {i : ℕ} (small : i < 2 ^ 64) (long : length row
 
 module _ (r : Reading) (started : ¬ (r.lines ≡ 0)) {a b : ℕ} (ea : a ≡ shown (r.lines + 1)) where
   pub spares_class : {T T' R : List ℕ} (c : ℕ) → r.classes < 2 ^ 64 → length T < 2 ^ 64 → b ≡ shown (r.classes + 1) → T' ≡ set T r.classes c
-      → Spares r T R (counted a r.names b r.records 0) T' R
+      → Spares r T R (counted r.bad a r.names b r.records 0) T' R
   spares_class {T} {T'} {R} c h g eb e =
       let z : ¬ (a ≡ 0) = λ y. started (omega arith) in
       record {
@@ -84,7 +84,7 @@ module _ (r : Reading) (started : ¬ (r.lines ≡ 0)) {a b : ℕ} (ea : a ≡ sh
       }
 
   pub spares_record : {T R R' row : List ℕ} → r.records < 2 ^ 64 → length row ≡ width → b ≡ shown (r.records + 1) → RowStored R r.records row R'
-      → Spares r T R (counted a r.names r.classes b 0) T R'
+      → Spares r T R (counted r.bad a r.names r.classes b 0) T R'
   spares_record h long eb w =
       let z : ¬ (a ≡ 0) = λ y. started (omega arith) in
       record {

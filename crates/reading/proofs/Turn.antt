@@ -26,7 +26,7 @@ module _ {r q : Reading} {n : ℕ} {cs : List ℕ} {rs : List Record} {T R T' R'
   unfolding next
   spoils d =
       let k : shown (r.lines + 1) ≡ shown (2 + length cs + length rs) = omega (arith, v.lines) in
-      spoilt (ap (λ (x : Reading). x.bad) e ∙ k) d
+      spoilt (ap (λ (x : Reading). x.bad) e ∙ ap Some k) d
 
   pub class-none : length cs < n → numbers_of class_marks l ≡ None → Turned (says n cs rs) l q T' R'
   unfolding class
@@ -45,9 +45,9 @@ pub first-none : (r : Reading) {q : Reading} {T R l : List ℕ} → q ≡ spoile
 unfolding next with_line first
 first-none r e h o =
     let k : shown (r.lines + 1) ≡ shown 1 = omega arith in
-    spoilt (ap (λ (x : Reading). x.bad) e ∙ k) (ap first o)
+    spoilt (ap (λ (x : Reading). x.bad) e ∙ ap Some k) (ap first o)
 
-pub first_some : {T R l : List ℕ} {n : ℕ} → n < 2 ^ 32 → numbers_of names_marks l ≡ Some (n ∷ []) → Turned nothing l (counted 1 n 0 0 0) T R
+pub first_some : {T R l : List ℕ} {n : ℕ} → n < 2 ^ 32 → numbers_of names_marks l ≡ Some (n ∷ []) → Turned nothing l (counted None 1 n 0 0 0) T R
 unfolding with_line first layout
 first_some {T} {R} {l} {n} h o =
     let e : with_line nothing l ≡ says n [] [] = ap first o in
@@ -76,7 +76,7 @@ keeps_class cs T c k h =
 
 pub class-some : {r : Reading} {n : ℕ} {cs : List ℕ} {rs : List Record} {T R T' l : List ℕ} {a b c : ℕ} → Says r n cs rs T R → length cs < n → c < 256
     → numbers_of class_marks l ≡ Some (c ∷ []) → a ≡ shown (r.lines + 1) → b ≡ shown (r.classes + 1) → T' ≡ set T r.classes c
-    → Turned (says n cs rs) l (counted a r.names b r.records 0) T' R
+    → Turned (says n cs rs) l (counted r.bad a r.names b r.records 0) T' R
 class-some {r} {n} {cs} {rs} {T} {R} {T'} {l} {a} {b} {c} v h g o ea eb et =
     let e : with_line (says n cs rs) l ≡ says n (cs ++ (c ∷ [])) rs = line-class n cs rs l h ∙ ap (class n cs rs) o ∙ class-fits n cs rs (c ∷ []) g in
     let k : length (cs ++ (c ∷ [])) ≡ length cs + 1 = length-append cs (c ∷ []) in
@@ -85,7 +85,7 @@ class-some {r} {n} {cs} {rs} {T} {R} {T'} {l} {a} {b} {c} v h g o ea eb et =
     (rw e
     (tied_says {cs = cs ++ (c ∷ [])} {rs = rs}
     (record {
-      fine = refl;
+      fine = v.fine;
       lines = omega (arith, v.lines);
       names = v.names;
       few = v.few;
@@ -123,7 +123,7 @@ record_long l {ns} o = ap length (row_is (numbers_sound record_marks l ns o).bel
 
 pub record_some : {r : Reading} {n : ℕ} {cs : List ℕ} {rs : List Record} {T R R' l ns : List ℕ} {a b : ℕ} → Says r n cs rs T R → n ≤ length cs
     → numbers_of record_marks l ≡ Some ns → a ≡ shown (r.lines + 1) → b ≡ shown (r.records + 1) → RowStored R r.records ns R'
-    → Turned (says n cs rs) l (counted a r.names r.classes b 0) T R'
+    → Turned (says n cs rs) l (counted r.bad a r.names r.classes b 0) T R'
 unfolding entry
 record_some {r} {n} {cs} {rs} {T} {R} {R'} {l} {ns} v h o ea eb w =
     let e : with_line (says n cs rs) l ≡ says n cs (rs ++ (record_of ns ∷ [])) = line_record n cs rs l h ∙ ap (entry n cs rs) o in
@@ -134,7 +134,7 @@ record_some {r} {n} {cs} {rs} {T} {R} {R'} {l} {ns} v h o ea eb w =
     (rw e
     (tied_says {cs = cs} {rs = rs ++ (record_of ns ∷ [])}
     (record {
-      fine = refl;
+      fine = v.fine;
       lines = omega (arith, v.lines);
       names = v.names;
       few = v.few;

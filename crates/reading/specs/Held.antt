@@ -1,19 +1,19 @@
 -- What the reader's state says of the bytes so far, and what each of its functions promises.
-use Rattle.std.specs.Prelude.{ℕ, ◌+◌, ◌*◌, ◌^◌, ◌≤◌, ◌<◌, min, true, false, List, [], ◌++◌, ◌≡◌, eqb, ltb, length, take}
+use Rattle.std.specs.Prelude.{ℕ, ◌+◌, ◌*◌, ◌^◌, ◌≤◌, ◌<◌, min, true, false, List, [], ◌++◌, ◌≡◌, eqb, ltb, length, take, None, Some, Result, Ok, Err}
 use Rattle.std.proofs.lemmas.List.Edits.{sets}
 use Rattle.tree.specs.Record.{Record, numbers, width}
 use Rattle.reading.specs.Reading.{Said, nothing, says, differs, next, with_line, State, state, with_bytes, bad, good, read}
 use Rattle.reading.specs.Leaves.{Spares, Leaves}
 use Rattle.reading.specs.declared.reader.Reading.{Reading}
-use Rattle.reading.specs.declared.reader.Input.{Input}
-use Rattle.reading.specs.declared.reader.Input.TheVariants as input
+use Rattle.reading.specs.declared.reader.Counts.{Counts}
+use Rattle.reading.specs.declared.reader.BadLine.{BadLine}
 
 -- a count, as far as it can be shown
 abbrev pub shown : ℕ → ℕ
 shown n = min n 18446744073709551615
 
 abbrev pub spoiled : Reading → Reading
-spoiled r = record { lines = r.lines; bad = shown (r.lines + 1); names = r.names; classes = r.classes; records = r.records; length = r.length }
+spoiled r = record { lines = r.lines; bad = Some (shown (r.lines + 1)); names = r.names; classes = r.classes; records = r.records; length = r.length }
 
 -- the tables hold the classes and the records, where they have room for them all
 pub record Kept (cs : List ℕ) (rs : List Record) (T R : List ℕ) : Type 0 where
@@ -22,7 +22,7 @@ pub record Kept (cs : List ℕ) (rs : List Record) (T R : List ℕ) : Type 0 whe
 
 -- the state after lines that say this
 pub record Says (r : Reading) (n : ℕ) (cs : List ℕ) (rs : List Record) (T R : List ℕ) : Type 0 where
-  pub fine : r.bad ≡ 0
+  pub fine : r.bad ≡ None
   pub lines : r.lines ≡ shown (1 + length cs + length rs)
   pub names : r.names ≡ n
   pub few : n < 2 ^ 32
@@ -32,7 +32,7 @@ pub record Says (r : Reading) (n : ℕ) (cs : List ℕ) (rs : List Record) (T R 
   pub kept : Kept cs rs T R
 
 pub data Tied (r : Reading) (T R : List ℕ) : Said → Type 0 where
-  tied_nothing : r.lines ≡ 0 → r.bad ≡ 0 → Tied r T R nothing
+  tied_nothing : r.lines ≡ 0 → r.bad ≡ None → Tied r T R nothing
   tied_says : {n : ℕ} {cs : List ℕ} {rs : List Record} → Says r n cs rs T R → Tied r T R (says n cs rs)
 
 -- The state after the bytes b: the lines are good so far, and L, which has room for any good line, starts with the one that has not ended; or every
@@ -46,7 +46,7 @@ pub record Going (r : Reading) (s : State) (L T R : List ℕ) : Type 0 where
 
 pub data Holds (r : Reading) (b L T R : List ℕ) : Type 0 where
   going : Going r (with_bytes (state nothing []) b) L T R → Holds r b L T R
-  lost : (n : ℕ) → 0 < n → r.bad ≡ shown n → ((t : List ℕ) → read (b ++ t) ≡ bad n) → Holds r b L T R
+  lost : (n : ℕ) → 0 < n → r.bad ≡ Some (shown n) → ((t : List ℕ) → read (b ++ t) ≡ bad n) → Holds r b L T R
 
 pub record Starts (r : Reading) : Type 0 where
   pub is : (L T R : List ℕ) → 92 ≤ length L → Holds r [] L T R
@@ -57,26 +57,33 @@ pub record Fed (c : List ℕ) (r : Reading) (L T R : List ℕ) (r' : Reading) (L
   pub leaves : Leaves r L T R r' L' T' R'
 
 -- the end
-pub data Answers (b T R : List ℕ) : Input → Type 0 where
-  is_bad : {k : ℕ} (n : ℕ) → read b ≡ bad n → k ≡ shown n → Answers b T R (input.Bad k)
+
+abbrev pub bad_line : ℕ → Result Counts BadLine
+bad_line n = Err (record { 0 = n })
+
+abbrev pub counts : ℕ → ℕ → Result Counts BadLine
+counts i j = Ok (record { classes = i; records = j })
+
+pub data Answers (b T R : List ℕ) : Result Counts BadLine → Type 0 where
+  is_bad : {k : ℕ} (n : ℕ) → read b ≡ bad n → k ≡ shown n → Answers b T R (bad_line k)
   is_good : {i j : ℕ} (cs : List ℕ) (rs : List Record) → read b ≡ good cs rs → i ≡ length cs → j ≡ shown (length rs) → Kept cs rs T R
-      → Answers b T R (input.Good i j)
+      → Answers b T R (counts i j)
 
 -- the answer of any state, whether it holds any input or not
-unfoldable pub ended : Reading → Input
+unfoldable pub ended : Reading → Result Counts BadLine
 ended r =
-    elim (eqb r.bad 0) [
-      | true ↦ elim (eqb r.length 0) [
+    elim (r.bad) [
+      | None ↦ elim (eqb r.length 0) [
         | true ↦ elim (eqb r.lines 0) [
-          | true ↦ input.Bad 1
-          | false ↦ elim (ltb r.classes r.names) [ true ↦ input.Bad (shown (r.lines + 1)) | false ↦ input.Good r.classes r.records ]
+          | true ↦ bad_line 1
+          | false ↦ elim (ltb r.classes r.names) [ true ↦ bad_line (shown (r.lines + 1)) | false ↦ counts r.classes r.records ]
         ]
-        | false ↦ input.Bad (shown (r.lines + 1))
+        | false ↦ bad_line (shown (r.lines + 1))
       ]
-      | false ↦ input.Bad r.bad
+      | Some k ↦ bad_line k
     ]
 
-pub record Finished (r : Reading) (a : Input) : Type 0 where
+pub record Finished (r : Reading) (a : Result Counts BadLine) : Type 0 where
   pub is : (b L T R : List ℕ) → Holds r b L T R → Answers b T R a
   pub any : a ≡ ended r
 
@@ -84,7 +91,7 @@ pub record Finished (r : Reading) (a : Input) : Type 0 where
 
 pub data Turned (s : Said) (l : List ℕ) (r : Reading) (T R : List ℕ) : Type 0 where
   turned : r.length ≡ 0 → Tied r T R (with_line s l) → Turned s l r T R
-  spoilt : r.bad ≡ shown (next s) → with_line s l ≡ differs (next s) → Turned s l r T R
+  spoilt : r.bad ≡ Some (shown (next s)) → with_line s l ≡ differs (next s) → Turned s l r T R
 
 pub record Turns (l : List ℕ) (r : Reading) (T R : List ℕ) (r' : Reading) (T' R' : List ℕ) : Type 0 where
   pub is : (s : Said) → Tied r T R s → Turned s l r' T' R'

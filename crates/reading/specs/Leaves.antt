@@ -1,5 +1,5 @@
 -- What reading leaves as it was, of every state and all tables, whether they hold any input or not.
-use Rattle.std.specs.Prelude.{ℕ, ◌*◌, ◌≤◌, true, false, List, ◌≡◌, eqb, length, take, drop}
+use Rattle.std.specs.Prelude.{ℕ, ◌*◌, ◌≤◌, true, false, List, ◌≡◌, eqb, length, take, drop, None}
 use Rattle.tree.specs.Record.{width}
 use Rattle.reading.specs.declared.reader.Reading.{Reading}
 
@@ -37,4 +37,4 @@ pub record Same (r : Reading) (L T R : List ℕ) (r' : Reading) (L' T' R' : List
 pub record Leaves (r : Reading) (L T R : List ℕ) (r' : Reading) (L' T' R' : List ℕ) : Type 0 where
   pub long : length L' ≡ length L
   pub tables : Spares r T R r' T' R'
-  pub after_bad : ¬ (r.bad ≡ 0) → Same r L T R r' L' T' R'
+  pub after_bad : ¬ (r.bad ≡ None) → Same r L T R r' L' T' R'

@@ -1,8 +1,11 @@
 // The input, byte by byte, through a buffer of one line and the tables for what it says. What the tables have no room for is counted only.
-ghost use Rattle.std.specs.Prelude.{◌≡◌, ◌∷◌, [], ◌+◌, set};
-ghost use Rattle.reading.specs.Held.{shown, spoiled, Starts, First, Class, Entry, Turns, Fed, Finished, RowStored};
+ghost use Rattle.std.specs.Prelude.{◌≡◌, ℕ, ◌∷◌, [], ◌≤◌, List, length, take, set};
+ghost use Rattle.printing.specs.Text.{names_marks, class_marks, record_marks};
+ghost use Rattle.reading.specs.Reading.{numbers_of};
+ghost use Rattle.reading.specs.Found.{ones};
+ghost use Rattle.reading.specs.Held.{spoiled, Starts, First, Class, Entry, Finished, RowStored};
 
-use crate::line::{Only, record, single};
+use crate::line::{record, single};
 use tree::record::WIDTH;
 
 // What was read so far. Numbers of lines and records stop at the largest that there is. Before the first line has ended the numbers of names, classes and
@@ -11,8 +14,8 @@ use tree::record::WIDTH;
 pub struct Reading {
     // lines that have ended
     pub lines: u64,
-    // the first bad one, or 0
-    pub bad: u64,
+    // the first bad one
+    pub bad: Option<u64>,
     pub names: u64,
     pub classes: u64,
     pub records: u64,
@@ -20,65 +23,16 @@ pub struct Reading {
     pub length: usize,
 }
 
+// How many classes and records a good input has.
 #[derive(Clone, Copy)]
-pub enum Input {
-    // the number of the first line that differs or is missing
-    Bad(u64),
-    // how many classes and records
-    Good(u64, u64),
+pub struct Counts {
+    pub classes: u64,
+    pub records: u64,
 }
 
-pub fn start() -> Reading
-    ensures { Starts result }
-{
-    Reading {
-        lines: 0,
-        bad: 0,
-        names: 0,
-        classes: 0,
-        records: 0,
-        length: 0,
-    }
-}
-
-fn next(n: u64) -> u64
-    ensures { result ≡ shown (n + 1) }
-{
-    if n == 18446744073709551615 {
-        return n;
-    }
-    n + 1
-}
-
-// The line after those that have ended is bad.
-fn spoil(r: Reading) -> Reading
-    ensures { result ≡ spoiled r }
-{
-    Reading {
-        lines: r.lines,
-        bad: next(r.lines),
-        names: r.names,
-        classes: r.classes,
-        records: r.records,
-        length: r.length,
-    }
-}
-
-fn first_line(l: &[u8], r: Reading) -> Reading
-    ensures { First l.now r result }
-{
-    let Only::Value(n) = single(l, b"names=") else {
-        return spoil(r);
-    };
-    Reading {
-        lines: 1,
-        bad: 0,
-        names: n as u64,
-        classes: 0,
-        records: 0,
-        length: 0,
-    }
-}
+// The number of the first line that differs or is missing.
+#[derive(Clone, Copy)]
+pub struct BadLine(pub u64);
 
 fn store_class(classes: &mut [u8], at: u64, c: u8)
     ensures { classes.new ≡ set classes.old at c }
@@ -86,26 +40,6 @@ fn store_class(classes: &mut [u8], at: u64, c: u8)
     let i = at as usize;
     if i < classes.len() {
         classes[i] = c;
-    }
-}
-
-fn class_line(l: &[u8], classes: &mut [u8], r: Reading) -> Reading
-    ensures { Class l.now r classes.old result classes.new }
-{
-    let Only::Value(c) = single(l, b"class=") else {
-        return spoil(r);
-    };
-    if c > 255 {
-        return spoil(r);
-    }
-    store_class(classes, r.classes, c as u8);
-    Reading {
-        lines: next(r.lines),
-        bad: 0,
-        names: r.names,
-        classes: next(r.classes),
-        records: r.records,
-        length: 0,
     }
 }
 
@@ -118,103 +52,178 @@ fn store_record(records: &mut [u32], at: u64, row: [u32; WIDTH])
     }
 }
 
-fn record_line(l: &[u8], records: &mut [u32], r: Reading) -> Reading
-    ensures { Entry l.now r records.old result records.new }
-{
-    let s = record(l);
-    if !s.ok {
-        return spoil(r);
+impl Reading {
+    pub fn start() -> Reading
+        ensures { Starts result }
+    {
+        Reading {
+            lines: 0,
+            bad: None,
+            names: 0,
+            classes: 0,
+            records: 0,
+            length: 0,
+        }
     }
-    let row = s.numbers;
-    store_record(records, r.records, row);
-    Reading {
-        lines: next(r.lines),
-        bad: 0,
-        names: r.names,
-        classes: r.classes,
-        records: next(r.records),
-        length: 0,
+
+    // The line after those that have ended is bad.
+    fn spoiled(self) -> Reading
+        ensures { result ≡ spoiled self }
+    {
+        Reading {
+            bad: Some(self.lines.saturating_add(1)),
+            ..self
+        }
+    }
+
+    // The first line says how many names there are.
+    fn first_line(self, names: Option<u32>) -> Reading
+        ensures { (l : List ℕ) → numbers_of names_marks l ≡ ones names → First l self result }
+    {
+        let Some(n) = names else {
+            return self.spoiled();
+        };
+        Reading {
+            lines: 1,
+            bad: None,
+            names: n as u64,
+            classes: 0,
+            records: 0,
+            length: 0,
+        }
+    }
+
+    fn class_line(self, class: Option<u32>, classes: &mut [u8]) -> Reading
+        ensures { (l : List ℕ) → numbers_of class_marks l ≡ ones class → Class l self classes.old result classes.new }
+    {
+        let Some(c) = class else {
+            return self.spoiled();
+        };
+        if c > 255 {
+            return self.spoiled();
+        }
+        store_class(classes, self.classes, c as u8);
+        Reading {
+            lines: self.lines.saturating_add(1),
+            classes: self.classes.saturating_add(1),
+            length: 0,
+            ..self
+        }
+    }
+
+    fn record_line(self, row: Option<[u32; WIDTH]>, records: &mut [u32]) -> Reading
+        ensures { (l : List ℕ) → numbers_of record_marks l ≡ row → Entry l self records.old result records.new }
+    {
+        let Some(row) = row else {
+            return self.spoiled();
+        };
+        store_record(records, self.records, row);
+        Reading {
+            lines: self.lines.saturating_add(1),
+            records: self.records.saturating_add(1),
+            length: 0,
+            ..self
+        }
+    }
+
+    // The input has ended. Of a state that holds no input the answer is `ended` too.
+    pub fn finish(self) -> Result<Counts, BadLine>
+        ensures { Finished self result }
+    {
+        if let Some(bad) = self.bad {
+            return Err(BadLine(bad));
+        }
+        if self.length != 0 {
+            return Err(BadLine(self.lines.saturating_add(1)));
+        }
+        if self.lines == 0 {
+            return Err(BadLine(1));
+        }
+        if self.classes < self.names {
+            return Err(BadLine(self.lines.saturating_add(1)));
+        }
+        Ok(Counts {
+            classes: self.classes,
+            records: self.records,
+        })
     }
 }
 
-// An LF has come: the line is whole.
-fn end_line(l: &[u8], classes: &mut [u8], records: &mut [u32], r: Reading) -> Reading
-    ensures { Turns l.now r classes.old records.old result classes.new records.new }
-{
-    if r.lines == 0 {
-        return first_line(l, r);
-    }
-    if r.classes < r.names {
-        return class_line(l, classes, r);
-    }
-    record_line(l, records, r)
+// What was read, with what is lent for it: a buffer for the line that has not ended, and tables for the classes and the records. It starts with
+// `Reading::start()`.
+#[derive(Drop)]
+pub struct Reader<'a> {
+    pub state: Reading,
+    pub line: &'a mut [u8],
+    pub classes: &'a mut [u8],
+    pub records: &'a mut [u32],
 }
 
-fn one_byte(x: u8, line: &mut [u8], classes: &mut [u8], records: &mut [u32], r: Reading) -> Reading
-    ensures { Fed (x ∷ []) r line.old classes.old records.old
-        result line.new classes.new records.new }
-{
-    let n = r.length;
-    if r.bad > 0 {
-        return r;
-    }
-    if line.len() < n {
-        return spoil(r);
-    }
-    if x == 10 {
-        return end_line(&line[..n], classes, records, r);
-    }
-    if n == line.len() {
-        return spoil(r);
-    }
-    line[n] = x;
-    Reading {
-        lines: r.lines,
-        bad: 0,
-        names: r.names,
-        classes: r.classes,
-        records: r.records,
-        length: n + 1,
-    }
-}
+impl<'a> Reader<'a> {
+    ghost use Rattle.reading.specs.Reader.{SameLoans, Feeds, Turns};
 
-// What was read, with the bytes of the chunk after it. Left free: the line buffer past the line that has not ended, the tables past what was read, a table
-// that has no room for all of it, and everything where the state held no input before, as one made by hand or with a line buffer of less than 92 bytes.
-// What holds of these all the same (`Leaves`): every length stays, entries are written only for what was now read, and after a bad line nothing is changed.
-pub fn feed(
-    chunk: &[u8],
-    line: &mut [u8],
-    classes: &mut [u8],
-    records: &mut [u32],
-    r: Reading,
-) -> Reading
-    ensures { Fed chunk.now r line.old classes.old records.old
-        result line.new classes.new records.new }
-{
-    let mut q = r;
-    let mut i = 0;
-    while i < chunk.len() {
-        q = one_byte(chunk[i], line, classes, records, q);
-        i += 1;
+    // The line that has not ended.
+    fn begun(&self) -> &[u8]
+        requires { self.now.state.length ≤ length self.now.line.now }
+        ensures { result.now ≡ take self.now.state.length self.now.line.now }
+    {
+        &self.line[..self.state.length]
     }
-    q
-}
 
-// The input has ended. Of a state that holds no input the answer is `ended` too.
-pub fn finish(r: Reading) -> Input
-    ensures { Finished r result }
-{
-    if r.bad != 0 {
-        return Input::Bad(r.bad);
+    // An LF has come: the line is whole.
+    fn end_line(&mut self)
+        requires { self.old.state.length ≤ length self.old.line.now }
+        ensures same { SameLoans self.old self.new }
+        ensures turns { Turns self.old self.new }
+    {
+        let r = self.state;
+        if r.lines == 0 {
+            let names = single(self.begun(), b"names=");
+            self.state = r.first_line(names);
+            return;
+        }
+        if r.classes < r.names {
+            let class = single(self.begun(), b"class=");
+            self.state = r.class_line(class, self.classes);
+            return;
+        }
+        let row = record(self.begun());
+        self.state = r.record_line(row, self.records);
     }
-    if r.length != 0 {
-        return Input::Bad(next(r.lines));
+
+    fn byte(&mut self, x: u8)
+        ensures same { SameLoans self.old self.new }
+        ensures feeds { Feeds (x ∷ []) self.old self.new }
+    {
+        let n = self.state.length;
+        if self.state.bad.is_some() {
+            return;
+        }
+        if self.line.len() < n {
+            self.state = self.state.spoiled();
+            return;
+        }
+        if x == b'\n' {
+            self.end_line();
+            return;
+        }
+        if n == self.line.len() {
+            self.state = self.state.spoiled();
+            return;
+        }
+        self.line[n] = x;
+        self.state.length = n + 1;
     }
-    if r.lines == 0 {
-        return Input::Bad(1);
+
+    // What was read, with the bytes of the chunk after it. Left free: the line buffer past the line that has not ended, the tables past what was read, a table
+    // that has no room for all of it, and everything where the state held no input before, as one made by hand or with a line buffer of less than 92 bytes.
+    // What holds of these all the same (`Leaves`): every length stays, entries are written only for what was now read, and after a bad line nothing is changed.
+    pub fn feed(&mut self, chunk: &[u8])
+        ensures same { SameLoans self.old self.new }
+        ensures feeds { Feeds chunk.now self.old self.new }
+    {
+        for &x in chunk {
+            self.byte(x);
+        }
     }
-    if r.classes < r.names {
-        return Input::Bad(next(r.lines));
-    }
-    Input::Good(r.classes, r.records)
 }

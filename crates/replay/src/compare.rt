@@ -1,152 +1,109 @@
 // An answer and the tables that it leaves, beside what the input says of them.
-ghost use Rattle.std.specs.Prelude.{◌≤◌};
+ghost use Rattle.std.specs.Prelude.{◌≤◌, ◌<◌};
+ghost use Rattle.replay.specs.Reads.{GoesOn};
 
-use crate::input::{least, next_number};
-use answers::Answer;
+use crate::input::Numbers;
+use answers::Refusal;
 use semantic::fields::{LIST_ENTRY, ROW};
 use table::wide;
 
-// Whether all was the same so far, and the place in the input.
-#[derive(Clone, Copy)]
-pub struct Same {
-    pub same: bool,
-    pub next: usize,
+// The tables that are lent to an operation.
+#[derive(Drop)]
+pub struct Tables<'a> {
+    pub facts: &'a mut [u32],
+    pub captured: &'a mut [u32],
+    pub arguments: &'a mut [u32],
+    pub work: &'a mut [u32],
 }
 
-fn is_at(t: &[u32], i: usize, value: u32) -> bool {
-    i < t.len() && t[i] == value
+fn is_zero(t: &[u32]) -> bool {
+    t.iter().all(|x| *x == 0)
 }
 
-fn zeros_from(t: &[u32], first: usize) -> bool {
-    let mut i = first;
-    while i < t.len() {
-        if t[i] != 0 {
-            return false;
-        }
-        i += 1;
-    }
-    true
-}
-
-// A number of a row: the next one of the input, or 0 where the row is told to end before.
-fn same_number(t: &[u32], i: usize, told: bool, input: &[u8], at: usize) -> Same
-    ensures { at ≤ result.next }
+// A row: so many numbers of the input, and zeros after them.
+fn same_row(row: &[u32], numbers: &mut Numbers) -> bool
+    ensures { GoesOn numbers.old numbers.new }
 {
-    if !told {
-        return Same {
-            same: is_at(t, i, 0),
-            next: at,
-        };
+    let Some(length) = numbers.next() else {
+        return false;
+    };
+    let told = wide(length);
+    let (given, zeros) = row.split_at(told.min(row.len()));
+    let mut same = told <= row.len() && is_zero(zeros);
+    for x in given {
+        same &= numbers.next().unwrap_or(0) == *x;
     }
-    let n = next_number(input, at);
-    Same {
-        same: is_at(t, i, n.value),
-        next: n.next,
-    }
-}
-
-// A row of so many numbers, from the place `first` of the table on.
-fn same_row(t: &[u32], first: usize, width: usize, input: &[u8], at: usize) -> Same
-    requires first_bound { first ≤ 81920 }
-    requires width_bound { width ≤ 20 }
-    ensures { at ≤ result.next }
-{
-    let length = next_number(input, at);
-    let told = wide(length.value);
-    let mut same = length.found && told <= width;
-    let mut next = length.next;
-    let mut j = 0;
-    while j < width {
-        let n = same_number(t, first + j, j < told, input, next);
-        same = same && n.same;
-        next = n.next;
-        j += 1;
-    }
-    Same { same, next }
+    same
 }
 
 // A table of rows of so many numbers; zeros after them.
-fn same_table(t: &[u32], width: usize, input: &[u8], at: usize) -> Same
-    requires { width ≤ 20 }
-    ensures { at ≤ result.next }
+fn same_table(t: &[u32], width: usize, numbers: &mut Numbers) -> bool
+    requires { (0 < width) × (width ≤ 20) }
+    ensures { GoesOn numbers.old numbers.new }
 {
-    let rows = next_number(input, at);
-    let many = least(wide(rows.value), 4096);
-    let mut same = rows.found && rows.value <= 4096;
-    let mut next = rows.next;
-    let mut first = 0;
-    let mut i = 0;
-    while i < many {
-        let row = same_row(t, first, width, input, next);
-        same = same && row.same;
-        next = row.next;
-        first += width;
-        i += 1;
+    let Some(rows) = numbers.next() else {
+        return false;
+    };
+    let end = (width * wide(rows.min(4096))).min(t.len());
+    let (given, zeros) = t.split_at(end);
+    let mut same = rows <= 4096 && is_zero(zeros);
+    for row in given.chunks(width) {
+        same &= same_row(row, numbers);
     }
-    Same {
-        same: same && zeros_from(t, first),
-        next,
+    same
+}
+
+impl Tables<'_> {
+    pub fn fresh(&mut self, records: &[u32], classes: &[u8]) -> Result<(), Refusal> {
+        analysis::fresh(
+            records,
+            classes,
+            self.facts,
+            self.captured,
+            self.arguments,
+            self.work,
+        )
     }
-}
 
-fn same_tables(facts: &[u32], captured: &[u32], arguments: &[u32], input: &[u8], at: usize) -> Same
-    ensures { at ≤ result.next }
-{
-    let rows = same_table(facts, ROW, input, at);
-    let lists = same_table(captured, LIST_ENTRY, input, rows.next);
-    let names = same_table(arguments, LIST_ENTRY, input, lists.next);
-    Same {
-        same: rows.same && lists.same && names.same,
-        next: names.next,
+    pub fn settled(&mut self, records: &[u32], classes: &[u8]) -> Result<(), Refusal> {
+        analysis::settled(
+            records,
+            classes,
+            self.facts,
+            self.captured,
+            self.arguments,
+            self.work,
+        )
     }
-}
 
-fn number_of(a: Answer) -> u32 {
-    match a {
-        Answer::Accepted => 0,
-        Answer::Refused(n, _) => n,
+    fn all_zero(&self) -> bool {
+        is_zero(self.facts) && is_zero(self.captured) && is_zero(self.arguments)
     }
-}
 
-fn record_of(a: Answer) -> usize {
-    match a {
-        Answer::Accepted => 0,
-        Answer::Refused(_, i) => i,
+    fn same_tables(&self, numbers: &mut Numbers) -> bool
+        ensures { GoesOn numbers.old numbers.new }
+    {
+        let rows = same_table(self.facts, ROW, numbers);
+        let lists = same_table(self.captured, LIST_ENTRY, numbers);
+        let names = same_table(self.arguments, LIST_ENTRY, numbers);
+        rows && lists && names
     }
-}
 
-fn is_refused(a: Answer, number: u32, record: u32) -> bool {
-    number_of(a) == number && record_of(a) == wide(record)
-}
-
-fn all_zero(facts: &[u32], captured: &[u32], arguments: &[u32]) -> bool {
-    zeros_from(facts, 0) && zeros_from(captured, 0) && zeros_from(arguments, 0)
-}
-
-// One answer: the refusal and its record, or the tables.
-pub fn same_answer(
-    a: Answer,
-    facts: &[u32],
-    captured: &[u32],
-    arguments: &[u32],
-    work: &[u32],
-    input: &[u8],
-    at: usize,
-) -> Same
-    ensures { at ≤ result.next }
-{
-    let number = next_number(input, at);
-    let record = next_number(input, number.next);
-    let same = record.found && is_refused(a, number.value, record.value) && zeros_from(work, 0);
-    if number.value != 0 {
-        return Same {
-            same: same && all_zero(facts, captured, arguments),
-            next: record.next,
+    // One answer: the refusal and its record, or the tables.
+    pub fn same_answer(&self, answer: Result<(), Refusal>, numbers: &mut Numbers) -> bool
+        ensures { GoesOn numbers.old numbers.new }
+    {
+        let (Some(number), Some(record)) = (numbers.next(), numbers.next()) else {
+            return false;
         };
-    }
-    let tables = same_tables(facts, captured, arguments, input, record.next);
-    Same {
-        same: same && tables.same,
-        next: tables.next,
+        let (refused, at) = match answer {
+            Ok(()) => (0, 0),
+            Err(r) => (r.number(), r.record()),
+        };
+        let same = refused == number && at == wide(record) && is_zero(self.work);
+        if number != 0 {
+            return same && self.all_zero();
+        }
+        self.same_tables(numbers) && same
     }
 }

@@ -1,37 +1,23 @@
 // The numbers of the input, one after another.
-ghost use Rattle.std.specs.Prelude.{◌≤◌};
-ghost use Rattle.replay.specs.Reads.{Reads};
+ghost use Rattle.std.specs.Prelude.{◌≤◌, length};
+ghost use Rattle.std.specs.Iterator.{at_most};
+ghost use Rattle.replay.specs.Reads.{GivesNumber};
 
 use semantic::NONE;
 
-const MINUS: u8 = 45;
-
-const ZERO: u8 = 48;
-
-const NINE: u8 = 57;
-
-// A number, whether there was one, and the place after it.
-#[derive(Clone, Copy)]
-pub struct Number {
-    pub value: u32,
-    pub found: bool,
-    pub next: usize,
-}
-
-fn is_digit(b: u8) -> bool {
-    ZERO <= b && b <= NINE
+// What of the input is not read yet.
+#[derive(Drop)]
+pub struct Numbers<'a> {
+    rest: &'a [u8],
 }
 
 fn digit_of(b: u8) -> u32
     ensures { result ≤ 9 }
 {
-    if b < ZERO {
-        return 0;
+    match b {
+        b'0'..=b'9' => u32::from(b - b'0'),
+        _ => 0,
     }
-    if NINE < b {
-        return 0;
-    }
-    (b - ZERO) as u32
 }
 
 // One digit more; a number too large stays as it is.
@@ -42,55 +28,37 @@ fn add_digit(value: u32, b: u8) -> u32 {
     10 * value + digit_of(b)
 }
 
-// The digits from the place on, after those that make `value`.
-fn digits(input: &[u8], at: usize, value: u32) -> Number
-    ensures { at ≤ result.next }
-{
-    let mut sum = value;
-    let mut i = at;
-    while i < input.len() {
-        let b = input[i];
-        if !is_digit(b) {
-            break;
-        }
-        sum = add_digit(sum, b);
-        i += 1;
-    }
-    Number {
-        value: sum,
-        found: true,
-        next: i,
+impl<'a> Numbers<'a> {
+    pub fn new(input: &'a [u8]) -> Numbers<'a> {
+        Numbers { rest: input }
     }
 }
 
-// The next number; `-` is NONE. Anything else between numbers is passed by.
-pub fn next_number(input: &[u8], at: usize) -> Number
-    ensures { Reads input.now at result.found result.next }
-{
-    let mut i = at;
-    while i < input.len() {
-        let b = input[i];
-        if b == MINUS {
-            return Number {
-                value: NONE,
-                found: true,
-                next: i + 1,
-            };
-        }
-        if is_digit(b) {
-            return digits(input, i + 1, digit_of(b));
-        }
-        i += 1;
-    }
-    Number {
-        value: 0,
-        found: false,
-        next: i,
-    }
-}
+impl<'a> Iterator for Numbers<'a> {
+    type Item = u32;
 
-pub fn least(a: usize, b: usize) -> usize
-    ensures { result ≤ b }
-{
-    if a < b { a } else { b }
+    ghost next_gives = { GivesNumber };
+
+    ghost remaining = { λ s. at_most (length s.rest.now) };
+
+    // `-` is NONE. Anything else between numbers is passed by.
+    fn next(&mut self) -> Option<u32> {
+        let start = self
+            .rest
+            .iter()
+            .position(|b| *b == b'-' || b.is_ascii_digit())?;
+        let first = self.rest[start];
+        self.rest = &self.rest[start + 1..];
+        if first == b'-' {
+            return Some(NONE);
+        }
+        let end = self.rest.iter().take_while(|b| b.is_ascii_digit()).count();
+        let digits = &self.rest[..end];
+        self.rest = &self.rest[end..];
+        Some(
+            digits
+                .iter()
+                .fold(digit_of(first), |sum, b| add_digit(sum, *b)),
+        )
+    }
 }

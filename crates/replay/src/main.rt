@@ -3,179 +3,96 @@
 mod compare;
 mod input;
 
-ghost use Rattle.std.specs.Prelude.{◌≡◌, ◌≤◌, length};
+ghost use Rattle.std.specs.Prelude.{◌≡◌, OnSome, length};
 ghost use Rattle.replay.specs.Counts.{IsPrefixLen};
-ghost use Rattle.replay.specs.Reads.{Reads};
+ghost use Rattle.replay.specs.Reads.{GoesOn, IsShorter};
 
-use compare::same_answer;
-use input::{least, next_number};
-use std::io;
+use compare::Tables;
+use input::Numbers;
 use std::io::Read;
+use std::{fmt, io};
 use table::wide;
 use tree::record::WIDTH;
 
 // How many trees there were, how many answers, and how many of those agreed.
-#[derive(Clone, Copy)]
+#[derive(Clone, Copy, Default)]
 struct Tally {
     trees: u64,
     answers: u64,
     agree: u64,
 }
 
-// One more where it is so; a count too large stays as it is.
-fn count(n: u64, so: bool) -> u64 {
-    if !so {
-        return n;
-    }
-    if 1000000000 < n {
-        return n;
-    }
-    n + 1
-}
-
-fn tallied(t: Tally, first: bool, second: bool) -> Tally {
-    Tally {
-        trees: count(t.trees, true),
-        answers: count(count(t.answers, true), true),
-        agree: count(count(t.agree, first), second),
+impl Tally {
+    // A tree's two answers.
+    fn add(&mut self, first: bool, second: bool) {
+        self.trees = self.trees.saturating_add(1);
+        self.answers = self.answers.saturating_add(2);
+        self.agree = self
+            .agree
+            .saturating_add(u64::from(first) + u64::from(second));
     }
 }
 
-fn report(rt: &impl Print, part: u64, t: Tally) -> io::Result<()> {
-    let Tally {
-        trees,
-        answers,
-        agree,
-    } = t;
-    println!(rt; "part={part} trees={trees} answers={answers} agree={agree}")
+impl fmt::Display for Tally {
+    fn fmt<W: fmt::Write>(&self, f: &mut fmt::Formatter<W>) -> fmt::Result {
+        let Tally {
+            trees,
+            answers,
+            agree,
+        } = *self;
+        write!(f, "trees={trees} answers={answers} agree={agree}")
+    }
 }
 
-// n classes; answers the place after them.
-fn read_classes(classes: &mut [u8], n: usize, input: &[u8], at: usize) -> usize
-    requires { n ≤ length classes.old }
-    ensures { at ≤ result }
+// Fills the table with what `of` makes of the next numbers; where the input ends, of zeros.
+fn read_into<T: Copy, F: Fn(u32) -> T>(table: &mut [T], of: F, numbers: &mut Numbers)
+    requires { F.IsAlwaysCallable of }
+    ensures { GoesOn numbers.old numbers.new }
 {
-    let mut next = at;
-    let mut i = 0;
-    while i < n {
-        let number = next_number(input, next);
-        classes[i] = (number.value % 256) as u8;
-        next = number.next;
-        i += 1;
+    for x in table.iter_mut() {
+        *x = of(numbers.next().unwrap_or(0));
     }
-    next
 }
 
-fn read_records(records: &mut [u32], n: usize, input: &[u8], at: usize) -> usize
-    requires { n ≤ length records.old }
-    ensures { at ≤ result }
-{
-    let mut next = at;
-    let mut i = 0;
-    while i < n {
-        let number = next_number(input, next);
-        records[i] = number.value;
-        next = number.next;
-        i += 1;
-    }
-    next
-}
-
-// A case, if there is one: how many classes and numbers of records it has, and the place after them.
 #[derive(Clone, Copy)]
-struct Case {
-    found: bool,
-    names: usize,
-    numbers: usize,
-    next: usize,
+struct Case<'a> {
+    classes: &'a [u8],
+    records: &'a [u32],
 }
 
-// What does not fit the tables is cut.
-fn read_case(classes: &mut [u8], records: &mut [u32], input: &[u8], at: usize) -> Case
-    ensures reads { Reads input.now at result.found result.next }
-    ensures names_in_bounds { result.names ≤ length classes.new }
-    ensures numbers_in_bounds { result.numbers ≤ length records.new }
+// A case, if there is one. What does not fit the tables is cut.
+fn read_case<'a>(
+    classes: &'a mut [u8],
+    records: &'a mut [u32],
+    numbers: &mut Numbers,
+) -> Option<Case<'a>>
+    ensures { OnSome result (IsShorter numbers.old numbers.new) }
 {
-    let first = next_number(input, at);
-    let names = least(wide(first.value), classes.len());
-    let after = read_classes(classes, names, input, first.next);
-    let count_of = next_number(input, after);
-    let numbers = least(WIDTH * wide(count_of.value), records.len());
-    let next = read_records(records, numbers, input, count_of.next);
-    Case {
-        found: first.found,
-        names,
-        numbers,
-        next,
-    }
-}
-
-// Whether both answers are the Rust's, and the place after them.
-#[derive(Clone, Copy)]
-struct Both {
-    first: bool,
-    second: bool,
-    next: usize,
-}
-
-fn compare_both(
-    records: &[u32],
-    classes: &[u8],
-    facts: &mut [u32],
-    captured: &mut [u32],
-    arguments: &mut [u32],
-    work: &mut [u32],
-    input: &[u8],
-    at: usize,
-) -> Both
-    ensures { at ≤ result.next }
-{
-    let one = analysis::fresh(records, classes, facts, captured, arguments, work);
-    let first = same_answer(one, facts, captured, arguments, work, input, at);
-    let two = analysis::settled(records, classes, facts, captured, arguments, work);
-    let second = same_answer(two, facts, captured, arguments, work, input, first.next);
-    Both {
-        first: first.same,
-        second: second.same,
-        next: second.next,
-    }
+    let names = wide(numbers.next()?).min(classes.len());
+    let classes = &mut classes[..names];
+    read_into(classes, |n| (n % 256) as u8, numbers);
+    let count = wide(numbers.next().unwrap_or(0));
+    let size = (WIDTH * count).min(records.len());
+    let records = &mut records[..size];
+    read_into(records, |n| n, numbers);
+    Some(Case { classes, records })
 }
 
 fn replay(
     classes: &mut [u8],
     records: &mut [u32],
-    facts: &mut [u32],
-    captured: &mut [u32],
-    arguments: &mut [u32],
-    work: &mut [u32],
-    input: &[u8],
+    tables: &mut Tables,
+    mut numbers: Numbers,
 ) -> Tally {
-    let mut tally = Tally {
-        trees: 0,
-        answers: 0,
-        agree: 0,
-    };
-    let mut at = 0;
-    loop {
-        let case = read_case(classes, records, input, at);
-        if !case.found {
-            return tally;
-        }
-        let names = case.names;
-        let numbers = case.numbers;
-        let b = compare_both(
-            &records[..numbers],
-            &classes[..names],
-            facts,
-            captured,
-            arguments,
-            work,
-            input,
-            case.next,
-        );
-        tally = tallied(tally, b.first, b.second);
-        at = b.next;
+    let mut tally = Tally::default();
+    while let Some(case) = read_case(classes, records, &mut numbers) {
+        let one = tables.fresh(case.records, case.classes);
+        let first = tables.same_answer(one, &mut numbers);
+        let two = tables.settled(case.records, case.classes);
+        let second = tables.same_answer(two, &mut numbers);
+        tally.add(first, second);
     }
+    tally
 }
 
 // Room for a part of the input. The length alone is told.
@@ -204,15 +121,14 @@ fn read_full(from: &mut impl Read, buf: &mut [u8]) -> usize
 fn next_size(from: &mut impl Read) -> usize {
     let mut line = [0u8; 8];
     let end = read_full(from, &mut line);
-    let size = next_number(&line[..end], 0);
-    wide(size.value)
+    Numbers::new(&line[..end]).next().map_or(0, wide)
 }
 
 // The next part; answers how many bytes there were. What does not fit is cut.
 fn read_part(from: &mut impl Read, input: &mut [u8]) -> usize
     ensures { IsPrefixLen result input.new }
 {
-    let size = least(next_size(from), input.len());
+    let size = next_size(from).min(input.len());
     read_full(from, &mut input[..size])
 }
 
@@ -223,32 +139,27 @@ fn replay_part(rt: &impl Print, from: &mut impl Read, part: u64) -> io::Result<b
     if end == 0 {
         return Ok(false);
     }
-    let mut classes = [0u8; 1025];
-    let mut records = [0u32; 24582];
-    let mut facts = [0u32; 81920];
-    let mut captured = [0u32; 53248];
-    let mut arguments = [0u32; 53248];
-    let mut work = [0u32; 59392];
-    let t = replay(
-        &mut classes,
-        &mut records,
-        &mut facts,
-        &mut captured,
-        &mut arguments,
-        &mut work,
-        &input[..end],
+    let mut tables = Tables {
+        facts: &mut [0; 81920],
+        captured: &mut [0; 53248],
+        arguments: &mut [0; 53248],
+        work: &mut [0; 59392],
+    };
+    let tally = replay(
+        &mut [0; 1025],
+        &mut [0; 24582],
+        &mut tables,
+        Numbers::new(&input[..end]),
     );
-    report(rt, part, t)?;
+    println!(rt; "part={part} {tally}")?;
     Ok(true)
 }
 
 fn main(rt: HostRuntime) -> io::Result<()> {
-    let mut part = 1;
-    while part <= 64 {
+    for part in 1..=64 {
         if !replay_part(&rt, &mut rt.stdin(), part)? {
-            return Ok(());
+            break;
         }
-        part += 1;
     }
     Ok(())
 }

@@ -7,7 +7,7 @@ use native.Mathlib.Omega.{arith}
 use native.Mathlib.Decide.{ℕ_discrete, dec_lt}
 use borrow.Author.Tests.{eq-eqb, ne_eqb}
 use lib.Dec.{eqb}
-use lib.ListN.{length, get_or, set, replicate, length-set, length-replicate}
+use lib.ListN.{length, get_or, set, length-set}
 use lib.Seq.{get_or-set_same, get_or-set_other}
 use Rattle.tree.specs.Record.{records, nth}
 use Rattle.tree.specs.Check.{member}
@@ -15,26 +15,9 @@ use Rattle.scans.specs.Private.Seen.{seen}
 use Rattle.scans.specs.Private.Chain.{bucket_of, InBucket, Newest, Linked, Chain, Chains}
 use Rattle.scans.proofs.Repeated.{seen_miss, again}
 
--- Before the first record there is none of any bucket
-
-zeros : (n k : ℕ) → ◌≡◌ {A = ℕ} (get_or (replicate n 0) k 0) 0
-zeros zero k = refl
-zeros (suc n) zero = refl
-zeros (suc n) (suc k) = zeros n k
-
+-- before the first record there is none of any bucket
 none_yet : (n : ℕ) (rs : List ℕ) (b : ℕ) → Newest n rs b 0 0
 none_yet n rs b = record { within = omega arith; last = λ h. absurd (omega arith); all = λ id g e. refl }
-
--- tables of n links
-pub chains_begin : (rs : List ℕ) (n : ℕ) → 0 < n → length (records rs) ≤ n → Chains rs (replicate n 0) (replicate n 0) 0
-chains_begin rs n h g =
-    let same = length-replicate {A = ℕ} n 0 in
-    record {
-      buckets = omega arith;
-      places = omega arith;
-      heads = λ b. subst (Newest _ rs b 0) (sym (zeros n b)) (none_yet _ rs b);
-      links = λ b k h. absurd (omega arith);
-    }
 
 -- The link to the newest of the first records starts a walk; each record on it gives the next link
 

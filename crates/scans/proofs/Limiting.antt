@@ -1,9 +1,8 @@
 -- The limits by form are the rows of the table of forms: to be within them is to be sound.
 use Rattle.std.specs.Prelude.{Option, None, Some}
 use Prim.Native.Nat.{ℕ, zero, suc, ◌+◌, ◌*◌, ◌≤◌, ◌<◌}
-use mathlib.Core.List.{List}
 use mathlib.Core.Bool.{Bool, true, false, cond, ◌&&◌, ◌||◌, true≢false}
-use mathlib.Core.Path.{◌≡◌, refl, sym, ap, subst, ◌∙◌}
+use mathlib.Core.Path.{◌≡◌, refl, sym, subst, ◌∙◌}
 use native.Mathlib.Omega.{arith}
 use native.Mathlib.Decide.{ℕ_discrete}
 use borrow.Author.Tests.{leb-true, le-leb, lt-leb, ne_eqb}
@@ -11,13 +10,11 @@ use lib.Dec.{eqb, leb, ltb}
 use Rattle.tree.specs.Record.{Record}
 use Rattle.tree.specs.Form.{Form, form_of, names_of, others_of, children_of, id_fits, fits_as, fits, is_form, has_id_in}
 use Rattle.tree.proofs.Laws.Form.{fits-known, each, is_form_lem, known_least, known_most, few_children, few_names}
+use Rattle.scans.specs.declared.limits.Limits.{Limits}
 use Rattle.scans.specs.Limits.{limits, limit_of, Between, parts_at, Fields, Within}
 use Rattle.scans.specs.Tells.{Tells}
 use Rattle.scans.specs.Sound.{Sound}
 use Rattle.scans.proofs.Telling.{tells_no, tells_same, tells_alike, tells_itself, tells_le, tells_lt, tells_both}
-
-pub limit_at : (t : List (List ℕ)) (j : ℕ) {f g : ℕ} → f ≡ g → limit_of t f j ≡ limit_of t g j
-limit_at t j e = ap (λ (n : ℕ). limit_of t n j) e
 
 -- The parts of what a record's fields may be; an unknown form counts as one with no id, no name and no count
 
@@ -39,48 +36,48 @@ due_most f = cond (eqb f 1) 255 0
 
 -- what the limits of form f are
 record Row (N f : ℕ) : Type 0 where
-  pub least : limit_of (limits N) f 2 ≡ cond (eqb f 8 || (eqb f 11 || eqb f 12)) 1 0
-  pub most : limit_of (limits N) f 3 ≡ count_most_in (form_of f)
-  pub below : limit_of (limits N) f 4 ≡ name_below_in (form_of f) N
-  pub due : limit_of (limits N) f 5 ≡ due_most f
+  pub least : limit_of (limits N).least_count f ≡ cond (eqb f 8 || (eqb f 11 || eqb f 12)) 1 0
+  pub most : limit_of (limits N).most_count f ≡ count_most_in (form_of f)
+  pub below : limit_of (limits N).name_below f ≡ name_below_in (form_of f) N
+  pub due : limit_of (limits N).most_due f ≡ due_most f
 
 row_of : (N f : ℕ) → f ≤ 12 → Row N f
 unfolding limits form_of due_most
 row_of N f h = record {
-  least = each (λ n. limit_of (limits N) n 2 ≡ cond (eqb n 8 || (eqb n 11 || eqb n 12)) 1 0) 13 (omega arith) f (omega arith);
-  most = each (λ n. limit_of (limits N) n 3 ≡ count_most_in (form_of n)) 13 (omega arith) f (omega arith);
-  below = each (λ n. limit_of (limits N) n 4 ≡ name_below_in (form_of n) N) 13 (omega arith) f (omega arith);
-  due = each (λ n. limit_of (limits N) n 5 ≡ due_most n) 13 (omega arith) f (omega arith);
+  least = each (λ n. limit_of (limits N).least_count n ≡ cond (eqb n 8 || (eqb n 11 || eqb n 12)) 1 0) 13 (omega arith) f (omega arith);
+  most = each (λ n. limit_of (limits N).most_count n ≡ count_most_in (form_of n)) 13 (omega arith) f (omega arith);
+  below = each (λ n. limit_of (limits N).name_below n ≡ name_below_in (form_of n) N) 13 (omega arith) f (omega arith);
+  due = each (λ n. limit_of (limits N).most_due n ≡ due_most n) 13 (omega arith) f (omega arith);
 }
 
 -- what those of the names and the children give together, with c counted
 record Parts (N c f : ℕ) : Type 0 where
-  pub names : limit_of (limits N) f 6 + limit_of (limits N) f 7 * c ≡ names_of f c
-  pub children : limit_of (limits N) f 8 + limit_of (limits N) f 9 * c ≡ children_of f c
+  pub names : limit_of (limits N).names.every f + limit_of (limits N).names.counted f * c ≡ names_of f c
+  pub children : limit_of (limits N).children.every f + limit_of (limits N).children.counted f * c ≡ children_of f c
 
 parts_of : (N c f : ℕ) → f ≤ 12 → Parts N c f
 unfolding limits form_of names_of others_of children_of
 parts_of N c f h = each (Parts N c) 13 (omega arith) f (omega arith)
 
-count_few : (N f : ℕ) → f ≤ 12 → limit_of (limits N) f 3 ≤ 255
+count_few : (N f : ℕ) → f ≤ 12 → limit_of (limits N).most_count f ≤ 255
 unfolding limits
-count_few N f h = each (λ n. limit_of (limits N) n 3 ≤ 255) 13 (omega arith) f (omega arith)
+count_few N f h = each (λ n. limit_of (limits N).most_count n ≤ 255) 13 (omega arith) f (omega arith)
 
 -- an id is within those of a form alone
-id_form : (N i f : ℕ) → f ≤ 12 → Between (limits N) f 0 i → 1 ≤ f
+id_form : (N i f : ℕ) → f ≤ 12 → Between (limits N) f i → 1 ≤ f
 unfolding limits
-id_form N i f h = each (λ n. Between (limits N) n 0 i → 1 ≤ n) 13 (omega arith) f (omega arith)
+id_form N i f h = each (λ n. Between (limits N) n i → 1 ≤ n) 13 (omega arith) f (omega arith)
 
 abbrev bit : Bool → ℕ
 bit true = 1
 bit false = 0
 
 -- what those of the id are
-id_of_lem : (N f : ℕ) → 1 ≤ f → f ≤ 12 → let b = bit (has_id_in (form_of f)) in (limit_of (limits N) f 0 ≡ b) × (limit_of (limits N) f 1 ≡ b * 4294967294)
+id_of_lem : (N f : ℕ) → 1 ≤ f → f ≤ 12 → let b = bit (has_id_in (form_of f)) in (limit_of (limits N).least_id f ≡ b) × (limit_of (limits N).most_id f ≡ b * 4294967294)
 unfolding limits form_of
 id_of_lem N f g h = (
-  each (λ n. 1 ≤ n → limit_of (limits N) n 0 ≡ bit (has_id_in (form_of n))) 13 (omega arith) f (omega arith) g,
-  each (λ n. 1 ≤ n → limit_of (limits N) n 1 ≡ bit (has_id_in (form_of n)) * 4294967294) 13 (omega arith) f (omega arith) g,
+  each (λ n. 1 ≤ n → limit_of (limits N).least_id n ≡ bit (has_id_in (form_of n))) 13 (omega arith) f (omega arith) g,
+  each (λ n. 1 ≤ n → limit_of (limits N).most_id n ≡ bit (has_id_in (form_of n)) * 4294967294) 13 (omega arith) f (omega arith) g,
 )
 
 zero-only : (i : ℕ) → leb i 0 ≡ eqb i 0
@@ -91,18 +88,18 @@ as_bit : (b : Bool) (i : ℕ) → leb (bit b) i && leb i (bit b * 4294967294) �
 as_bit true i = refl
 as_bit false i = rw (le-leb 0 i (omega arith)) (zero-only i)
 
-tells_id : (N f i : ℕ) → 1 ≤ f → f ≤ 12 → Tells (id_fits (has_id_in (form_of f)) i) (Between (limits N) f 0 i)
+tells_id : (N f i : ℕ) → 1 ≤ f → f ≤ 12 → Tells (id_fits (has_id_in (form_of f)) i) (Between (limits N) f i)
 tells_id N f i g h =
     let b = has_id_in (form_of f) in
     let l = id_of_lem N f g h in
-    subst (λ (t : Bool). Tells t (Between (limits N) f 0 i)) (as_bit b i)
+    subst (λ (t : Bool). Tells t (Between (limits N) f i)) (as_bit b i)
     (tells_same (tells_both (tells_le (bit b) i) (tells_le i (bit b * 4294967294)))
     (λ u. rw (l.0, l.1) u) (λ u. rw (l.0, l.1) at u))
 
 -- a record fits if its form is known, and the fields are within the form's limits, but for the least count
 module _ (N : ℕ) (r : Record) where
   tells_parts : let f = r.form in 1 ≤ f → f ≤ 12
-      → Tells (fits N r) ((is_form (form_of f) ≡ true) × (Between (limits N) f 0 r.id × ((r.name < limit_of (limits N) f 4) × (r.count ≤ limit_of (limits N) f 3))))
+      → Tells (fits N r) ((is_form (form_of f) ≡ true) × (Between (limits N) f r.id × ((r.name < limit_of (limits N).name_below f) × (r.count ≤ limit_of (limits N).most_count f))))
   unfolding fits
   tells_parts g h =
       let o = form_of r.form in
@@ -177,7 +174,7 @@ module _ (N : ℕ) (r : Record) (due : ℕ) (few : due ≤ 255) where
       }
 
 -- the same of any list that is the limits
-module _ (N : ℕ) {t : List (List ℕ)} (e : t ≡ limits N) (r : Record) where
+module _ (N : ℕ) {t : Limits} (e : t ≡ limits N) (r : Record) where
   pub fit-told : {b : Bool} → Tells b (Fields t r) → b ≡ fits N r
   fit-told {b} u = tells_alike b (fits N r) u (tells_same (tells_itself (fits N r)) (λ f. rw e (fit-fields N r f)) (λ w. fields_fit N r (rw e at w)))
 
@@ -185,17 +182,17 @@ module _ (N : ℕ) {t : List (List ℕ)} (e : t ≡ limits N) (r : Record) where
   tells_sound {due} h u = tells_same u (λ w. within_sound N r due h (rw e at w)) (λ s. rw e (sound_within N r due h s))
 
   module _ {due : ℕ} (w : Within t r due) where
-    pub names_at : parts_at t r 6 ≡ names_of r.form r.count
+    pub names_at : parts_at t.names r ≡ names_of r.form r.count
     names_at = rw e (parts_of N r.count r.form w.fields.known).names
 
-    pub children_at : parts_at t r 8 ≡ children_of r.form r.count
+    pub children_at : parts_at t.children r ≡ children_of r.form r.count
     children_at = rw e (parts_of N r.count r.form w.fields.known).children
 
     counted : r.count ≤ 255
     counted = let k = rw e at w.fields.most in omega (arith, count_few N r.form w.fields.known)
 
-    pub names_few : parts_at t r 6 ≤ 256
+    pub names_few : parts_at t.names r ≤ 256
     names_few = omega (arith, names_at, few_names r.form r.count, counted)
 
-    pub children_few : parts_at t r 8 ≤ 513
+    pub children_few : parts_at t.children r ≤ 513
     children_few = omega (arith, children_at, few_children r.form r.count, counted)

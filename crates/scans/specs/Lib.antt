@@ -1,4 +1,3 @@
-pub mod Found
 pub mod Tells
 pub mod Sound
 pub mod Limits

@@ -3,15 +3,13 @@
 ghost use Rattle.std.specs.Prelude.{◌≡◌, false, not, ◌&&◌, [], ◌+◌, ◌<◌, ◌≤◌, eqb, length};
 ghost use Rattle.tree.specs.Record.{records, nth};
 ghost use Rattle.tree.specs.Check.{member, repeated};
-ghost use Rattle.scans.specs.Found.{found_of};
 ghost use Rattle.scans.specs.Tells.{Tells};
 ghost use Rattle.scans.specs.Private.Seen.{seen};
 ghost use Rattle.scans.specs.Private.InOrder.{InOrder};
 ghost use Rattle.scans.specs.Private.Chain.{bucket_of, Chain, Chains};
 
-use crate::scan::Found;
 use crate::{MOST_RECORDS, pick};
-use table::{index, wide};
+use table::wide;
 use tree::record;
 
 // Trees of at most this many records have tables of as many links: to clear those of 4096 would be a third of the whole pass at 30 records
@@ -33,7 +31,8 @@ fn bucket(id: u32, buckets: usize) -> usize
     wide(id) * MULTIPLIER / 1048576 % buckets
 }
 
-// Whether the id stands among the first `last` records, of which the last is of the id's bucket: along the chain, newest first.
+// Whether the id stands among the first `last` records, of which the last is of the id's bucket: along the chain, newest first. A `while`, since the
+// links say which record is next.
 fn stands(rs: &[u32], before: &[u16], last: usize, id: u32) -> bool
     requires last_value { id ≡ 0 → last ≡ 0 }
     requires chain { Chain rs.now before.now id last }
@@ -45,7 +44,7 @@ fn stands(rs: &[u32], before: &[u16], last: usize, id: u32) -> bool
         if record::id(rs, p) == id {
             return true;
         }
-        p = index(before[p]);
+        p = usize::from(before[p]);
     }
     false
 }
@@ -62,7 +61,7 @@ fn repeats(rs: &[u32], i: usize, newest: &mut [u16], before: &mut [u16]) -> bool
     let id = record::id(rs, i);
     let none = id == 0;
     let b = bucket(id, newest.len());
-    let head = index(newest[b]);
+    let head = usize::from(newest[b]);
     let last = pick(none, 0, head);
     if stands(rs, before, last, id) {
         return true;
@@ -73,37 +72,28 @@ fn repeats(rs: &[u32], i: usize, newest: &mut [u16], before: &mut [u16]) -> bool
 }
 
 // 8, in tables of no links: by bucket, the link to its newest record; by record, the link to the one before it in its bucket.
-fn repeated_in(rs: &[u32], newest: &mut [u16], before: &mut [u16]) -> Found
+fn repeated_in(rs: &[u32], newest: &mut [u16], before: &mut [u16]) -> Option<usize>
     requires rs_len_bound { length (records rs.now) ≤ 4096 }
     requires chains { Chains rs.now newest.old before.old 0 }
-    ensures { found_of result ≡ repeated [] (records rs.now) }
+    ensures { result ≡ repeated [] (records rs.now) }
 {
-    let n = record::len(rs);
-    let mut i = 0;
-    while i < n {
+    for i in 0..record::len(rs) {
         if repeats(rs, i, newest, before) {
-            return Found::At(i);
+            return Some(i);
         }
-        i += 1;
     }
-    Found::Nothing
+    None
 }
 
-fn repeated_few(rs: &[u32]) -> Found
-    requires { length (records rs.now) ≤ 512 }
-    ensures { found_of result ≡ repeated [] (records rs.now) }
+// The same in tables of so many links, made here.
+fn repeated_among<const LINKS: usize>(rs: &[u32]) -> Option<usize>
+    requires some { 0 < LINKS }
+    requires most { LINKS ≤ 4096 }
+    requires room { length (records rs.now) ≤ LINKS }
+    ensures { result ≡ repeated [] (records rs.now) }
 {
-    let mut newest = [0u16; FEW];
-    let mut before = [0u16; FEW];
-    repeated_in(rs, &mut newest, &mut before)
-}
-
-fn repeated_many(rs: &[u32]) -> Found
-    requires { length (records rs.now) ≤ 4096 }
-    ensures { found_of result ≡ repeated [] (records rs.now) }
-{
-    let mut newest = [0u16; MOST_RECORDS];
-    let mut before = [0u16; MOST_RECORDS];
+    let mut newest = [0u16; LINKS];
+    let mut before = [0u16; LINKS];
     repeated_in(rs, &mut newest, &mut before)
 }
 
@@ -111,10 +101,8 @@ fn repeated_many(rs: &[u32]) -> Found
 fn ordered(rs: &[u32], rising: bool) -> bool
     ensures { Tells result (InOrder rising rs.now) }
 {
-    let n = record::len(rs);
     let mut last = pick(rising, 0, IDS);
-    let mut i = 0;
-    while i < n {
+    for i in 0..record::len(rs) {
         let id = wide(record::id(rs, i));
         let same = id == 0;
         let next = pick(same, last, id);
@@ -122,24 +110,21 @@ fn ordered(rs: &[u32], rising: bool) -> bool
             return false;
         }
         last = next;
-        i += 1;
     }
     true
 }
 
 // 8: an id used twice, at the record that repeats an earlier one. Ids mostly come in order: then none repeats, and no table is needed.
-pub fn repeated_id(rs: &[u32]) -> Found
+pub fn repeated_id(rs: &[u32]) -> Option<usize>
     requires { length (records rs.now) ≤ 4096 }
-    ensures { found_of result ≡ repeated [] (records rs.now) }
+    ensures { result ≡ repeated [] (records rs.now) }
 {
-    if ordered(rs, true) {
-        return Found::Nothing;
-    }
-    if ordered(rs, false) {
-        return Found::Nothing;
+    if ordered(rs, true) || ordered(rs, false) {
+        return None;
     }
     if record::len(rs) <= FEW {
-        return repeated_few(rs);
+        repeated_among::<FEW>(rs)
+    } else {
+        repeated_among::<MOST_RECORDS>(rs)
     }
-    repeated_many(rs)
 }

@@ -6,24 +6,18 @@ ghost use Rattle.pass.specs.Run.{Fresh, Settled};
 ghost use Rattle.answers.specs.Answer.{tables, refusal_in};
 ghost use Rattle.scheme_analysis.specs.Told.{Tells, number_told, record_told};
 
-use answers::Answer;
+use answers::Refusal;
 
-fn number_told(a: Answer) -> u32
-    ensures { result ≡ number_told (refusal_in a) }
+fn number_told(answer: Result<(), Refusal>) -> u32
+    ensures { result ≡ number_told (refusal_in answer) }
 {
-    match a {
-        Answer::Accepted => 0,
-        Answer::Refused(n, _) => n,
-    }
+    answer.err().map_or(0, Refusal::number)
 }
 
-fn record_told(a: Answer) -> usize
-    ensures { result ≡ record_told (refusal_in a) }
+fn record_told(answer: Result<(), Refusal>) -> usize
+    ensures { result ≡ record_told (refusal_in answer) }
 {
-    match a {
-        Answer::Accepted => 0,
-        Answer::Refused(_, i) => i,
-    }
+    answer.err().map_or(0, Refusal::record)
 }
 
 #[unsafe(no_mangle)]
@@ -39,9 +33,9 @@ pub extern "C" fn scheme_analysis_fresh_v2(
     ensures { Tells Fresh classes.now records.now (tables facts.old captured.old arguments.old work.old)
         result at.new (tables facts.new captured.new arguments.new work.new) }
 {
-    let a = analysis::fresh(records, classes, facts, captured, arguments, work);
-    *at = record_told(a);
-    number_told(a)
+    let answer = analysis::fresh(records, classes, facts, captured, arguments, work);
+    *at = record_told(answer);
+    number_told(answer)
 }
 
 #[unsafe(no_mangle)]
@@ -57,7 +51,7 @@ pub extern "C" fn scheme_analysis_settled_v2(
     ensures { Tells Settled classes.now records.now (tables facts.old captured.old arguments.old work.old)
         result at.new (tables facts.new captured.new arguments.new work.new) }
 {
-    let a = analysis::settled(records, classes, facts, captured, arguments, work);
-    *at = record_told(a);
-    number_told(a)
+    let answer = analysis::settled(records, classes, facts, captured, arguments, work);
+    *at = record_told(answer);
+    number_told(answer)
 }

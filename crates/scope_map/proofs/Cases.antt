@@ -7,16 +7,15 @@ use native.Mathlib.Omega.{arith}
 use borrow.Author.Tests.{eqb-true, eqb-false, eq-eqb, ne_eqb, lt-ltb, le-ltb}
 use lib.ListN.{length, drop}
 use lib.Dec.{eqb, ltb}
+use Rattle.std.specs.Prelude.{Option, None, Some}
 use Rattle.scope_map.specs.ScopeMap.{Live, ScopeMap, replace_in, remove_in, below_layer, pop_layer, define, remove}
 use Rattle.scope_map.specs.Rows.{values_most, row_at, link_at, live_in, written}
 use Rattle.scope_map.proofs.Laws.Rows.{length_live_in, live_next, live_same, place_name, replace_live_in, remove_absent, remove_live_in}
 use Rattle.scope_map.specs.Hints.{rows_length, map_length, Roomy, Enters, Leaves, Moves}
-use Rattle.scope_map.specs.Held.{Sorted, Held, Becomes, Tells, entry_of, Gets, distance_in, distance_of, place_in, Places, with_row, DefinesAt, Starts}
+use Rattle.scope_map.specs.Held.{Sorted, Held, Becomes, Gets, place_in, Places, with_row, DefinesAt, Starts}
 use Rattle.scope_map.proofs.Laws.Held.{map_of, held_is, becomes, places}
 use Rattle.scope_map.specs.declared.ScopeMap.{ScopeMap as Map}
 use Rattle.scope_map.specs.declared.Found.{Found}
-use Rattle.scope_map.specs.declared.Found.TheVariants as found
-use Rattle.scope_map.specs.declared.Distance.TheVariants as distance
 use Rattle.scope_map.proofs.Write.{length-written, drop-written, row_written, link_written, other_written, other_link}
 use Rattle.scope_map.proofs.Index.{index_same}
 use Rattle.scope_map.proofs.Sorted.{sorted_below, sorted_replace, sorted_remove, place_found, place_found_lem}
@@ -45,11 +44,8 @@ module _ {m : Map} {t : List ℕ} where
       (rw (e, l)))
       w.inside.rest
 
-module _ {m : Map} {t : List ℕ} {x : ℕ} {f : Found} (g : Gets m t x f) where
-  pub no_distance : f ≡ found.Nothing → Tells m t (λ s. distance_of s x) distance.Nothing
-  no_distance e = record { is = λ s h. ap (distance_in s) (sym (ap (entry_of x) e) ∙ g.is s h) }
-
-  placed : {r : ℕ} → r ≤ m.length → r ≡ place_found m.depth m.length f → Places m t x r
+module _ {m : Map} {t : List ℕ} {x : ℕ} {o : Option Found} (g : Gets m t x o) where
+  placed : {r : ℕ} → r ≤ m.length → r ≡ place_found m.depth m.length o → Places m t x r
   placed l e =
       places l
       (λ k.
@@ -57,22 +53,17 @@ module _ {m : Map} {t : List ℕ} {x : ℕ} {f : Found} (g : Gets m t x f) where
       ∙ ap (place_found m.depth m.length) (g.row (map_of m t) k)
       ∙ sym (place_found_lem m.depth x m.length (live_in t m.length) k.sorted))
 
-  pub no_place : f ≡ found.Nothing → Places m t x m.length
+  pub no_place : o ≡ None → Places m t x m.length
   no_place e = placed (omega arith) (ap (place_found m.depth m.length) (sym e))
 
-  pub place_newest : {i d v : ℕ} → f ≡ found.At i d v → d ≡ m.depth → Places m t x i
-  place_newest {i} {d} {v} e q =
-      placed (omega (arith, g.below i d v e))
-      (sym (ap (λ (b : Bool). cond b i m.length) (eq-eqb _ _ q)) ∙ ap (place_found m.depth m.length) (sym e))
+  pub place_newest : {f : Found} → o ≡ Some f → f.layer ≡ m.depth → Places m t x f.row
+  place_newest {f} e q =
+      placed (omega (arith, g.below f e))
+      (sym (ap (λ (b : Bool). cond b f.row m.length) (eq-eqb _ _ q)) ∙ ap (place_found m.depth m.length) (sym e))
 
-  pub place_under : {i d v : ℕ} → f ≡ found.At i d v → (d ≡ m.depth → ⊥) → Places m t x m.length
-  place_under {i} e q =
-      placed (omega arith) (sym (ap (λ (b : Bool). cond b i m.length) (ne_eqb _ _ q)) ∙ ap (place_found m.depth m.length) (sym e))
-
-  pub the_distance : (i d v k : ℕ) → f ≡ found.At i d v → k ≡ m.depth - d → Tells m t (λ s. distance_of s x) (distance.Layers k)
-  the_distance i d v k e z = record {
-    is = λ s h. ap distance.Layers (z ∙ ap (λ (n : ℕ). n - d) h.depth) ∙ ap (distance_in s) (sym (ap (entry_of x) e) ∙ g.is s h);
-  }
+  pub place_under : {f : Found} → o ≡ Some f → (f.layer ≡ m.depth → ⊥) → Places m t x m.length
+  place_under {f} e q =
+      placed (omega arith) (sym (ap (λ (b : Bool). cond b f.row m.length) (ne_eqb _ _ q)) ∙ ap (place_found m.depth m.length) (sym e))
 
 pub with_its_row : {m m' : Map} {t t' : List ℕ} {x v p : ℕ} → DefinesAt m t x v p t' → m' ≡ with_row p m → Becomes m t (define x v) m' t'
 with_its_row {m} {t = t} {t'} {x} {v} d e = subst (λ (m' : Map). Becomes m t (define x v) m' t') (sym e) d.becomes

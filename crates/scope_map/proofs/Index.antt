@@ -1,5 +1,5 @@
 -- The hints and links stay bounds: where a hint is set, and where rows enter, leave or move.
-use Prim.Native.Nat.{ℕ, suc, ◌+◌, ◌*◌, ◌%◌, ◌≤◌, ◌<◌}
+use Prim.Native.Nat.{ℕ, suc, ◌+◌, ◌*◌, ◌≤◌, ◌<◌}
 use mathlib.Core.List.{List}
 use mathlib.Core.Bool.{Bool, true, false, cond}
 use mathlib.Core.Path.{◌≡◌, refl, ap, sym, ◌∙◌}
@@ -179,40 +179,26 @@ module _ (t : List ℕ) (n : ℕ) (h : Roomy (n + 1) t) where
   pub leaves_last : {t' : List ℕ} → t' ≡ back → Leaves t n (n + 1) t'
   leaves_last w = rw w leaves_back
 
--- Rows leave one after another
-
 pub inside_same : {t : List ℕ} → Inside t t
 inside_same = record { long = refl; rest = refl }
 
 pub inside-then : {t t' t'' : List ℕ} → Inside t t' → Inside t' t'' → Inside t t''
 inside-then a b = record { long = b.long ∙ a.long; rest = b.rest ∙ a.rest }
 
-pub leaves_none : {t : List ℕ} {n : ℕ} → Leaves t n n t
-leaves_none = record { inside = inside_same; rows = λ k g. refl; index = λ i. i }
+-- Rows leave one after another
 
-pub leaves_more : {t t' t'' : List ℕ} {k j i n : ℕ} → Leaves t i n t' → Leaves t' k j t'' → j ≡ i → Leaves t k n t''
-leaves_more a b e = record {
+pub leaves_more : {t t' t'' : List ℕ} {k i n : ℕ} → Leaves t i n t' → Leaves t' k i t'' → Leaves t k n t''
+leaves_more a b = record {
   inside = inside-then a.inside b.inside;
   rows = λ k g. b.rows k g ∙ a.rows k g;
-  index = λ i. b.index (rw e (a.index i));
+  index = λ i. b.index (a.index i);
 }
 
 -- Rows move one after another
 
-pub moves_none : {t : List ℕ} {i : ℕ} → Moves t i i t
-moves_none = record { inside = inside_same; under = λ k g. refl; over = λ k a b. absurd (omega arith); later = λ k a g. refl; index = λ i. i }
-
-pub moves_end : {t t' : List ℕ} {i k n : ℕ} → k ≡ n → Moves t i k t' → Moves t i n t'
-moves_end e w = rw (← e) w
-
--- the row after row n, as it is read
-next_row : (t : List ℕ) (n : ℕ) →
-    row_at t (suc n) ≡ record { name = get_or t (3 * n + 3) 0; layer = get_or t (3 * n + 3 + 1) 0; value = get_or t (3 * n + 3 + 2) 0 % values_most }
-next_row t n = let z : 3 * suc n ≡ 3 * n + 3 = omega arith in rw z
-
-pub moves_more : {t t' t'' : List ℕ} {i n : ℕ} → i ≤ n → 3 * (n + 1) + 3 ≤ rows_length → Moves t i n t' →
-    Enters t' n (get_or t' (3 * n + 3) 0) (get_or t' (3 * n + 3 + 1) 0) (get_or t' (3 * n + 3 + 2) 0 % values_most) t'' → Moves t i (n + 1) t''
-moves_more {t} {t'} {t''} {i} {n} l g a b = record {
+pub moves_more : {t t' t'' : List ℕ} {i n x d v : ℕ} → i ≤ n → 3 * (n + 1) + 3 ≤ rows_length → Moves t i n t' →
+    record { name = x; layer = d; value = v } ≡ row_at t' (n + 1) → Enters t' n x d v t'' → Moves t i (n + 1) t''
+moves_more {t} {t'} {t''} {i} {n} l g a y b = record {
   inside = inside-then a.inside b.inside;
   under = λ k m. b.others k (omega arith) (λ e. omega arith) ∙ a.under k m;
   over = over;
@@ -226,7 +212,13 @@ moves_more {t} {t'} {t''} {i} {n} l g a b = record {
         pick : (c : Bool) → eqb k n ≡ c → row_at t'' k ≡ row_at t (suc k)
         pick true e =
             let z = eqb-true k n e in
-            ap (row_at t'') z ∙ b.row ∙ sym (next_row t' n) ∙ a.later (suc n) (omega arith) (omega arith) ∙ ap (λ (j : ℕ). row_at t (suc j)) (sym z)
+            let w : n + 1 ≡ suc n = omega arith in
+            ap (row_at t'') z
+            ∙ b.row
+            ∙ y
+            ∙ ap (row_at t') w
+            ∙ a.later (suc n) (omega arith) (omega arith)
+            ∙ ap (λ (j : ℕ). row_at t (suc j)) (sym z)
         pick false e =
             let z = eqb-false k n e in
             b.others k (omega arith) z ∙ a.over k m (omega arith)

@@ -7,10 +7,10 @@ use native.Mathlib.Omega.{arith}
 use borrow.Author.Tests.{eqb-true, eqb-false}
 use lib.ListN.{length}
 use lib.Dec.{eqb}
+use Rattle.std.specs.Prelude.{Option, None, Some}
 use Rattle.scope_map.specs.ScopeMap.{Live, is_at, replace_in, remove_in, below_layer}
-use Rattle.scope_map.specs.Held.{Sorted, found_in, place_in}
+use Rattle.scope_map.specs.Held.{Sorted, found_at, found_in, place_in}
 use Rattle.scope_map.specs.declared.Found.{Found}
-use Rattle.scope_map.specs.declared.Found.TheVariants.{At, Nothing}
 
 pub sorted_over : {c d : ℕ} (l : List (Live ℕ)) → c ≤ d → Sorted c l → Sorted d l
 unfolding Sorted
@@ -54,9 +54,9 @@ sorted_replace d x v c (e ∷ l) o = pick (is_at d x e) refl (sorted_replace d x
 
 -- The place of a name in the newest layer, by what a lookup finds
 
-abbrev pub place_found : ℕ → ℕ → Found → ℕ
-place_found d n (At i e v) = cond (eqb e d) i n
-place_found d n Nothing = n
+abbrev pub place_found : ℕ → ℕ → Option Found → ℕ
+place_found d n (Some f) = cond (eqb f.layer d) f.row n
+place_found d n None = n
 
 module _ (d x n : ℕ) where
   -- no layer is the newest
@@ -75,7 +75,7 @@ module _ (d x n : ℕ) where
   place_found_lem (e ∷ l) o = pick (eqb e.layer d) refl (eqb e.name x) (place_found_lem l (sorted_over l o.0 o.1))
     where
       pick : (a : Bool) → eqb e.layer d ≡ a → (b : Bool) → place_in d x n l ≡ place_found d n (found_in l x) →
-          cond (a && b) (length l) (place_in d x n l) ≡ place_found d n (cond b (At (length l) e.layer e.value) (found_in l x))
+          cond (a && b) (length l) (place_in d x n l) ≡ place_found d n (cond b (Some (found_at (length l) e)) (found_in l x))
       pick true q true r = rw q
       pick false q true r = let z = eqb-false e.layer d q in rw q (place_older l (omega (arith, o.0)) o.1)
       pick true q false r = r

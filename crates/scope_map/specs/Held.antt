@@ -1,13 +1,10 @@
 -- What the code holds, and what each operation says of it. The contracts speak of every map held; there is at most one.
-use Rattle.std.specs.Prelude.{ℕ, ◌+◌, ◌-◌, ◌≤◌, ◌<◌, List, [], ◌∷◌, cond, ◌≡◌, length, drop, eqb, ltb, Option, None, Some}
+use Rattle.std.specs.Prelude.{ℕ, ◌+◌, ◌-◌, ◌≤◌, ◌<◌, List, [], ◌∷◌, cond, ◌≡◌, length, drop, eqb, ltb, Option, None, Some, option_map}
 use Rattle.scope_map.specs.ScopeMap.{Live, ScopeMap, is_at, below_layer, get, depth_of, has_at_top, define, newest_layer}
 use Rattle.scope_map.specs.Rows.{live_in, rows_from}
 use Rattle.scope_map.specs.Hints.{map_length, Roomy, Indexed}
 use Rattle.scope_map.specs.declared.ScopeMap.{ScopeMap as Map}
 use Rattle.scope_map.specs.declared.Found.{Found}
-use Rattle.scope_map.specs.declared.Found.TheVariants.{At, Nothing}
-use Rattle.scope_map.specs.declared.Distance.{Distance}
-use Rattle.scope_map.specs.declared.Distance.TheVariants as distance
 
 -- layers do not fall from older names to newer, and none is above d
 unfoldable pub Sorted : ℕ → List (Live ℕ) → Type 0
@@ -34,25 +31,23 @@ pub record Tells {A : Type 0} (m : Map) (t : List ℕ) (f : ScopeMap ℕ → A) 
 
 -- A lookup. The row of a live name is the number of older ones.
 
-unfoldable pub found_in : List (Live ℕ) → ℕ → Found
-found_in [] x = Nothing
-found_in (e ∷ l) x = cond (eqb e.name x) (At (length l) e.layer e.value) (found_in l x)
+abbrev pub found_at : ℕ → Live ℕ → Found
+found_at i e = record { row = i; layer = e.layer; value = e.value }
 
-abbrev pub entry_of : ℕ → Found → Option (Live ℕ)
-entry_of x (At i d v) = Some (record { name = x; layer = d; value = v })
-entry_of x Nothing = None
+unfoldable pub found_in : List (Live ℕ) → ℕ → Option Found
+found_in [] x = None
+found_in (e ∷ l) x = cond (eqb e.name x) (Some (found_at (length l) e)) (found_in l x)
 
-pub record Gets (m : Map) (t : List ℕ) (x : ℕ) (r : Found) : Type 0 where
-  pub is : (s : ScopeMap ℕ) → Held m t s → entry_of x r ≡ get s x
+abbrev pub entry_of : ℕ → Found → Live ℕ
+entry_of x f = record { name = x; layer = f.layer; value = f.value }
+
+pub record Gets (m : Map) (t : List ℕ) (x : ℕ) (r : Option Found) : Type 0 where
+  pub is : (s : ScopeMap ℕ) → Held m t s → option_map (entry_of x) r ≡ get s x
   pub row : (s : ScopeMap ℕ) → Held m t s → r ≡ found_in s.live x
-  pub below : (i d v : ℕ) → r ≡ At i d v → i < m.length
+  pub below : (f : Found) → r ≡ Some f → f.row < m.length
 
-abbrev pub distance_in : ScopeMap ℕ → Option (Live ℕ) → Distance
-distance_in s None = distance.Nothing
-distance_in s (Some e) = distance.Layers (depth_of s e)
-
-abbrev pub distance_of : ScopeMap ℕ → ℕ → Distance
-distance_of s x = distance_in s (get s x)
+abbrev pub distance_of : ScopeMap ℕ → ℕ → Option ℕ
+distance_of s x = option_map (depth_of s) (get s x)
 
 -- The row that defining a name writes: its row in the newest layer or, where that has none, the one after the last
 

@@ -20,28 +20,22 @@ const HINTED: u32 = 1024;
 const VALUES: u32 = 65536;
 
 // How many layers there are, and how many rows.
-#[derive(Clone, Copy)]
+#[derive(Clone, Copy, PartialEq, Eq)]
 pub struct ScopeMap {
     pub depth: u32,
     pub length: usize,
 }
 
-// The newest of a name: its row, its layer and its value.
-#[derive(Clone, Copy)]
-pub enum Found {
-    At { row: usize, layer: u32, value: u32 },
-    Nothing,
-}
-
-// How many layers down from the newest a name lies.
-#[derive(Clone, Copy)]
-pub enum Distance {
-    Layers(u32),
-    Nothing,
+// The newest of a name.
+#[derive(Clone, Copy, PartialEq, Eq)]
+pub struct Found {
+    pub row: usize,
+    pub layer: u32,
+    pub value: u32,
 }
 
 // A live name.
-#[derive(Clone, Copy)]
+#[derive(Clone, Copy, PartialEq, Eq)]
 pub struct Row {
     pub name: u32,
     pub layer: u32,
@@ -70,7 +64,7 @@ impl ScopeMap {
     {
         ScopeMap {
             depth: self.depth + 1,
-            length: self.length,
+            ..self
         }
     }
 
@@ -79,14 +73,10 @@ impl ScopeMap {
         requires { Roomy self.length t.now }
         ensures { Starts self t.now result }
     {
-        let depth = self.depth;
-        let mut i = self.length;
-        while 0 < i {
-            let last = i - 1;
-            if t[3 * last + 1] != depth {
-                return i;
+        for i in (0..self.length).rev() {
+            if t[3 * i + 1] != self.depth {
+                return i + 1;
             }
-            i = last;
         }
         0
     }
@@ -116,42 +106,29 @@ impl ScopeMap {
     }
 
     // The newest of the name.
-    pub fn get(self, t: &[u32], name: u32) -> Found
+    pub fn get(self, t: &[u32], name: u32) -> Option<Found>
         requires { Roomy self.length t.now }
         ensures { Gets self t.now name result }
     {
-        let mut i = bound(t, self.length, name);
-        while 0 < i {
-            i -= 1;
+        for i in (0..bound(t, self.length, name)).rev() {
             if t[3 * i] == name {
-                return Found::At {
+                return Some(Found {
                     row: i,
                     layer: t[3 * i + 1],
                     value: t[3 * i + 2] % VALUES,
-                };
+                });
             }
         }
-        Found::Nothing
+        None
     }
 
-    pub fn depth_of(self, t: &[u32], name: u32) -> Distance
+    // How many layers down from the newest the name lies.
+    pub fn depth_of(self, t: &[u32], name: u32) -> Option<u32>
         requires { Roomy self.length t.now }
         ensures { Tells self t.now (λ m. distance_of m name) result }
     {
-        let found = self.get(t, name);
-        let Found::At {
-            row: _,
-            layer,
-            value: _,
-        } = found
-        else {
-            return Distance::Nothing;
-        };
-        if layer < self.depth {
-            Distance::Layers(self.depth - layer)
-        } else {
-            Distance::Layers(0)
-        }
+        let found = self.get(t, name)?;
+        Some(self.depth.saturating_sub(found.layer))
     }
 
     // The row that defines the name in the newest layer; where it has none, the row after the last. Rows of older layers stand before, so the
@@ -160,19 +137,10 @@ impl ScopeMap {
         requires { Roomy self.length t.now }
         ensures { Places self t.now name result }
     {
-        let found = self.get(t, name);
-        let Found::At {
-            row,
-            layer,
-            value: _,
-        } = found
-        else {
-            return self.length;
-        };
-        if layer == self.depth {
-            return row;
+        match self.get(t, name) {
+            Some(found) if found.layer == self.depth => found.row,
+            _ => self.length,
         }
-        self.length
     }
 
     // In a layer that has the name the value is replaced. Answers the row that the name is in; a row after the last is one more.
@@ -181,14 +149,18 @@ impl ScopeMap {
         ensures { DefinesAt self t.old name value result t.new }
     {
         let place = self.place(t, name);
-        let depth = self.depth;
         let length = self.length;
+        let row = Row {
+            name,
+            layer: self.depth,
+            value,
+        };
         if place < length {
             let link = t[3 * place + 2] / VALUES;
-            put(t, place, name, depth, value, link);
+            put(t, place, row, link);
             return place;
         }
-        enter(t, length, name, depth, value);
+        enter(t, length, row);
         place
     }
 
@@ -201,8 +173,8 @@ impl ScopeMap {
             return self;
         }
         ScopeMap {
-            depth: self.depth,
             length: self.length + 1,
+            ..self
         }
     }
 
@@ -228,8 +200,8 @@ impl ScopeMap {
         leave_rows(t, place, length);
         enter_rows(t, place, last);
         ScopeMap {
-            depth: self.depth,
             length: last,
+            ..self
         }
     }
 
@@ -238,11 +210,19 @@ impl ScopeMap {
         requires { (i < self.length) × Roomy self.length t.now }
         ensures { live_of result ≡ row_at t.now i }
     {
-        Row {
-            name: t[3 * i],
-            layer: t[3 * i + 1],
-            value: t[3 * i + 2] % VALUES,
-        }
+        read(t, i)
+    }
+}
+
+// Row i is read.
+fn read(t: &[u32], i: usize) -> Row
+    requires { 3 * i + 3 ≤ length t.now }
+    ensures { live_of result ≡ row_at t.now i }
+{
+    Row {
+        name: t[3 * i],
+        layer: t[3 * i + 1],
+        value: t[3 * i + 2] % VALUES,
     }
 }
 
@@ -262,13 +242,13 @@ fn bound(t: &[u32], n: usize, name: u32) -> usize
 }
 
 // Row i is written.
-fn put(t: &mut [u32], i: usize, name: u32, layer: u32, value: u32, link: u32)
-    requires { (3 * i + 3 ≤ length t.old) × (value < values_most) × (link < links_most) }
-    ensures { t.new ≡ written t.old i name layer value link }
+fn put(t: &mut [u32], i: usize, row: Row, link: u32)
+    requires { (3 * i + 3 ≤ length t.old) × (row.value < values_most) × (link < links_most) }
+    ensures { t.new ≡ written t.old i row.name row.layer row.value link }
 {
-    t[3 * i] = name;
-    t[3 * i + 1] = layer;
-    t[3 * i + 2] = value + VALUES * link;
+    t[3 * i] = row.name;
+    t[3 * i + 1] = row.layer;
+    t[3 * i + 2] = row.value + VALUES * link;
 }
 
 // No row from row n on has the name.
@@ -282,13 +262,13 @@ fn set_hint(t: &mut [u32], name: u32, n: u32)
 }
 
 // A row enters after n rows.
-fn enter(t: &mut [u32], n: usize, name: u32, layer: u32, value: u32)
-    requires { Roomy (n + 1) t.old × (value < values_most) }
-    ensures { Enters t.old n name layer value t.new }
+fn enter(t: &mut [u32], n: usize, row: Row)
+    requires { Roomy (n + 1) t.old × (row.value < values_most) }
+    ensures { Enters t.old n row.name row.layer row.value t.new }
 {
-    let link = bound(t, n, name) as u32;
-    put(t, n, name, layer, value, link);
-    set_hint(t, name, n as u32 + 1);
+    let link = bound(t, n, row.name) as u32;
+    put(t, n, row, link);
+    set_hint(t, row.name, n as u32 + 1);
 }
 
 // Row n, the last, leaves: its name's hint is what it was before.
@@ -306,9 +286,7 @@ fn leave_rows(t: &mut [u32], i: usize, n: usize)
     requires { (i ≤ n) × Roomy n t.old }
     ensures { Leaves t.old i n t.new }
 {
-    let mut k = n;
-    while i < k {
-        k -= 1;
+    for k in (i..n).rev() {
         leave(t, k);
     }
 }
@@ -318,13 +296,8 @@ fn enter_rows(t: &mut [u32], i: usize, n: usize)
     requires { (i ≤ n) × Roomy (n + 1) t.old }
     ensures { Moves t.old i n t.new }
 {
-    let mut k = i;
-    while k < n {
-        let next = 3 * k + 3;
-        let name = t[next];
-        let layer = t[next + 1];
-        let value = t[next + 2] % VALUES;
-        enter(t, k, name, layer, value);
-        k += 1;
+    for k in i..n {
+        let row = read(t, k + 1);
+        enter(t, k, row);
     }
 }

@@ -5,34 +5,20 @@ ghost use Rattle.scope_map.specs.Hints.{Roomy};
 ghost use Rattle.scope_map.specs.Held.{Held};
 ghost use Rattle.scope_map_main.specs.States.{two_layers, replaced, Holds};
 
-use scope_map::{Distance, Found, ScopeMap};
+use scope_map::{Found, ScopeMap};
 use std::io;
 
-fn number(rt: &impl Print, n: u32) -> io::Result<()> {
-    print!(rt; "{n}")
-}
-
-fn show_found(rt: &impl Print, f: Found) -> io::Result<()> {
+fn show_found(rt: &impl Print, f: Option<Found>) -> io::Result<()> {
     match f {
-        Found::At {
-            row: _,
-            layer,
-            value,
-        } => {
-            print!(rt; " layer=")?;
-            number(rt, layer)?;
-            print!(rt; " value=")?;
-            number(rt, value)
-        }
-        Found::Nothing => print!(rt; " layer=- value=-"),
+        Some(found) => print!(rt; " layer={} value={}", found.layer, found.value),
+        None => print!(rt; " layer=- value=-"),
     }
 }
 
-fn show_distance(rt: &impl Print, d: Distance) -> io::Result<()> {
-    print!(rt; " down=")?;
+fn show_distance(rt: &impl Print, d: Option<u32>) -> io::Result<()> {
     match d {
-        Distance::Layers(n) => number(rt, n),
-        Distance::Nothing => print!(rt; "-"),
+        Some(layers) => print!(rt; " down={layers}"),
+        None => print!(rt; " down=-"),
     }
 }
 
@@ -48,19 +34,15 @@ fn show_row(rt: &impl Print, m: ScopeMap, t: &[u32; 13312], i: usize) -> io::Res
     requires { (i < m.length) × Roomy m.length t.now }
 {
     let row = m.row_at(t, i);
-    print!(rt; " ")?;
-    number(rt, row.name)
+    print!(rt; " {}", row.name)
 }
 
 // The names of the newest layer, in the order they were defined.
 fn show_newest_layer(rt: &impl Print, m: ScopeMap, t: &[u32; 13312]) -> io::Result<()>
     requires { Roomy m.length t.now }
 {
-    let mut i = m.newest_layer(t);
-    let end = m.length;
-    while i < end {
+    for i in m.newest_layer(t)..m.length {
         show_row(rt, m, t, i)?;
-        i += 1;
     }
     Ok(())
 }
@@ -68,8 +50,7 @@ fn show_newest_layer(rt: &impl Print, m: ScopeMap, t: &[u32; 13312]) -> io::Resu
 fn show(rt: &impl Print, m: ScopeMap, t: &[u32; 13312]) -> io::Result<()>
     requires { Roomy m.length t.now }
 {
-    print!(rt; "depth=")?;
-    number(rt, m.depth())?;
+    print!(rt; "depth={}", m.depth())?;
     show_name(rt, m, t, 7)?;
     print!(rt; " newest")?;
     show_newest_layer(rt, m, t)?;

@@ -1,38 +1,20 @@
 -- Whole rows of the facts, against their numbers. No place of the code stands here.
 use Rattle.std.specs.Prelude.{Option, None, Some}
 use Prim.Native.Nat.{ℕ, ◌+◌, ◌*◌}
-use mathlib.Core.List.{List, [], ◌∷◌}
+use mathlib.Core.List.{List}
 use mathlib.Core.Bool.{Bool, true, false, cond}
 use mathlib.Core.Path.{◌≡◌, refl, ap, sym, ◌∙◌}
 use native.Mathlib.Omega.{arith}
 use borrow.Author.Tests.{eq-eqb, ne_eqb}
-use lib.ListN.{get_or, drop, replicate}
-use lib.Seq.{sets}
+use lib.ListN.{get_or}
 use lib.Dec.{eqb}
-use Rattle.table.specs.Laws.Leaves.{stores_row, tells_number, tells_first}
+use Rattle.table.specs.Laws.Leaves.{tells_number, tells_first}
 use Rattle.semantic.specs.Information.{NONE}
-use Rattle.semantic.specs.Rows.{kind_number, call_number, self_number, Row, Blank, Variable, Function, CallSite, Let, row_width, put_row}
+use Rattle.semantic.specs.Rows.{kind_number, Row, Blank, Variable, Function, CallSite, Let, row_width, put_row}
 use Rattle.semantic.specs.Laws.Rows.{row_long}
 use Rattle.semantic.specs.Kinds.{is_identifier, refers_in}
 use Rattle.semantic.specs.Laws.Kinds.{kind_low, low_identifier}
-use Rattle.semantic.specs.Leaves.{Tells, StoresFilled}
-use Rattle.semantic.specs.declared.SemanticInformation.{SemanticInformation}
-use Rattle.semantic.specs.declared.CallSiteInformation.{CallSiteInformation}
-
-pub stores_filled : {F : List ℕ} {i : ℕ} {start row F' : List ℕ} → row ≡ sets (replicate row_width 0) 0 start → F' ≡ sets F (row_width * i) row
-    → StoresFilled F i start F'
-stores_filled {F} {i} e k = record { is = λ r q. stores_row row_width put_row row_long Blank F i r (k ∙ ap (sets F (row_width * i)) (e ∙ q)) }
-
--- a row but for the numbers that a call gave
-
-pub variable_row : (v : SemanticInformation) {n : ℕ} → n ≡ kind_number v.kind → n ∷ drop 1 (put_row (Variable v)) ≡ put_row (Variable v)
-unfolding put_row
-variable_row v e = ap (λ (n : ℕ). n ∷ drop 1 (put_row (Variable v))) e
-
-pub call_site_row : (v : CallSiteInformation) {n m : ℕ} → n ≡ call_number v.kind → m ≡ self_number v.kind
-    → sets (replicate row_width 0) 0 (10 ∷ n ∷ m ∷ v.span.start ∷ v.span.end ∷ []) ≡ put_row (CallSite v)
-unfolding put_row
-call_site_row v e f = rw (e, f)
+use Rattle.semantic.specs.Leaves.{Tells}
 
 -- what the row says by a test of its first number
 

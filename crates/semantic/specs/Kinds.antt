@@ -8,10 +8,6 @@ use Rattle.semantic.specs.declared.FunctionInformation.{FunctionInformation}
 use Rattle.semantic.specs.declared.LetInformation.{LetInformation}
 use Rattle.semantic.specs.declared.RowKind.{RowKind}
 use Rattle.semantic.specs.declared.RowKind.TheVariants as kind
-use Rattle.semantic.specs.declared.FoundFunction.{FoundFunction}
-use Rattle.semantic.specs.declared.FoundFunction.TheVariants as function
-use Rattle.semantic.specs.declared.FoundLet.{FoundLet}
-use Rattle.semantic.specs.declared.FoundLet.TheVariants as letin
 
 abbrev pub row_kind : Row → RowKind
 row_kind Blank = kind.Blank
@@ -65,15 +61,6 @@ let_in (Variable v) = None
 let_in (Function v) = None
 let_in (CallSite v) = None
 let_in (Let v) = Some v
-
--- what the code answers for them
-abbrev pub function_found : FoundFunction → Option FunctionInformation
-function_found (function.Found v) = Some v
-function_found function.Nothing = None
-
-abbrev pub let_found : FoundLet → Option LetInformation
-let_found (letin.Found v) = Some v
-let_found letin.Nothing = None
 
 abbrev pub is_call_site : Row → Bool
 is_call_site Blank = false

@@ -1,6 +1,5 @@
 -- What the functions that read and write rows promise; those that hold for every kind of table are of `table`.
-use Rattle.std.specs.Prelude.{ℕ, ◌+◌, ◌*◌, ◌<◌, List, true, ◌≡◌, length, get_or, set, replicate}
-use Rattle.std.proofs.lemmas.List.Edits.{sets}
+use Rattle.std.specs.Prelude.{ℕ, ◌+◌, ◌*◌, ◌<◌, List, true, ◌≡◌, length, get_or, set}
 use Rattle.table.specs.Layout.{layout}
 use Rattle.semantic.specs.Information.{NONE}
 use Rattle.semantic.specs.Rows.{Row, Blank, Variable, row_width, put_row, ListEntry, put_list_entry}
@@ -9,10 +8,6 @@ use Rattle.semantic.specs.Kinds.{is_identifier}
 use Rattle.semantic.specs.declared.SemanticInformation.{SemanticInformation}
 use Rattle.semantic.specs.declared.ScopeInfo.{ScopeInfo}
 pub use Rattle.table.specs.Leaves.{Stores, Amends, Tells}
-
--- the row that starts with these numbers, and has 0 from there on, is row i
-pub record StoresFilled (F : List ℕ) (i : ℕ) (start F' : List ℕ) : Type 0 where
-  pub is : (r : Row) → sets (replicate row_width 0) 0 start ≡ put_row r → Stores put_row F i r F'
 
 -- number j of row i is x now, if the row is an identifier's: so is its fact changed by any f that does this to the numbers
 pub record SetsNumber (F : List ℕ) (i j x : ℕ) (F' : List ℕ) : Type 0 where

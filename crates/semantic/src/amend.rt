@@ -8,7 +8,7 @@ ghost use Rattle.semantic.specs.Leaves.{Amends, SetsNumber, UsesFit};
 use crate::SemanticInformation;
 use crate::fields::{ROW, variable};
 use crate::kinds::{is_blank, is_variable};
-use crate::rows::store_information;
+use crate::rows::store;
 
 // Writes a number of the row, if that holds the fact of an identifier.
 fn set_number(facts: &mut [u32], at: usize, place: usize, x: u32)
@@ -76,7 +76,7 @@ pub fn use_or_store(facts: &mut [u32], at: usize, i: SemanticInformation)
     ensures { Amends put_row Blank (used_or i) facts.old at facts.new }
 {
     if is_blank(facts, at) {
-        store_information(facts, at, i);
+        store(facts, at, i);
     } else {
         one_use_more(facts, at);
     }

@@ -70,6 +70,10 @@ pub mod call {
     pub const KIND: usize = 1;
 
     pub const SELF_NUMBER: usize = 2;
+
+    pub const START: usize = 3;
+
+    pub const END: usize = 4;
 }
 
 // A captured or an argument entry.

@@ -1,14 +1,12 @@
 // What a row of the facts is, and what it says.
 ghost use Rattle.std.specs.Prelude.{◌≡◌, ◌+◌, ◌*◌, ◌≤◌, length, get_or};
 ghost use Rattle.semantic.specs.Rows.{Blank, row_width, put_row};
-ghost use Rattle.semantic.specs.Kinds.{row_kind, is_blank, is_identifier, refers_in, function_in, let_in, function_found, let_found};
+ghost use Rattle.semantic.specs.Kinds.{row_kind, is_blank, is_identifier, refers_in, function_in, let_in};
 ghost use Rattle.semantic.specs.Leaves.{Tells};
 
 use crate::fields::{ROW, function, lets, variable};
 use crate::rows::row_at;
-use crate::{
-    FoundFunction, FoundLet, FunctionInformation, LetInformation, ListAt, NONE, RowKind, fields,
-};
+use crate::{FunctionInformation, LetInformation, ListAt, NONE, RowKind, fields};
 
 // Whether the row holds no fact.
 pub fn is_blank(facts: &[u32], at: usize) -> bool
@@ -24,10 +22,7 @@ pub fn is_variable(facts: &[u32], at: usize) -> bool
     ensures { result ≡ is_identifier (get_or facts.now (row_width * at) 0) }
 {
     let first = facts[ROW * at];
-    if first == fields::BLANK {
-        return false;
-    }
-    first < fields::FUNCTION
+    first != fields::BLANK && first < fields::FUNCTION
 }
 
 pub fn row_kind(facts: &[u32], at: usize) -> RowKind
@@ -56,15 +51,15 @@ pub fn refers_at(facts: &[u32], at: usize) -> u32
 }
 
 // The fact of a lambda, if the row holds one.
-pub fn function_at(facts: &[u32], at: usize) -> FoundFunction
+pub fn function_at(facts: &[u32], at: usize) -> Option<FunctionInformation>
     requires { row_width * at + row_width ≤ length facts.now }
-    ensures { Tells put_row Blank function_in facts.now at (function_found result) }
+    ensures { Tells put_row Blank function_in facts.now at result }
 {
     if facts[ROW * at] != fields::FUNCTION {
-        return FoundFunction::Nothing;
+        return None;
     }
     let row = row_at(facts, at);
-    FoundFunction::Found(FunctionInformation {
+    Some(FunctionInformation {
         captured_vars: ListAt {
             first: row[function::CAPTURED_FIRST],
             length: row[function::CAPTURED_LENGTH],
@@ -80,15 +75,15 @@ pub fn function_at(facts: &[u32], at: usize) -> FoundFunction
 }
 
 // The fact of a let, if the row holds one.
-pub fn let_at(facts: &[u32], at: usize) -> FoundLet
+pub fn let_at(facts: &[u32], at: usize) -> Option<LetInformation>
     requires { row_width * at + row_width ≤ length facts.now }
-    ensures { Tells put_row Blank let_in facts.now at (let_found result) }
+    ensures { Tells put_row Blank let_in facts.now at result }
 {
     if facts[ROW * at] != fields::LET {
-        return FoundLet::Nothing;
+        return None;
     }
     let row = row_at(facts, at);
-    FoundLet::Found(LetInformation {
+    Some(LetInformation {
         stack_offset: row[lets::STACK_OFFSET],
         function_context: row[lets::FUNCTION_CONTEXT],
         arguments: ListAt {

@@ -3,9 +3,10 @@
 ghost use Rattle.std.specs.Prelude.{◌≡◌};
 ghost use Rattle.semantic.specs.Information.{new, shadows, with_usage_count, refers_to, aliases_to, mark_builtin, mark_required, with_offset, with_capture_index, with_read_capture_offset, with_heap_offset, with_read_heap_offset, with_captured_from_enclosing};
 
+// A number and no `Option`: a row holds it, and `Some` of it would be the same number as none.
 pub const NONE: u32 = 4294967295;
 
-#[derive(Clone, Copy)]
+#[derive(Clone, Copy, Debug, PartialEq, Eq)]
 pub enum IdentifierStatus {
     Global,
     Local,
@@ -17,14 +18,14 @@ pub enum IdentifierStatus {
 }
 
 // A place in the script, carried and never looked at.
-#[derive(Clone, Copy)]
+#[derive(Clone, Copy, Debug, PartialEq, Eq)]
 pub struct Span {
     pub start: u32,
     pub end: u32,
 }
 
 // The fact of an identifier: read, set or in a name's place.
-#[derive(Clone, Copy)]
+#[derive(Clone, Copy, Debug, PartialEq, Eq)]
 pub struct SemanticInformation {
     pub kind: IdentifierStatus,
     pub set_bang: bool,
@@ -47,6 +48,7 @@ pub struct SemanticInformation {
     pub is_required_identifier: bool,
 }
 
+// The Rust's builder methods: one of them for any field would take the field as a closure, and read no plainer where it is called.
 impl SemanticInformation {
     pub fn new(kind: IdentifierStatus, depth: u32, span: Span) -> Self
         ensures { result ≡ new kind depth span }
@@ -160,7 +162,7 @@ impl SemanticInformation {
 }
 
 // What is known of a bound name, as a captured or an argument entry keeps it.
-#[derive(Clone, Copy)]
+#[derive(Clone, Copy, Debug, PartialEq, Eq)]
 pub struct ScopeInfo {
     pub id: u32,
     pub captured: bool,
@@ -180,14 +182,14 @@ pub struct ScopeInfo {
 }
 
 // Some entries of a lent table, one after another.
-#[derive(Clone, Copy)]
+#[derive(Clone, Copy, Debug, PartialEq, Eq)]
 pub struct ListAt {
     pub first: u32,
     pub length: u32,
 }
 
 // The fact of a lambda.
-#[derive(Clone, Copy)]
+#[derive(Clone, Copy, Debug, PartialEq, Eq)]
 pub struct FunctionInformation {
     pub captured_vars: ListAt,
     pub arguments: ListAt,
@@ -196,7 +198,7 @@ pub struct FunctionInformation {
     pub depth: u32,
 }
 
-#[derive(Clone, Copy)]
+#[derive(Clone, Copy, Debug, PartialEq, Eq)]
 pub enum CallKind {
     Normal,
     TailCall,
@@ -205,7 +207,7 @@ pub enum CallKind {
 }
 
 // The fact of a call.
-#[derive(Clone, Copy)]
+#[derive(Clone, Copy, Debug, PartialEq, Eq)]
 pub struct CallSiteInformation {
     pub kind: CallKind,
     pub span: Span,
@@ -220,7 +222,7 @@ impl CallSiteInformation {
 }
 
 // The fact of a let: the height before it, the id of the lambda around it, and its names as they left.
-#[derive(Clone, Copy)]
+#[derive(Clone, Copy, Debug, PartialEq, Eq)]
 pub struct LetInformation {
     pub stack_offset: u32,
     pub function_context: u32,
@@ -240,26 +242,13 @@ impl LetInformation {
 }
 
 // What a row of the facts is.
-#[derive(Clone, Copy)]
+#[derive(Clone, Copy, Debug, PartialEq, Eq)]
 pub enum RowKind {
     Blank,
     Variable,
     Function,
     CallSite,
     Let,
-}
-
-// The fact of a lambda or a let, where a row holds one.
-#[derive(Clone, Copy)]
-pub enum FoundFunction {
-    Found(FunctionInformation),
-    Nothing,
-}
-
-#[derive(Clone, Copy)]
-pub enum FoundLet {
-    Found(LetInformation),
-    Nothing,
 }
 
 pub mod amend;

@@ -7,11 +7,11 @@ ghost use Rattle.semantic.specs.Leaves.{Amends, Tells, StoresListEntry};
 use crate::ScopeInfo;
 use crate::fields::{LIST_ENTRY, list_entry};
 
-// The yes-or-no fields, added together.
+// The yes-or-no fields, added together as docs/ROWS.md has them.
 fn marks(captured: bool, escapes: bool, enclosing: bool, mutated: bool) -> u32
     ensures { result ≡ marks captured escapes enclosing mutated }
 {
-    captured as u32 + 2 * (escapes as u32) + 4 * (enclosing as u32) + 8 * (mutated as u32)
+    u32::from(captured) + 2 * u32::from(escapes) + 4 * u32::from(enclosing) + 8 * u32::from(mutated)
 }
 
 pub fn store_list_entry(t: &mut [u32], i: usize, name: u32, info: ScopeInfo)

@@ -1,2 +1,1 @@
 pub mod AtomCase
-pub mod NameCase

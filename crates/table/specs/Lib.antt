@@ -1,4 +1,3 @@
-pub mod EntryExit
 pub mod Layout
 pub mod Leaves
 pub mod Region

@@ -10,22 +10,11 @@ pub fn wide(x: u32) -> usize
     x as usize
 }
 
-// A number of 16 bits alike.
-pub fn index(x: u16) -> usize
-    ensures { result ≡ x }
-{
-    x as usize
-}
-
 // Sets every number of the table to 0.
 pub fn clear(t: &mut [u32])
     ensures { t.new ≡ replicate (length t.old) 0 }
 {
-    let mut i = 0;
-    while i < t.len() {
-        t[i] = 0;
-        i += 1;
-    }
+    t.fill(0);
 }
 
 // Writes a row's numbers from the place `first` on.
@@ -33,11 +22,7 @@ pub fn put(t: &mut [u32], first: usize, row: &[u32])
     requires { first + length row.now ≤ length t.old }
     ensures { t.new ≡ sets t.old first row.now }
 {
-    let mut i = 0;
-    while i < row.len() {
-        t[first + i] = row[i];
-        i += 1;
-    }
+    t[first..first + row.len()].copy_from_slice(row);
 }
 
 // Reads a row's numbers, as many as `row` takes, from the place `first` on.
@@ -45,9 +30,5 @@ pub fn get(t: &[u32], first: usize, row: &mut [u32])
     requires { first + length row.old ≤ length t.now }
     ensures { row.new ≡ take (length row.old) (drop first t.now) }
 {
-    let mut i = 0;
-    while i < row.len() {
-        row[i] = t[first + i];
-        i += 1;
-    }
+    row.copy_from_slice(&t[first..first + row.len()]);
 }

@@ -1,6 +1,6 @@
 // The twelve forms: how many children a record has, how many of them are names, and whether it has an id. Tables are by form, from 0 to 12,
-// and 0 is no form.
-ghost use Rattle.std.specs.Prelude.{◌≡◌, true, ◌+◌, ◌*◌, ◌≤◌};
+// and 0 is no form. Forms are numbers, no enum: the records that are lent hold them, and document 01 asks for a `match` on them with ranges.
+ghost use Rattle.std.specs.Prelude.{◌≡◌, true, ◌+◌, ◌*◌, ◌≤◌, get_or};
 ghost use Rattle.tree.specs.Form.{form_of, names_of, children_of, is_form, has_id_in};
 
 use table::wide;
@@ -27,36 +27,31 @@ pub const WHEN: u32 = 11;
 
 pub const UNLESS: u32 = 12;
 
-// The children that every record has, and those that it has for each one counted.
-const FIXED: [u8; 13] = [0, 0, 0, 3, 1, 2, 1, 0, 0, 2, 0, 0, 0];
-
-const COUNTED: [u8; 13] = [0, 0, 0, 0, 2, 0, 1, 1, 1, 0, 1, 1, 1];
-
-// The names among them, alike. No `match` on the form here: forms come mixed, and a branch on one is often mispredicted (docs/SPEED.md, 32).
-const FIXED_NAMES: [u8; 13] = [0, 0, 0, 0, 0, 1, 0, 0, 0, 1, 0, 0, 0];
-
-const COUNTED_NAMES: [u8; 13] = [0, 0, 0, 0, 1, 0, 1, 0, 0, 0, 0, 0, 0];
-
-fn byte(x: u8) -> usize
-    ensures { result ≡ x }
-{
-    x as usize
+// A form's children, or the names among them: those that every record has, and those that it has for each one counted. No `match` on the form
+// here: forms come mixed, and a branch on one is often mispredicted (docs/SPEED.md, 32).
+struct Parts {
+    fixed: [u8; 13],
+    counted: [u8; 13],
 }
 
-// A fixed part, and another for each one counted.
-fn in_all(fixed: u8, counted: u8, count: u32) -> usize
-    ensures { result ≡ fixed + counted * count }
-{
-    byte(fixed) + byte(counted) * wide(count)
-}
+const CHILDREN: Parts = Parts {
+    fixed: [0, 0, 0, 3, 1, 2, 1, 0, 0, 2, 0, 0, 0],
+    counted: [0, 0, 0, 0, 2, 0, 1, 1, 1, 0, 1, 1, 1],
+};
 
-// The children by the two tables.
-fn looked_up(form: u32, count: u32) -> usize
-    requires { form ≤ 12 }
-    ensures { result ≡ children_of form count }
-{
-    let f = wide(form);
-    in_all(FIXED[f], COUNTED[f], count)
+const NAMES: Parts = Parts {
+    fixed: [0, 0, 0, 0, 0, 1, 0, 0, 0, 1, 0, 0, 0],
+    counted: [0, 0, 0, 0, 1, 0, 1, 0, 0, 0, 0, 0, 0],
+};
+
+impl Parts {
+    fn of(&self, form: u32, count: u32) -> usize
+        requires { form ≤ 12 }
+        ensures { result ≡ get_or self.now.fixed form 0 + get_or self.now.counted form 0 * count }
+    {
+        let f = wide(form);
+        usize::from(self.fixed[f]) + usize::from(self.counted[f]) * wide(count)
+    }
 }
 
 // How many children a record has; none where its form is unknown.
@@ -66,7 +61,7 @@ pub fn children(form: u32, count: u32) -> usize
     if FORMS < form {
         return 0;
     }
-    looked_up(form, count)
+    CHILDREN.of(form, count)
 }
 
 // The same where the form is known, which costs no test.
@@ -74,7 +69,7 @@ pub fn known_children(form: u32, count: u32) -> usize
     requires { is_form (form_of form) ≡ true }
     ensures { result ≡ children_of form count }
 {
-    looked_up(form, count)
+    CHILDREN.of(form, count)
 }
 
 // How many of the children are names, which stand first.
@@ -84,8 +79,7 @@ pub fn names(form: u32, count: u32) -> usize
     if FORMS < form {
         return 0;
     }
-    let f = wide(form);
-    in_all(FIXED_NAMES[f], COUNTED_NAMES[f], count)
+    NAMES.of(form, count)
 }
 
 // The id rule: whether a record of the form has an id.

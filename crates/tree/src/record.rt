@@ -43,6 +43,7 @@ fn field(rs: &[u32], i: usize, j: usize) -> u32
     rs[WIDTH * i + j]
 }
 
+// A function for each number: its contract names the field, which one function with the place as an argument or a const parameter would not.
 pub fn form(rs: &[u32], i: usize) -> u32
     requires { i < length (records rs.now) }
     ensures { result ≡ (nth rs.now i).form }

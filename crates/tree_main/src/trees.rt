@@ -1,17 +1,13 @@
 // Trees, each with its line.
-use crate::build::{LENGTH, Numbers};
+use crate::build::{Fault, GOOD, NAMES, RECORDS, Records};
 use crate::{build, say};
 use std::io;
 use table::wide;
-
-// The good tree's records and names.
-const GOOD: usize = 18;
-
-const NAMES: usize = 2;
+use tree::record::WIDTH;
 
 // So many constants.
 pub fn many(rt: &impl Print, n: usize) -> io::Result<()> {
-    let mut t = [0u32; LENGTH];
+    let mut t = [[0; WIDTH]; RECORDS];
     build::constants(&mut t, 0, n);
     say::number(rt, "constants", n)?;
     say::records(rt, &t, n, 0)
@@ -20,17 +16,16 @@ pub fn many(rt: &impl Print, n: usize) -> io::Result<()> {
 // A begin or a call of so many constants.
 pub fn counted(rt: &impl Print, form: u32, id: u32, count: u32) -> io::Result<()> {
     let n = wide(count) + 1;
-    let mut t = [0u32; LENGTH];
-    build::put(&mut t, 0, form, id, 0, count);
+    let mut t = [[0; WIDTH]; RECORDS];
+    t[0] = [form, id, 0, count, 0, 0];
     build::constants(&mut t, 1, n);
-    say::field(rt, 0, build::FORM, form)?;
-    say::number(rt, "count", wide(count))?;
+    print!(rt; "record=0 form={form} count={count} ")?;
     say::records(rt, &t, n, 0)
 }
 
 // Begins, each in the one before, and constants up to n records.
 pub fn nested(rt: &impl Print, begins: usize, n: usize) -> io::Result<()> {
-    let mut t = [0u32; LENGTH];
+    let mut t = [[0; WIDTH]; RECORDS];
     build::begins(&mut t, 0, begins);
     build::constants(&mut t, begins, n);
     say::number(rt, "begins", begins)?;
@@ -43,7 +38,7 @@ pub fn between(rt: &impl Print, begins: usize) -> io::Result<()> {
     if 64 < begins {
         return Ok(());
     }
-    let mut t = [0u32; LENGTH];
+    let mut t = [[0; WIDTH]; RECORDS];
     build::constants(&mut t, 0, 1);
     build::begins(&mut t, 1, begins + 1);
     build::constants(&mut t, begins + 1, begins + 3);
@@ -53,72 +48,49 @@ pub fn between(rt: &impl Print, begins: usize) -> io::Result<()> {
 
 // The good tree and constants up to n records.
 pub fn good_and(rt: &impl Print, n: usize) -> io::Result<()> {
-    let mut t = [0u32; LENGTH];
-    build::good(&mut t);
+    let mut t = build::good();
     build::constants(&mut t, GOOD, n);
     say::number(rt, "records", n)?;
     say::records(rt, &t, n, NAMES)
 }
 
+// The first n numbers of the tree.
+fn first(rt: &impl Print, t: &Records, n: usize, names: usize) -> io::Result<()> {
+    say::number(rt, "numbers", n)?;
+    say::number(rt, "names", names)?;
+    say::numbers(rt, t, n, names)
+}
+
 // The first n numbers of the good tree.
 pub fn part(rt: &impl Print, n: usize, names: usize) -> io::Result<()> {
-    let mut t = [0u32; LENGTH];
-    build::good(&mut t);
-    say::number(rt, "numbers", n)?;
-    say::number(rt, "names", names)?;
-    say::numbers(rt, &t, n, names)
+    first(rt, &build::good(), n, names)
 }
 
-// A field of record i is set.
-fn damage(rt: &impl Print, t: &mut Numbers, i: usize, field: usize, x: u32) -> io::Result<()> {
-    build::set(t, i, field, x);
-    say::field(rt, i, field, x)
+// Makes faults in the good tree.
+fn damage(rt: &impl Print, t: &mut Records, faults: &[Fault]) -> io::Result<()> {
+    for fault in faults {
+        fault.make(t);
+        print!(rt; "{fault} ")?;
+    }
+    Ok(())
 }
 
-// The good tree with one fault, with two, with one and not whole, and with one before begins that nest 65 deep.
-pub fn faulty(rt: &impl Print, i: usize, field: usize, x: u32) -> io::Result<()> {
-    let mut t = [0u32; LENGTH];
-    build::good(&mut t);
-    damage(rt, &mut t, i, field, x)?;
+// The good tree with faults, with one and not whole, and with one before begins that nest 65 deep.
+pub fn faulty(rt: &impl Print, faults: &[Fault]) -> io::Result<()> {
+    let mut t = build::good();
+    damage(rt, &mut t, faults)?;
     say::records(rt, &t, GOOD, NAMES)
 }
 
-pub fn faulty_twice(
-    rt: &impl Print,
-    i: usize,
-    field: usize,
-    x: u32,
-    j: usize,
-    other: usize,
-    y: u32,
-) -> io::Result<()> {
-    let mut t = [0u32; LENGTH];
-    build::good(&mut t);
-    damage(rt, &mut t, i, field, x)?;
-    damage(rt, &mut t, j, other, y)?;
-    say::records(rt, &t, GOOD, NAMES)
+pub fn faulty_part(rt: &impl Print, fault: Fault, n: usize, names: usize) -> io::Result<()> {
+    let mut t = build::good();
+    damage(rt, &mut t, &[fault])?;
+    first(rt, &t, n, names)
 }
 
-pub fn faulty_part(
-    rt: &impl Print,
-    i: usize,
-    field: usize,
-    x: u32,
-    n: usize,
-    names: usize,
-) -> io::Result<()> {
-    let mut t = [0u32; LENGTH];
-    build::good(&mut t);
-    damage(rt, &mut t, i, field, x)?;
-    say::number(rt, "numbers", n)?;
-    say::number(rt, "names", names)?;
-    say::numbers(rt, &t, n, names)
-}
-
-pub fn faulty_deep(rt: &impl Print, i: usize, field: usize, x: u32) -> io::Result<()> {
-    let mut t = [0u32; LENGTH];
-    build::good(&mut t);
-    damage(rt, &mut t, i, field, x)?;
+pub fn faulty_deep(rt: &impl Print, fault: Fault) -> io::Result<()> {
+    let mut t = build::good();
+    damage(rt, &mut t, &[fault])?;
     build::begins(&mut t, 18, 82);
     build::constants(&mut t, 82, 83);
     say::number(rt, "begins", 64)?;

@@ -1,4 +1,5 @@
 -- Let, as its function makes the calls: each on what the one before it gave back.
+use Rattle.std.specs.Prelude.{Option}
 use Prim.Native.Nat.{ℕ, ◌+◌, ◌*◌, ◌≤◌}
 use mathlib.Core.List.{List}
 use mathlib.Core.Path.{◌≡◌, ap, sym, subst, ◌∙◌}
@@ -34,7 +35,7 @@ module _ {a b : Pass} (e : a ≡ b) where
       → DoneRow values classes rs q k i g (raw a F C A w) n z → DoneRow values classes rs q k i g (raw b F C A w) n z
   visited {classes} {rs} {q} {F} {C} {A} {w} {k} {i} {n} {g} {z} d = subst (λ (p : Pass). DoneRow values classes rs q k i g (raw p F C A w) n z) e d
 
-  entered : {rs F C A w F₁ w₁ : List ℕ} {i h : ℕ} {n : Names} {f : Around} {p₁ : Pass}
+  entered : {rs F C A w F₁ w₁ : List ℕ} {i h : ℕ} {n : Names} {f : Option Around} {p₁ : Pass}
       → OpensLet rs i n h f a F C A w p₁ F₁ w₁ → OpensLet rs i n h f b F C A w p₁ F₁ w₁
   entered {rs} {F} {C} {A} {w} {F₁} {w₁} {i} {h} {n} {f} {p₁} d = subst (λ (p : Pass). OpensLet rs i n h f p F C A w p₁ F₁ w₁) e d
 

@@ -1,5 +1,6 @@
 -- What the functions over the top level promise: of every tree there, and of every accepted row of trees.
 use Rattle.std.specs.Prelude.{ℕ, ◌*◌, List, Bool, true, false, cond, ◌≡◌, length, drop}
+use Rattle.std.specs.Borrow.{Bor, MutBor}
 use Rattle.tree.specs.Record.{width}
 use Rattle.tree.specs.Tree.{Ident, Node, Tree, Trees, define, many, size, sizes}
 use Rattle.tree.specs.Core.{core}
@@ -20,8 +21,9 @@ use Rattle.work.specs.declared.Pass.{Pass}
 use Rattle.walk.specs.Contract.{body_of}
 use Rattle.walk.specs.declared.body.Body.{Body}
 use Rattle.names.specs.Contract.{NamesRoom}
-use Rattle.registers.specs.Registers.{pass_in}
+use Rattle.forms.specs.Contract.{DefineFits}
 use Rattle.visits.specs.Lent.{Slice, MutSlice, Loan, Lent, Kept}
+use Rattle.visits.specs.declared.Script.{Script}
 
 -- Names enter
 
@@ -97,23 +99,26 @@ pub record VisitsTops (classes rs : List ℕ) (z z' : Raw) : Type 0 where
 
 -- The same of what is lent
 
-abbrev pub MayEnterTop : (classes rs : Slice) → ℕ → (r facts work : MutSlice) → Type 0
-MayEnterTop cs rs at r f w = TopEnters (length cs.now) rs.now at (pass_in r.now) f.now w.now
+abbrev pub MayEnterTop : Bor Script → ℕ → MutBor Pass → (facts work : MutSlice) → Type 0
+MayEnterTop s at p f w = TopEnters (length s.now.classes.now) s.now.all.now at p.now f.now w.now
 
-abbrev pub HasEnteredTop : (classes rs : Loan Slice) → ℕ → (r facts work : Loan MutSlice) → Type 0
-HasEnteredTop cs rs at r f w =
-    EntersTop cs.entry.now rs.entry.now at (pass_in r.entry.now) f.entry.now w.entry.now (pass_in r.exit.now) f.exit.now w.exit.now
+abbrev pub HasEnteredTop : Loan (Bor Script) → ℕ → Loan (MutBor Pass) → (facts work : Loan MutSlice) → Type 0
+HasEnteredTop s at p f w =
+    EntersTop s.entry.now.classes.now s.entry.now.all.now at p.entry.now f.entry.now w.entry.now p.exit.now f.exit.now w.exit.now
 
-abbrev pub MayEnterTops : (tops classes rs : Slice) (r facts work : MutSlice) → Type 0
-MayEnterTops tops cs rs r f w = TellsStarts (length cs.now) rs.now tops.now × TopsEnter cs.now rs.now (pass_in r.now) f.now w.now
+abbrev pub MayEnterTops : Slice → Bor Script → MutBor Pass → (facts work : MutSlice) → Type 0
+MayEnterTops tops s p f w =
+    TellsStarts (length s.now.classes.now) s.now.all.now tops.now × TopsEnter s.now.classes.now s.now.all.now p.now f.now w.now
 
-abbrev pub HasEnteredTops : (classes rs : Loan Slice) (r facts work : Loan MutSlice) → Type 0
-HasEnteredTops cs rs r f w =
-    EntersTops cs.entry.now rs.entry.now (pass_in r.entry.now) f.entry.now w.entry.now (pass_in r.exit.now) f.exit.now w.exit.now
+abbrev pub HasEnteredTops : Loan (Bor Script) → Loan (MutBor Pass) → (facts work : Loan MutSlice) → Type 0
+HasEnteredTops s p f w =
+    EntersTops s.entry.now.classes.now s.entry.now.all.now p.entry.now f.entry.now w.entry.now p.exit.now f.exit.now w.exit.now
 
-abbrev pub HasBegunTop : (rs : Loan Slice) → ℕ → Body → (r facts work : Loan MutSlice) → Type 0
-HasBegunTop rs at b r f w =
-    BeforeTop rs.entry.now at b (pass_in r.entry.now) f.entry.now w.entry.now (pass_in r.exit.now) f.exit.now w.exit.now
+abbrev pub MayBeginTop : Bor Script → ℕ → MutBor Pass → (facts work : MutSlice) → Type 0
+MayBeginTop s at p f w = DefineFits s.now.all.now at p.now f.now w.now
+
+abbrev pub HasBegunTop : Loan (Bor Script) → ℕ → Body → Loan (MutBor Pass) → (facts work : Loan MutSlice) → Type 0
+HasBegunTop s at b p f w = BeforeTop s.entry.now.all.now at b p.entry.now f.entry.now w.entry.now p.exit.now f.exit.now w.exit.now
 
 abbrev pub MayVisitTop : Lent → Slice → ℕ → Type 0
 MayVisitTop l part at = TopFits l.classes l.rs part.now at l.raw

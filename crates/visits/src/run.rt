@@ -1,302 +1,138 @@
-// `run_with_scope`: a run over the top level. The visits have the tables by references to references (docs/SPEED.md, 45).
-ghost use Rattle.std.specs.Prelude.{◌≡◌, ◌-◌, ◌<◌, length, get_or};
+// `run_with_scope`: a run over the top level.
+ghost use Rattle.std.specs.Prelude.{◌≡◌, ◌<◌, length};
 ghost use Rattle.tree.specs.Starts.{TellsStarts};
 ghost use Rattle.work.specs.Tied.{raw};
-ghost use Rattle.forms.specs.Contract.{DefineFits};
-ghost use Rattle.registers.specs.Registers.{pass_in};
-ghost use Rattle.visits.specs.Lent.{lent_of, lent, loan_of, loan, inner, handed, form_at};
+ghost use Rattle.visits.specs.Lent.{lent, loan, form_at};
 ghost use Rattle.visits.specs.Runs.{Ready, Runs, MayRun, HasRun};
-ghost use Rattle.visits.specs.Tops.{leaves_top, MayEnterTop, HasEnteredTop, MayEnterTops, HasEnteredTops, HasBegunTop, MayVisitTop, HasVisitedTop, MayVisitTops, HasVisitedTops};
+ghost use Rattle.visits.specs.Tops.{MayEnterTop, HasEnteredTop, MayEnterTops, HasEnteredTops, MayBeginTop, HasBegunTop, leaves_top, MayVisitTop, HasVisitedTop, MayVisitTops, HasVisitedTops};
 
-use crate::visit::{visit, visit_body};
+use crate::{AnalysisPass, Script};
 use flags::Flags;
-use registers::{REGISTERS, load, set_context, store};
 use semantic::{IdentifierStatus, NONE};
 use steps::{enter_defines, enter_top_level_value};
-use table::{index, wide};
+use table::wide;
 use tree::form::{BEGIN, DEFINE};
 use tree::record::part_at;
 use walk::body::{Body, body_at, core_at};
 use work::Pass;
 
 // The lambda defines at top level enter first, also those directly in a top-level begin.
-fn enter_top(
-    classes: &[u8],
-    all: &[u32],
-    at: usize,
-    r: &mut [usize; REGISTERS],
-    facts: &mut [u32],
-    work: &mut [u32],
-)
-    requires { MayEnterTop classes all at r facts work }
-    ensures { HasEnteredTop classes all at r facts work }
+fn enter_top(s: &Script, at: usize, p: &mut Pass, facts: &mut [u32], work: &mut [u32])
+    requires { MayEnterTop s at p facts work }
+    ensures { HasEnteredTop s at p facts work }
 {
-    let top = core_at(all, at);
-    let form = tree::record::form(all, top);
+    let top = core_at(s.all, at);
+    let form = tree::record::form(s.all, top);
     if form == BEGIN {
-        let count = wide(tree::record::count(all, top));
-        enter_defines(
-            classes,
-            all,
-            top + 1,
-            count,
-            IdentifierStatus::Global,
-            r,
-            facts,
-            work,
-        );
+        let count = wide(tree::record::count(s.all, top));
+        let kind = IdentifierStatus::Global;
+        enter_defines(s.classes, s.all, top + 1, count, kind, p, facts, work);
         return;
     }
     if form == DEFINE {
-        enter_defines(
-            classes,
-            all,
-            top,
-            1,
-            IdentifierStatus::Global,
-            r,
-            facts,
-            work,
-        );
+        let kind = IdentifierStatus::Global;
+        enter_defines(s.classes, s.all, top, 1, kind, p, facts, work);
     }
 }
 
-// The record at which tree i starts.
-fn start(tops: &[u16], i: usize) -> usize
-    requires { i < length tops.now }
-    ensures { result ≡ get_or tops.now i 0 }
+// The table of starts ends with the number of records.
+fn enter_tops(tops: &[u16], s: &Script, p: &mut Pass, facts: &mut [u32], work: &mut [u32])
+    requires { MayEnterTops tops s p facts work }
+    ensures { HasEnteredTops s p facts work }
 {
-    index(tops[i])
-}
-
-fn enter_tops(
-    tops: &[u16],
-    classes: &[u8],
-    all: &[u32],
-    r: &mut [usize; REGISTERS],
-    facts: &mut [u32],
-    work: &mut [u32],
-)
-    requires { MayEnterTops tops classes all r facts work }
-    ensures { HasEnteredTops classes all r facts work }
-{
-    let n = tree::record::len(all);
-    let mut i = 0;
-    let mut at = start(tops, i);
-    while at < n {
-        enter_top(classes, all, at, r, facts, work);
-        i += 1;
-        at = start(tops, i);
+    let n = tree::record::len(s.all);
+    for &top in tops {
+        let at = usize::from(top);
+        if n <= at {
+            return;
+        }
+        enter_top(s, at, p, facts, work);
     }
 }
 
 // A value define enters before its body; a lambda define is the context of its body.
 fn before_top_define(
-    all: &[u32],
+    s: &Script,
     at: usize,
     b: Body,
-    r: &mut [usize; REGISTERS],
+    p: &mut Pass,
     facts: &mut [u32],
     work: &mut [u32],
 )
-    requires { DefineFits all.now at (pass_in r.old) facts.old work.old }
-    ensures { HasBegunTop all at b r facts work }
+    requires { MayBeginTop s at p facts work }
+    ensures { HasBegunTop s at b p facts work }
 {
     if b.lambda {
-        set_context(r, tree::record::id(all, at + 1));
+        p.context = tree::record::id(s.all, at + 1);
         return;
     }
-    enter_top_level_value(all, at + 1, b, r, facts, work);
+    enter_top_level_value(s.all, at + 1, b, p, facts, work);
 }
 
-fn after_top_define(lambda: bool, r: &mut [usize; REGISTERS])
-    ensures { pass_in r.new ≡ leaves_top lambda (pass_in r.old) }
+fn after_top_define(lambda: bool, p: &mut Pass)
+    ensures { p.new ≡ leaves_top lambda p.old }
 {
     if lambda {
-        set_context(r, NONE);
+        p.context = NONE;
     }
 }
 
-fn visit_top_define(
-    classes: &&[u8],
-    all: &&[u32],
-    rs: &[u32],
-    at: usize,
-    r: &mut [usize; REGISTERS],
-    facts: &mut &mut [u32],
-    captured: &mut &mut [u32],
-    arguments: &mut &mut [u32],
-    work: &mut &mut [u32],
-) -> usize
-    requires { MayVisitTop (lent classes all r facts captured arguments work) rs at × (form_at all at ≡ 5) }
-    ensures { HasVisitedTop (loan classes all r facts captured arguments work) rs at result }
-{
-    let b = body_at(*classes, *all, at + 2);
-    before_top_define(*all, at, b, r, *facts, *work);
-    let p = part_at(rs, 2);
-    let n = at + 2;
-    let f = Flags::top();
-    let o = visit_body(classes, all, p, n, f, r, facts, captured, arguments, work);
-    after_top_define(b.lambda, r);
-    2 + o
-}
-
-fn visit_top(
-    classes: &&[u8],
-    all: &&[u32],
-    rs: &[u32],
-    at: usize,
-    r: &mut [usize; REGISTERS],
-    facts: &mut &mut [u32],
-    captured: &mut &mut [u32],
-    arguments: &mut &mut [u32],
-    work: &mut &mut [u32],
-) -> usize
-    requires { MayVisitTop (lent classes all r facts captured arguments work) rs at }
-    ensures { HasVisitedTop (loan classes all r facts captured arguments work) rs at result }
-{
-    if tree::record::form(rs, 0) == DEFINE {
-        return visit_top_define(classes, all, rs, at, r, facts, captured, arguments, work);
+impl AnalysisPass<'_> {
+    fn visit_top_define(&mut self, s: &Script, rs: &[u32], at: usize) -> usize
+        requires { MayVisitTop (lent s self) rs at × (form_at s at ≡ 5) }
+        ensures { HasVisitedTop (loan s self) rs at result }
+    {
+        let b = body_at(s.classes, s.all, at + 2);
+        before_top_define(s, at, b, &mut self.pass, self.facts, self.work);
+        let p = part_at(rs, 2);
+        let n = at + 2;
+        let f = Flags::top();
+        let o = self.visit_body(s, p, n, f);
+        after_top_define(b.lambda, &mut self.pass);
+        2 + o
     }
-    let f = Flags::top();
-    visit(classes, all, rs, at, f, r, facts, captured, arguments, work)
-}
 
-fn one_less(k: usize) -> usize
-    ensures { result ≡ k - 1 }
-{
-    if k == 0 {
-        return 0;
-    }
-    k - 1
-}
-
-// A top-level begin is passed by: its children stand at top level. `inside` are those still to come.
-fn visit_tops(
-    classes: &&[u8],
-    all: &&[u32],
-    r: &mut [usize; REGISTERS],
-    facts: &mut &mut [u32],
-    captured: &mut &mut [u32],
-    arguments: &mut &mut [u32],
-    work: &mut &mut [u32],
-)
-    requires { MayVisitTops (lent classes all r facts captured arguments work) }
-    ensures { HasVisitedTops (loan classes all r facts captured arguments work) }
-{
-    let rs = *all;
-    let n = tree::record::len(rs);
-    let mut at = 0;
-    let mut inside = 0;
-    while at < n {
-        let top = core_at(rs, at);
-        if inside == 0 && tree::record::form(rs, top) == BEGIN {
-            inside = wide(tree::record::count(rs, top));
-            at = top + 1;
-            continue;
+    fn visit_top(&mut self, s: &Script, rs: &[u32], at: usize) -> usize
+        requires { MayVisitTop (lent s self) rs at }
+        ensures { HasVisitedTop (loan s self) rs at result }
+    {
+        if tree::record::form(rs, 0) == DEFINE {
+            return self.visit_top_define(s, rs, at);
         }
-        let p = part_at(rs, top);
-        let used = visit_top(classes, all, p, top, r, facts, captured, arguments, work);
-        at = top + used;
-        inside = one_less(inside);
+        self.visit(s, rs, at, Flags::top())
     }
-}
 
-// The names at top level enter, then its trees are visited.
-fn run_lent(
-    tops: &[u16],
-    classes: &&[u8],
-    all: &&[u32],
-    r: &mut [usize; REGISTERS],
-    facts: &mut &mut [u32],
-    captured: &mut &mut [u32],
-    arguments: &mut &mut [u32],
-    work: &mut &mut [u32],
-)
-    requires { MayRun tops (lent classes all r facts captured arguments work) }
-    ensures { HasRun (loan classes all r facts captured arguments work) }
-{
-    enter_tops(tops, *classes, *all, r, *facts, *work);
-    visit_tops(classes, all, r, facts, captured, arguments, work);
-}
+    // A top-level begin is passed by: its children stand at top level. `inside` are those still to come. No range: the next tree starts where
+    // this one ends.
+    fn visit_tops(&mut self, s: &Script)
+        requires { MayVisitTops (lent s self) }
+        ensures { HasVisitedTops (loan s self) }
+    {
+        let n = tree::record::len(s.all);
+        let mut at = 0;
+        let mut inside: usize = 0;
+        while at < n {
+            let top = core_at(s.all, at);
+            if inside == 0 && tree::record::form(s.all, top) == BEGIN {
+                inside = wide(tree::record::count(s.all, top));
+                at = top + 1;
+                continue;
+            }
+            let p = part_at(s.all, top);
+            let used = self.visit_top(s, p, top);
+            at = top + used;
+            inside = inside.saturating_sub(1);
+        }
+    }
 
-// Each of these lends a table by a reference to its reference, as the visits want it (docs/SPEED.md, 45), and hands the table back. The local is moved
-// first: a loan of it would be another reference than the one that was lent.
-
-fn lend_work<'a>(
-    tops: &[u16],
-    classes: &&[u8],
-    all: &&[u32],
-    r: &mut [usize; REGISTERS],
-    facts: &mut &mut [u32],
-    captured: &mut &mut [u32],
-    arguments: &mut &mut [u32],
-    work: &'a mut [u32],
-) -> &'a mut [u32]
-    requires { MayRun tops (lent_of classes all r facts.old captured.old arguments.old work) }
-    ensures { HasRun (loan_of classes all r (inner facts) (inner captured) (inner arguments) (handed work result)) }
-{
-    let mut lent = work;
-    run_lent(tops, classes, all, r, facts, captured, arguments, &mut lent);
-    let back = lent;
-    back
-}
-
-fn lend_arguments<'a>(
-    tops: &[u16],
-    classes: &&[u8],
-    all: &&[u32],
-    r: &mut [usize; REGISTERS],
-    facts: &mut &mut [u32],
-    captured: &mut &mut [u32],
-    arguments: &'a mut [u32],
-    work: &mut [u32],
-) -> &'a mut [u32]
-    requires { MayRun tops (lent_of classes all r facts.old captured.old arguments work) }
-    ensures { HasRun (loan_of classes all r (inner facts) (inner captured) (handed arguments result) work) }
-{
-    let mut lent = arguments;
-    lend_work(tops, classes, all, r, facts, captured, &mut lent, work);
-    let back = lent;
-    back
-}
-
-fn lend_captured<'a>(
-    tops: &[u16],
-    classes: &&[u8],
-    all: &&[u32],
-    r: &mut [usize; REGISTERS],
-    facts: &mut &mut [u32],
-    captured: &'a mut [u32],
-    arguments: &mut [u32],
-    work: &mut [u32],
-) -> &'a mut [u32]
-    requires { MayRun tops (lent_of classes all r facts.old captured arguments work) }
-    ensures { HasRun (loan_of classes all r (inner facts) (handed captured result) arguments work) }
-{
-    let mut lent = captured;
-    lend_arguments(tops, classes, all, r, facts, &mut lent, arguments, work);
-    let back = lent;
-    back
-}
-
-fn lend_facts<'a>(
-    tops: &[u16],
-    classes: &&[u8],
-    all: &&[u32],
-    r: &mut [usize; REGISTERS],
-    facts: &'a mut [u32],
-    captured: &mut [u32],
-    arguments: &mut [u32],
-    work: &mut [u32],
-) -> &'a mut [u32]
-    requires { MayRun tops (lent_of classes all r facts captured arguments work) }
-    ensures { HasRun (loan_of classes all r (handed facts result) captured arguments work) }
-{
-    let mut lent = facts;
-    lend_captured(tops, classes, all, r, &mut lent, captured, arguments, work);
-    let back = lent;
-    back
+    // The names at top level enter, then its trees are visited.
+    fn run(&mut self, s: &Script, tops: &[u16])
+        requires { MayRun tops (lent s self) }
+        ensures { HasRun (loan s self) }
+    {
+        enter_tops(tops, s, &mut self.pass, self.facts, self.work);
+        self.visit_tops(s);
+    }
 }
 
 pub fn run_with_scope(
@@ -314,10 +150,14 @@ pub fn run_with_scope(
     ensures { Runs classes.now all.now (raw p facts.old captured.old arguments.old work.old)
         (raw result facts.new captured.new arguments.new work.new) }
 {
-    let mut r = [0; REGISTERS];
-    store(&mut r, p);
-    let kinds = &*classes;
-    let rs = &*all;
-    lend_facts(tops, &kinds, &rs, &mut r, facts, captured, arguments, work);
-    load(&r)
+    let s = Script { classes, all };
+    let mut a = AnalysisPass {
+        pass: p,
+        facts,
+        captured,
+        arguments,
+        work,
+    };
+    a.run(&s, tops);
+    a.pass
 }

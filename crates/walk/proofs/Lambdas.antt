@@ -1,31 +1,28 @@
 -- `holds_lambda`: the lambdas among a tree's records.
-use Prim.Native.Nat.{ℕ, ◌+◌, ◌≤◌, ◌<◌}
+use Prim.Native.Nat.{ℕ, ◌-◌}
 use mathlib.Core.List.{List, [], ◌∷◌, ◌++◌, map}
-use mathlib.Core.Bool.{Bool, true, false, ◌||◌, or_assoc}
-use mathlib.Core.Path.{◌≡◌, refl, ap, ap₂, sym, ◌∙◌}
+use mathlib.Core.Bool.{Bool, true, false, ◌||◌}
+use mathlib.Core.Path.{◌≡◌, refl, ap, ap₂, ◌∙◌}
 use native.Mathlib.Omega.{arith}
-use borrow.Author.Tests.{eq-eqb, ne_eqb}
 use lib.Dec.{eqb}
+use Rattle.std.specs.List.{list_any, range_with_len}
+use Rattle.std.proofs.lemmas.List.Folds.{list_any-append}
+use Rattle.tree.proofs.Laws.Stands.{tree_inside}
 use Rattle.tree.specs.Record.{Record, nth}
 use Rattle.tree.specs.Tree.{Ident, Tree, Trees, ident, const, if, letin, define, lambda, sequence, call, set!, nil, cons, named, flat, flats, begins, ands, whens}
 use Rattle.pass.specs.Lambda.{holds_lambda, holds_lambda_in}
 use Rattle.walk.specs.Contract.{SomeBody, HoldsLambda}
-use Rattle.walk.proofs.Slice.{slice_tree}
-use Rattle.walk.proofs.Search as search
+use Rattle.walk.proofs.Slice.{slice_tree, any_slice}
 
-abbrev test : ℕ → Record → Bool
-test d r = eqb r.form 6
-
-abbrev step : ℕ → Record → ℕ
-step d r = d
+abbrev is_lambda : Record → Bool
+is_lambda r = eqb r.form 6
 
 -- whether a lambda's record is among them
 abbrev any : List Record → Bool
-any l = search.scan test step 0 l
+any = list_any is_lambda
 
 any_append : (l m : List Record) → any (l ++ m) ≡ any l || any m
-any_append [] m = refl
-any_append (r ∷ l) m = ap (λ (b : Bool). test 0 r || b) (any_append l m) ∙ sym (or_assoc (test 0 r) (any l) (any m))
+any_append = list_any-append is_lambda
 
 any-names : (xs : List Ident) (l : List Record) → any (map named xs ++ l) ≡ any l
 any-names [] l = refl
@@ -54,22 +51,8 @@ mutual
   any_flats nil = refl
   any_flats (cons t ts) = any_append (flat t) (flats ts) ∙ ap₂ ◌||◌ (any_flat t) (any_flats ts)
 
-module _ (rs : List ℕ) (first stop : ℕ) where
-  abbrev pub Passed : ℕ → Type 0
-  Passed i = search.Upto test step rs first stop 0 i
-
-  pub start : SomeBody rs first stop → Passed first
-  start = search.start test step rs first stop
-
-  answers : {r : Bool} → r ≡ search.whole test step rs first stop → HoldsLambda rs first stop r
-  answers e = record { is = λ N t s k. e ∙ ap any (slice_tree s k) ∙ any_flat t }
-
-  module _ {i f : ℕ} (a : Passed i) (ef : f ≡ (nth rs i).form) (h : i < stop) where
-    pub found : f ≡ 6 → HoldsLambda rs first stop true
-    found e = answers (search.hit test step a (omega arith) (eq-eqb (nth rs i).form 6 (sym ef ∙ e)))
-
-    pub next : (f ≡ 6 → ⊥) → Passed (i + 1)
-    next g = search.next test step a (omega arith) (ne_eqb (nth rs i).form 6 (λ e. g (ef ∙ e))) refl refl (omega arith)
-
-  pub end : {i : ℕ} → Passed i → stop ≤ i → HoldsLambda rs first stop false
-  end a h = answers (search.end test step a (omega arith))
+pub holds_any : (rs : List ℕ) (first stop : ℕ) → SomeBody rs first stop → {r : Bool}
+    → r ≡ list_any (λ i. is_lambda (nth rs i)) (range_with_len first (stop - first)) → HoldsLambda rs first stop r
+holds_any rs first stop h e = record {
+  is = λ N t s k. e ∙ any_slice rs is_lambda first (stop - first) (omega (arith, tree_inside h.stands, h.ends)) ∙ ap any (slice_tree s k) ∙ any_flat t;
+}

@@ -4,7 +4,6 @@ pub mod Slice
 pub mod Search
 pub mod Names
 pub mod Lambdas
-pub mod Binding
 pub mod UsedNames
 pub mod Marking
 pub mod Span

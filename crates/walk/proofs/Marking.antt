@@ -1,55 +1,17 @@
 -- `mark_uses`: for each name the marks have, what `uses_name` would find; a mark once set stays.
 use Prim.Native.Nat.{ℕ, ◌+◌, ◌-◌, ◌≤◌, ◌<◌}
 use mathlib.Core.List.{List}
-use mathlib.Core.Bool.{Bool, true, false, false≢true, ◌&&◌, ◌||◌}
-use mathlib.Core.Path.{◌≡◌, refl, ap, sym, subst, ◌∙◌}
+use mathlib.Core.Bool.{Bool, true, false, false≢true, ◌||◌}
+use mathlib.Core.Path.{◌≡◌, refl, sym, subst, ◌∙◌}
 use native.Mathlib.Omega.{arith}
-use borrow.Author.Tests.{eqb-true, eqb-false, eq-eqb, ne_eqb}
-use lib.ListN.{length, set}
-use lib.Seq.{get_or-set_same, get_or-set_other}
+use borrow.Author.Tests.{eqb-true, eqb-false}
+use lib.ListN.{length}
 use lib.Dec.{eqb}
-use Rattle.tree.specs.Record.{Record, nth}
+use Rattle.tree.specs.Record.{nth}
 use Rattle.walk.specs.Bound.{is_named, bound_by}
 use Rattle.walk.specs.Contract.{SomeBody, UsesName}
-use Rattle.walk.specs.Marks.{is_marked, Unmarked, MarksName, MarksNamed, MarksRecord, MarksUses}
+use Rattle.walk.specs.Marks.{is_marked, Unmarked, MarksNamed, MarksRecord, MarksUses}
 use Rattle.walk.proofs.UsedNames.{Passed, start, found, next, pass, end}
-
--- One mark
-
-module _ {m : List ℕ} {y : ℕ} where
-  pub mark_in_lem : MarksName m y (set m y 1)
-  mark_in_lem = record { is = λ x h. go x h (eqb x y) refl }
-    where
-      go : (x : ℕ) → x < length m → (q : Bool) → eqb x y ≡ q → is_marked (set m y 1) x ≡ (q || is_marked m x)
-      go x h true e =
-          let z : y ≡ x = sym (eqb-true x y e) in
-          ap (λ (i : ℕ). is_marked (set m i 1) x) z ∙ ap (λ (n : ℕ). eqb n 1) (get_or-set_same m x 1 0 h)
-      go x h false e = ap (λ (n : ℕ). eqb n 1) (get_or-set_other m y x 1 0 (eqb-false x y e))
-
-  pub mark_past : length m ≤ y → MarksName m y m
-  mark_past g = record { is = λ x h. ap (λ (q : Bool). q || is_marked m x) (sym (ne_eqb x y (λ e. omega arith))) }
-
--- That of a record
-
-module _ {r : Record} {m : List ℕ} {f : ℕ} (ef : f ≡ r.form) where
-  pub named_no : (f ≡ 1 → ⊥) → MarksNamed r m m
-  named_no h = record { is = λ x k. ap (λ (q : Bool). (q && eqb x r.name) || is_marked m x) (sym (ne_eqb r.form 1 (λ e. h (ef ∙ e)))) }
-
-  pub named_yes : f ≡ 1 → {y : ℕ} → y ≡ r.name → {m' : List ℕ} → MarksName m y m' → MarksNamed r m m'
-  named_yes h e k = record {
-    is = λ x g.
-        k.is x g
-        ∙ ap (λ (n : ℕ). eqb x n || is_marked m x) e
-        ∙ ap (λ (q : Bool). (q && eqb x r.name) || is_marked m x) (sym (eq-eqb r.form 1 (sym ef ∙ h)));
-  }
-
--- With or without names due
-
-pub record_due : {r : Record} {d n : ℕ} {m : List ℕ} → 0 < d → n ≡ d - 1 → MarksRecord r d m n m
-record_due h e = record { none = λ z. absurd (omega arith); some = λ g. (refl, e) }
-
-pub record_free : {r : Record} {d n : ℕ} {m m' : List ℕ} → d ≤ 0 → MarksNamed r m m' → n ≡ bound_by r → MarksRecord r d m n m'
-record_free h k e = record { none = λ z. (k, e); some = λ g. absurd (omega arith) }
 
 -- The loop
 

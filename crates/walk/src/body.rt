@@ -8,6 +8,16 @@ use semantic::NONE;
 use table::wide;
 use tree::form::{AND, CALL, IDENTIFIER, LAMBDA};
 
+// The classes of a name: bits of its byte in the table that C lends, so numbers and no enum.
+pub const PRELUDE: u8 = 1;
+
+const MODULE_GETTER: u8 = 2;
+
+const MODULE_NAME: u8 = 4;
+
+const HASH_GETTER: u8 = 8;
+
+// What a define's body is. `alias` is the number that the define's fact stores, NONE for none: an Option would be taken apart there at once.
 #[derive(Clone, Copy)]
 pub struct Body {
     pub builtin: bool,
@@ -37,6 +47,7 @@ pub fn core_at(all: &[u32], at: usize) -> usize
     ensures { Reaches all.now at result }
 {
     let mut i = at;
+    // No range: where the ands end, no count tells.
     while is_and_of_one(all, i) {
         i += 1;
     }
@@ -60,10 +71,10 @@ fn is_builtin(classes: &[u8], all: &[u32], at: usize) -> bool
         return false;
     }
     let h = core_at(all, at + 1);
-    if !is_ident_of(classes, all, h, 2) {
+    if !is_ident_of(classes, all, h, MODULE_GETTER) {
         return false;
     }
-    is_ident_of(classes, all, core_at(all, h + 1), 4)
+    is_ident_of(classes, all, core_at(all, h + 1), MODULE_NAME)
 }
 
 fn plain_body(alias: u32, lambda: bool) -> Body
@@ -88,7 +99,7 @@ fn form_at(classes: &[u8], all: &[u32], at: usize) -> Body
         LAMBDA => plain_body(NONE, true),
         CALL => Body {
             builtin: is_builtin(classes, all, at),
-            required: is_ident_of(classes, all, core_at(all, at + 1), 8),
+            required: is_ident_of(classes, all, core_at(all, at + 1), HASH_GETTER),
             alias: NONE,
             lambda: false,
         },

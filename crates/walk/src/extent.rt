@@ -7,6 +7,7 @@ pub fn extent_at(all: &[u32], at: usize) -> usize
 {
     let mut open = 1;
     let mut i = at;
+    // No range: where the tree ends, only its records tell.
     while 0 < open {
         open = open - 1 + tree::record::known_children(all, i);
         i += 1;

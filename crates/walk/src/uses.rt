@@ -1,10 +1,11 @@
 // Which names the records of an expression use, and whether a lambda stands among them.
-ghost use Rattle.std.specs.Prelude.{◌≡◌, ◌<◌, length};
+ghost use Rattle.std.specs.Prelude.{◌≡◌, ◌+◌, ◌^◌, ◌<◌, length};
 ghost use Rattle.tree.specs.Record.{records, nth};
 ghost use Rattle.walk.specs.Bound.{is_named, bound_by};
 ghost use Rattle.walk.specs.Contract.{SomeBody, UsesName, HoldsLambda, SomeNames, HoldsName};
 ghost use Rattle.walk.specs.Marks.{Unmarked, MarksName, MarksNamed, MarksRecord, MarksUses};
 
+use std::ops::Range;
 use table::wide;
 use tree::form::{IDENTIFIER, LAMBDA, SET};
 
@@ -15,20 +16,22 @@ pub struct Names {
     pub count: usize,
 }
 
+impl Names {
+    // The records of the names.
+    pub fn records(self) -> Range<usize>
+        requires { self.first + self.count < 2 ^ 64 }
+        ensures { result ≡ record { start = self.first; end = self.first + self.count } }
+    {
+        self.first..self.first + self.count
+    }
+}
+
 // Whether one of the names is x.
 pub fn holds(all: &[u32], names: Names, x: u32) -> bool
     requires { SomeNames all.now names }
     ensures { HoldsName all.now names x result }
 {
-    let first = names.first;
-    let mut i = 0;
-    while i < names.count {
-        if tree::record::name(all, first + i) == x {
-            return true;
-        }
-        i += 1;
-    }
-    false
+    names.records().any(|i| x == tree::record::name(all, i))
 }
 
 // Whether the record is an identifier of the name.
@@ -58,8 +61,7 @@ pub fn uses_name(all: &[u32], first: usize, end: usize, name: u32) -> bool
     ensures { UsesName all.now first end name result }
 {
     let mut due = 0;
-    let mut i = first;
-    while i < end {
+    for i in first..end {
         if due == 0 {
             if is_named(all, i, name) {
                 return true;
@@ -68,7 +70,6 @@ pub fn uses_name(all: &[u32], first: usize, end: usize, name: u32) -> bool
         } else {
             due -= 1;
         }
-        i += 1;
     }
     false
 }
@@ -77,10 +78,9 @@ pub fn uses_name(all: &[u32], first: usize, end: usize, name: u32) -> bool
 pub fn mark(marks: &mut [u8], x: usize)
     ensures { MarksName marks.old x marks.new }
 {
-    if marks.len() <= x {
-        return;
+    if x < marks.len() {
+        marks[x] = 1;
     }
-    marks[x] = 1;
 }
 
 // Marks the record's name, if the record is an identifier.
@@ -88,10 +88,9 @@ fn mark_named(all: &[u32], i: usize, marks: &mut [u8])
     requires { i < length (records all.now) }
     ensures { MarksNamed (nth all.now i) marks.old marks.new }
 {
-    if tree::record::form(all, i) != IDENTIFIER {
-        return;
+    if tree::record::form(all, i) == IDENTIFIER {
+        mark(marks, wide(tree::record::name(all, i)));
     }
-    mark(marks, wide(tree::record::name(all, i)));
 }
 
 // Passes record i, with so many names due; answers how many then are.
@@ -112,10 +111,8 @@ pub fn mark_uses(all: &[u32], first: usize, end: usize, marks: &mut [u8])
     ensures { MarksUses all.now first end marks.new }
 {
     let mut due = 0;
-    let mut i = first;
-    while i < end {
+    for i in first..end {
         due = mark_record(all, i, due, marks);
-        i += 1;
     }
 }
 
@@ -123,12 +120,5 @@ pub fn holds_lambda(all: &[u32], first: usize, end: usize) -> bool
     requires { SomeBody all.now first end }
     ensures { HoldsLambda all.now first end result }
 {
-    let mut i = first;
-    while i < end {
-        if tree::record::form(all, i) == LAMBDA {
-            return true;
-        }
-        i += 1;
-    }
-    false
+    (first..end).any(|i| tree::record::form(all, i) == LAMBDA)
 }

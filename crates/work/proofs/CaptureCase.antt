@@ -1,5 +1,5 @@
 -- The captures, against the map of the code and their rows.
-use Rattle.std.specs.Prelude.{Some}
+use Rattle.std.specs.Prelude.{Option, Some}
 use Prim.Native.Nat.{ℕ, ◌+◌, ◌*◌, ◌/◌, ◌%◌, ◌≤◌, ◌<◌}
 use mathlib.Core.List.{List, [], ◌∷◌}
 use mathlib.Core.Path.{◌≡◌, ap, sym, subst, ◌∙◌}
@@ -35,7 +35,7 @@ use Rattle.work.proofs.CaptureRows.{taken_pop, use_rows, taken_use}
 
 -- What is told
 
-pub capture_gets : {p : Pass} {w : List ℕ} {x : ℕ} {f : Found} → Gets p.captures (region w captures_first captures_length) x f → GetsCapture p w x f
+pub capture_gets : {p : Pass} {w : List ℕ} {x : ℕ} {f : Option Found} → Gets p.captures (region w captures_first captures_length) x f → GetsCapture p w x f
 capture_gets g = record { is = λ s k. g.row (map_values row_of s.captures) k.captures }
 
 taken_back : (t : CodedCapture) → t.binder < rows_most → capture_in (put_capture t) ≡ t
@@ -110,7 +110,7 @@ module _ (w : List ℕ) (i : ℕ) (z : length w ≡ work_long) (h : i < list_ent
             captures_changed k p.captures (record { depth = s.captures.depth; live = use_in x m }) (elsewhere_wider (omega arith) (omega arith) e)
             (rw (e.before captures_first captures_length (omega arith), use_rows x m) k.captures)
             (rw (set-region w capture_data_first capture_data_length b (2 * i + 1) v j)
-            (taken_use t (set t (2 * i + 1) v) i x (set_elsewhere t (2 * i) 2 q 1 v (omega arith)) m f row k.taken));
+            (taken_use t (set t (2 * i + 1) v) (record { row = i; layer = d; value = n }) x (set_elsewhere t (2 * i) 2 q 1 v (omega arith)) m f row k.taken));
       }
 
   pub uses-capture : UsesCapture w i (set w (capture_data_first + 2 * i + 1) (get_or w (capture_data_first + 2 * i + 1) 0 + 8192))

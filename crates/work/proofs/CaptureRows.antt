@@ -15,8 +15,8 @@ use Rattle.scope_map.proofs.Laws.Size.{replace_size}
 use Rattle.scope_map.specs.Map.{map_value, map_live}
 use Rattle.scope_map.proofs.Laws.Map.{map-length}
 use Rattle.scope_map.proofs.Laws.Rows.{place_below}
-use Rattle.scope_map.specs.Held.{found_in, place_in}
-use Rattle.scope_map.specs.declared.Found.TheVariants.{At}
+use Rattle.scope_map.specs.Held.{found_at, found_in, place_in}
+use Rattle.scope_map.specs.declared.Found.{Found}
 use Rattle.pass.specs.State.{Capture}
 use Rattle.pass.specs.Read.{used_capture, use_in}
 use Rattle.work.specs.Coded.{capture_width}
@@ -109,23 +109,24 @@ use_rows x (e ∷ l) = pick (eqb e.name x) (use_rows x l)
     pick true r = refl
     pick false r = ap (λ (k : List (Live ℕ)). map_value row_of e ∷ k) r
 
-module _ (t t' : List ℕ) (i x : ℕ) (e : Elsewhere (capture_width * i) capture_width t t') where
-  pub taken_use : (l : List (Live Capture)) {d v : ℕ} → found_in (map_live row_of l) x ≡ At i d v
-      → ((c : Live Capture) → get_in l x ≡ Some c → CaptureAt t' i (used_capture c.value))
+module _ (t t' : List ℕ) (f : Found) (x : ℕ) (e : Elsewhere (capture_width * f.row) capture_width t t') where
+  pub taken_use : (l : List (Live Capture)) → found_in (map_live row_of l) x ≡ Some f
+      → ((c : Live Capture) → get_in l x ≡ Some c → CaptureAt t' f.row (used_capture c.value))
       → TakenIn t l → TakenIn t' (use_in x l)
   unfolding TakenIn use_in found_in get_in map_live
   taken_use [] q r k = k
-  taken_use (a ∷ l) {d} {v} q r k = pick (eqb a.name x) q r (λ q r. taken_use l q r k.1)
+  taken_use (a ∷ l) q r k = pick (eqb a.name x) q r (λ q r. taken_use l q r k.1)
     where
-      pick : (b : Bool) → cond b (At (length (map_live row_of l)) a.layer a.value.row) (found_in (map_live row_of l) x) ≡ At i d v
-          → ((c : Live Capture) → cond b (Some a) (get_in l x) ≡ Some c → CaptureAt t' i (used_capture c.value))
-          → (found_in (map_live row_of l) x ≡ At i d v
-          → ((c : Live Capture) → get_in l x ≡ Some c → CaptureAt t' i (used_capture c.value))
+      pick : (b : Bool) → cond b (Some (found_at (length (map_live row_of l)) (map_value row_of a))) (found_in (map_live row_of l) x) ≡ Some f
+          → ((c : Live Capture) → cond b (Some a) (get_in l x) ≡ Some c → CaptureAt t' f.row (used_capture c.value))
+          → (found_in (map_live row_of l) x ≡ Some f
+          → ((c : Live Capture) → get_in l x ≡ Some c → CaptureAt t' f.row (used_capture c.value))
           → TakenIn t' (use_in x l))
           → TakenIn t' (cond b (record { name = a.name; layer = a.layer; value = used_capture a.value } ∷ l) (a ∷ use_in x l))
-      pick true q r f =
-          let z : length l ≡ i = sym (map-length row_of l) ∙ cc in
-          (subst (λ (j : ℕ). CaptureAt t' j (used_capture a.value)) (sym z) (r a refl), taken_older t t' i e l (omega arith) k.1)
-      pick false q r f =
+      pick true q r g =
+          let y : found_at (length (map_live row_of l)) (map_value row_of a) ≡ f = cc in
+          let z : length l ≡ f.row = sym (map-length row_of l) ∙ ap (λ (h : Found). h.row) y in
+          (subst (λ (j : ℕ). CaptureAt t' j (used_capture a.value)) (sym z) (r a refl), taken_older t t' f.row e l (omega arith) k.1)
+      pick false q r g =
           let s = found_below l x q in
-          (moved t t' i e (use_size x l) (over t t' i e (length l) s) k.0, f q r)
+          (moved t t' f.row e (use_size x l) (over t t' f.row e (length l) s) k.0, g q r)

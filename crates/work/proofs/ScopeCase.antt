@@ -23,12 +23,11 @@ use Rattle.scope_map.specs.Held.{entry_of, Gets, Places, DefinesAt, Starts}
 use Rattle.scope_map.specs.Held as map
 use Rattle.scope_map.specs.declared.ScopeMap.{ScopeMap as Map}
 use Rattle.scope_map.specs.declared.Found.{Found}
-use Rattle.scope_map.specs.declared.Found.TheVariants as found
 use Rattle.scope_map.specs.declared.Row.{Row}
 use Rattle.semantic.specs.Information.{NONE}
 use Rattle.semantic.specs.Rows.{no_list_entry}
 use Rattle.pass.specs.State.{State, with_names, id_of, binder_in, newest, depth}
-use Rattle.work.specs.Coded.{record_in, record_of}
+use Rattle.work.specs.Coded.{record_in}
 use Rattle.work.specs.Works.{scope_length, record_at, Works, Spacious}
 use Rattle.work.specs.Laws.Works.{part_length, names-many, depth_is}
 use Rattle.work.specs.Passes.{in_scope}
@@ -36,8 +35,6 @@ use Rattle.work.specs.Leaves.{Becomes, Tells}
 use Rattle.work.specs.Scope.{BindersKnown, KnownHere, TellsId, is_live_row, Defines, since, LiveRow, TellsLive, StartsLayer}
 use Rattle.work.specs.Laws.Scope.{KnownAt, newest-known}
 use Rattle.work.specs.declared.Pass.{Pass}
-use Rattle.work.specs.declared.scope.Binder.{Binder}
-use Rattle.work.specs.declared.scope.Binder.TheVariants as binder
 use Rattle.work.proofs.Changes.{names_changed}
 
 -- What a call on the map asks
@@ -51,25 +48,20 @@ module _ {p : Pass} {w : List ℕ} (h : Spacious p w) where
 
 -- What is told
 
-abbrev value_in : Option (Live ℕ) → Option ℕ
-value_in None = None
-value_in (Some e) = Some e.value
+value_told : (x : ℕ) (o : Option Found) (q : Option (Live Ident)) → option_map (entry_of x) o ≡ option_map (map_value record_at) q
+    → option_map (λ (f : Found). f.value) o ≡ record_in (binder_in q)
+value_told x None None e = refl
+value_told x (Some f) (Some l) e = let z : entry_of x f ≡ map_value record_at l = cc in ap (λ (e : Live ℕ). Some e.value) z
+value_told x None (Some l) e = cc
+value_told x (Some f) None e = cc
 
-record_told_lem : (o : Option (Live Ident)) → value_in (option_map (map_value record_at) o) ≡ record_in (binder_in o)
-record_told_lem None = refl
-record_told_lem (Some e) = refl
-
-module _ {p : Pass} {w : List ℕ} {x : ℕ} {f : Found} (g : Gets p.scope (region w 0 scope_length) x f) where
-  newest-told : (s : State) → Works p w s → value_in (entry_of x f) ≡ record_in (newest s x)
-  newest-told s k =
+pub newest_told : {p : Pass} {w : List ℕ} {x : ℕ} {o : Option Found} {r : Option ℕ} → Gets p.scope (region w 0 scope_length) x o
+    → r ≡ option_map (λ (f : Found). f.value) o → Tells p w (λ s. record_in (newest s x)) r
+newest_told {x = x} {o} g e = record {
+  is = λ s k.
       let m = s.scope.names in
-      ap value_in (g.is (map_values record_at m) k.names ∙ map_get record_at m x) ∙ record_told_lem (get m x)
-
-  pub newest-none : f ≡ found.Nothing → Tells p w (λ s. record_in (newest s x)) None
-  newest-none e = record { is = λ s k. ap (λ (f : Found). value_in (entry_of x f)) (sym e) ∙ newest-told s k }
-
-  pub newest-some : {i d v r : ℕ} → f ≡ found.At i d v → r ≡ v → Tells p w (λ s. record_in (newest s x)) (Some r)
-  newest-some e q = record { is = λ s k. ap Some q ∙ ap (λ (f : Found). value_in (entry_of x f)) (sym e) ∙ newest-told s k }
+      e ∙ value_told x o (get m x) (g.is (map_values record_at m) k.names ∙ map_get record_at m x);
+}
 
 live_told-row : {p : Pass} {w : List ℕ} {s : State} {x r : ℕ} → Places p.scope (region w 0 scope_length) x r → Works p w s
     → is_live_row r p ≡ ltb 1 (depth s) && has_at_top s.scope.names x
@@ -77,21 +69,21 @@ live_told-row {s = s} {x} u k = rw (depth_is k, u.has (map_values record_at s.sc
 
 id_none : (o : Option Ident) → None ≡ record_in o → NONE ≡ id_of o
 id_none None q = refl
-id_none (Some x) q = absurd (let z : ◌≡◌ {A = ℕ} 0 1 = cc in omega arith)
+id_none (Some x) q = cc
 
-module _ {rs : List ℕ} {p : Pass} {w : List ℕ} (x : ℕ) {f : Binder} (t : Tells p w (λ s. record_in (newest s x)) (record_of f)) where
-  pub no_id : f ≡ binder.Nothing → TellsId rs p w x NONE
-  no_id e = record { is = λ s k a. id_none (newest s x) (ap record_of (sym e) ∙ t.is s k) }
+module _ {rs : List ℕ} {p : Pass} {w : List ℕ} (x : ℕ) {o : Option ℕ} (t : Tells p w (λ s. record_in (newest s x)) o) where
+  pub no_id : o ≡ None → TellsId rs p w x NONE
+  no_id e = record { is = λ s k a. id_none (newest s x) (sym e ∙ t.is s k) }
 
-  known_at : {i : ℕ} → f ≡ binder.At i → (s : State) → Works p w s → BindersKnown rs s → KnownAt rs (newest s x) i
-  known_at {i} e s k a = newest-known rs s x i a (ap record_of (sym e) ∙ t.is s k)
+  known_at : {i : ℕ} → o ≡ Some i → (s : State) → Works p w s → BindersKnown rs s → KnownAt rs (newest s x) i
+  known_at {i} e s k a = newest-known rs s x i a (sym e ∙ t.is s k)
 
-  pub id_inside : {i : ℕ} → f ≡ binder.At i → KnownHere rs p w → i < length (records rs)
+  pub id_inside : {i : ℕ} → o ≡ Some i → KnownHere rs p w → i < length (records rs)
   id_inside {i} e h =
       let y = known_at e h.s h.works h.binders in
       omega (arith, y.at, y.known.inside)
 
-  pub the_id : {i r : ℕ} → f ≡ binder.At i → r ≡ (nth rs i).id → TellsId rs p w x r
+  pub the_id : {i r : ℕ} → o ≡ Some i → r ≡ (nth rs i).id → TellsId rs p w x r
   the_id e q = record {
     is = λ s k a.
         let y = known_at e s k a in

@@ -1,5 +1,5 @@
 -- What the functions over the captures promise.
-use Rattle.std.specs.Prelude.{ℕ, ◌+◌, ◌*◌, ◌/◌, ◌%◌, List, ◌≡◌, length, get_or, set, eqb, Some}
+use Rattle.std.specs.Prelude.{ℕ, ◌+◌, ◌*◌, ◌/◌, ◌%◌, List, ◌≡◌, length, get_or, set, eqb, Option, Some}
 use Rattle.std.proofs.lemmas.List.Edits.{sets}
 use Rattle.table.specs.Region.{region, replaced}
 use Rattle.scope_map.specs.ScopeMap.{Live, get, define, push_layer}
@@ -7,7 +7,6 @@ use Rattle.scope_map.specs.Map.{map_live}
 use Rattle.scope_map.specs.Held.{found_in, Becomes}
 use Rattle.scope_map.specs.declared.ScopeMap.{ScopeMap as Map}
 use Rattle.scope_map.specs.declared.Found.{Found}
-use Rattle.scope_map.specs.declared.Found.TheVariants.{At}
 use Rattle.semantic.specs.Rows.{ListEntry}
 use Rattle.pass.specs.State.{State, Capture, list_entry_at, with_captures, with_captured}
 use Rattle.pass.specs.Read.{use_capture}
@@ -32,18 +31,18 @@ abbrev pub opened : State → State
 opened s = with_captures (push_layer s.captures) s
 
 -- the newest capture of a name: its place, its layer and its row
-abbrev pub capture_found : State → ℕ → Found
+abbrev pub capture_found : State → ℕ → Option Found
 capture_found s x = found_in (map_live row_of s.captures.live) x
 
-pub record GetsCapture (p : Pass) (w : List ℕ) (x : ℕ) (r : Found) : Type 0 where
+pub record GetsCapture (p : Pass) (w : List ℕ) (x : ℕ) (r : Option Found) : Type 0 where
   pub is : (s : State) → Works p w s → r ≡ capture_found s x
 
 pub record LoadsCapture (w : List ℕ) (place : ℕ) (r : CodedCapture) : Type 0 where
-  pub is : (p : Pass) (s : State) (x d v : ℕ) (c : Live Capture) → Works p w s → capture_found s x ≡ At place d v → get s.captures x ≡ Some c
+  pub is : (p : Pass) (s : State) (x d v : ℕ) (c : Live Capture) → Works p w s → capture_found s x ≡ Some (record { row = place; layer = d; value = v }) → get s.captures x ≡ Some c
       → r ≡ capture_of c.value
 
 pub record UsesCapture (w : List ℕ) (place : ℕ) (w' : List ℕ) : Type 0 where
-  pub is : (p : Pass) (s : State) (x d v : ℕ) → Works p w s → capture_found s x ≡ At place d v → Works p w' (use_capture x s)
+  pub is : (p : Pass) (s : State) (x d v : ℕ) → Works p w s → capture_found s x ≡ Some (record { row = place; layer = d; value = v }) → Works p w' (use_capture x s)
 
 -- the map has the capture; p' and w' are as they were but for the map
 pub record DefinesRow (p : Pass) (w : List ℕ) (x r : ℕ) (p' : Pass) (w' : List ℕ) : Type 0 where

@@ -1,5 +1,5 @@
 -- What the code holds of an entry, of a capture and of a refusal; and their rows of the work table.
-use Rattle.std.specs.Prelude.{ℕ, zero, suc, ◌+◌, ◌*◌, ◌<◌, List, [], ◌∷◌, Option, None, Some}
+use Rattle.std.specs.Prelude.{ℕ, suc, ◌+◌, ◌*◌, ◌<◌, List, [], ◌∷◌, Option, None, Some, option_map}
 use Rattle.tree.specs.Tree.{Ident, bit}
 use Rattle.tree.specs.Check.{Refusal}
 use Rattle.semantic.specs.Rows.{ListEntry}
@@ -7,10 +7,8 @@ use Rattle.pass.specs.State.{Entry, Capture}
 use Rattle.pass.specs.Run.{rows_most}
 use Rattle.work.specs.declared.entries.Entry.{Entry as Coded}
 use Rattle.work.specs.declared.captures.Capture.{Capture as CodedCapture}
-use Rattle.work.specs.declared.Noted.{Noted}
-use Rattle.work.specs.declared.Second.{Second}
-use Rattle.work.specs.declared.scope.Binder.{Binder}
-use Rattle.work.specs.declared.scope.Binder.TheVariants as binder
+use Rattle.work.specs.declared.SecondRefusal.{SecondRefusal}
+use Rattle.work.specs.declared.SecondRefusal.TheVariants.{NoLambda, NoCapture}
 
 -- the record of an identifier, counted from 1; 0 is none
 abbrev pub last_code : Option Ident → ℕ
@@ -55,31 +53,17 @@ pub record Packable (t : CodedCapture) : Type 0 where
 abbrev pub put_binder : ListEntry → List ℕ
 put_binder i = i.binder.at ∷ []
 
--- Options
-
--- a place counted from 1; 0 is none
-abbrev pub place_in : ℕ → Option ℕ
-place_in zero = None
-place_in (suc i) = Some i
-
-abbrev pub noted_of : Noted → Option ℕ
-noted_of n = place_in n.code
+-- What is noted of refusals
 
 abbrev pub refusal_at : ℕ → ℕ → Refusal
 refusal_at n i = record { number = n; at = i }
 
--- no refusal has the number 0
-abbrev pub numbered_in : ℕ → ℕ → Option Refusal
-numbered_in zero i = None
-numbered_in (suc n) i = Some (refusal_at (suc n) i)
+abbrev pub refusal_of : SecondRefusal → Refusal
+refusal_of (NoLambda i) = refusal_at 11 i
+refusal_of (NoCapture i) = refusal_at 12 i
 
-abbrev pub second_of : Second → Option Refusal
-second_of s = numbered_in s.number s.at
+abbrev pub second_of : Option SecondRefusal → Option Refusal
+second_of o = option_map refusal_of o
 
 abbrev pub record_in : Option Ident → Option ℕ
-record_in None = None
-record_in (Some x) = Some x.at
-
-abbrev pub record_of : Binder → Option ℕ
-record_of (binder.At i) = Some i
-record_of binder.Nothing = None
+record_in o = option_map (λ (x : Ident). x.at) o

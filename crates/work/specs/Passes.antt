@@ -1,10 +1,9 @@
 -- What is threaded beside the tables: at the start of a run, and with a part of it changed.
-use Rattle.std.specs.Prelude.{ℕ}
+use Rattle.std.specs.Prelude.{ℕ, Option, None}
 use Rattle.scope_map.specs.declared.ScopeMap.{ScopeMap}
 use Rattle.semantic.specs.Information.{NONE}
 use Rattle.work.specs.declared.Pass.{Pass}
-use Rattle.work.specs.declared.Noted.{Noted}
-use Rattle.work.specs.declared.Second.{Second}
+use Rattle.work.specs.declared.SecondRefusal.{SecondRefusal}
 
 abbrev pub pass_new : ℕ → ℕ → Pass
 pass_new captured arguments = record {
@@ -13,9 +12,9 @@ pass_new captured arguments = record {
   captures = record { depth = 1; length = 0 };
   captured_top = captured;
   arguments_top = arguments;
-  nine = record { code = 0 };
-  ten = record { code = 0 };
-  second = record { number = 0; at = 0 };
+  nine = None;
+  ten = None;
+  second = None;
 }
 
 abbrev pub in_context : ℕ → Pass → Pass
@@ -66,7 +65,7 @@ with_tops captured arguments p = record {
   second = p.second;
 }
 
-abbrev pub with_notes : Noted → Noted → Second → Pass → Pass
+abbrev pub with_notes : Option ℕ → Option ℕ → Option SecondRefusal → Pass → Pass
 with_notes nine ten second p = record {
   context = p.context;
   scope = p.scope;
@@ -78,5 +77,5 @@ with_notes nine ten second p = record {
   second = second;
 }
 
-abbrev pub with_second : Second → Pass → Pass
+abbrev pub with_second : Option SecondRefusal → Pass → Pass
 with_second second p = with_notes p.nine p.ten second p

@@ -10,7 +10,7 @@ use Rattle.scope_map.specs.Hints.{rows_length, map_length}
 use Rattle.scope_map.specs.Held.{Held}
 use Rattle.pass.specs.State.{State, Capture}
 use Rattle.pass.specs.Run.{rows_most}
-use Rattle.work.specs.Coded.{put_entry_row, capture_of, capture_width, put_capture, put_binder, noted_of, second_of}
+use Rattle.work.specs.Coded.{put_entry_row, capture_of, capture_width, put_capture, put_binder, second_of}
 use Rattle.work.specs.declared.Pass.{Pass}
 
 -- Which numbers of the work table are what: the first of each part, and how many
@@ -75,8 +75,8 @@ beside_pass p = record {
   context = p.context;
   captured_top = p.captured_top;
   arguments_top = p.arguments_top;
-  nine = noted_of p.nine;
-  ten = noted_of p.ten;
+  nine = p.nine;
+  ten = p.ten;
   second = second_of p.second;
 }
 

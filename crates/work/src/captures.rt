@@ -22,7 +22,7 @@ const TAKEN_ROW: usize = 2;
 
 // What is known of a capture beside the row that it stands for: the record and the id of its binder, its uses, and whether the lambda
 // around takes the name too.
-#[derive(Clone, Copy)]
+#[derive(Clone, Copy, PartialEq, Eq)]
 pub struct Capture {
     pub binder: u32,
     pub id: u32,
@@ -31,14 +31,11 @@ pub struct Capture {
 }
 
 // The newest capture of the name: its place, its layer, and its row of the captured entries.
-pub fn newest_capture(p: Pass, work: &[u32], name: u32) -> Found
+pub fn newest_capture(p: Pass, work: &[u32], name: u32) -> Option<Found>
     requires { Spacious p work.now }
     ensures { GetsCapture p work.now name result }
 {
-    let captures = p.captures;
-    let start = CAPTURES;
-    let end = TAKEN;
-    captures.get(&work[start..end], name)
+    p.captures.get(&work[CAPTURES..TAKEN], name)
 }
 
 pub fn load_capture(work: &[u32], place: usize) -> Capture
@@ -47,11 +44,11 @@ pub fn load_capture(work: &[u32], place: usize) -> Capture
 {
     let mut row = [0; TAKEN_ROW];
     table::get(work, TAKEN + TAKEN_ROW * place, &mut row);
-    let last = row[1];
+    let [id, last] = row;
     let rest = last / RECORDS;
     Capture {
         binder: last % RECORDS,
-        id: row[0],
+        id,
         uses: rest / 2,
         enclosing: rest % 2 == 1,
     }
@@ -64,7 +61,7 @@ pub fn use_capture(work: &mut [u32], place: usize)
     ensures { UsesCapture work.old place work.new }
 {
     let i = TAKEN + TAKEN_ROW * place + 1;
-    work[i] = work[i] + 2 * RECORDS;
+    work[i] += 2 * RECORDS;
 }
 
 // The place of the capture that defining the name writes.
@@ -72,10 +69,7 @@ fn capture_place(p: Pass, work: &[u32], name: u32) -> usize
     requires { Spacious p work.now }
     ensures { Places p.captures (region work.now captures_first captures_length) name result }
 {
-    let captures = p.captures;
-    let start = CAPTURES;
-    let end = TAKEN;
-    captures.place(&work[start..end], name)
+    p.captures.place(&work[CAPTURES..TAKEN], name)
 }
 
 // The map alone: what is known of the capture is not written yet.
@@ -83,14 +77,12 @@ fn define_row(p: Pass, work: &mut [u32], name: u32, r: usize) -> Pass
     requires { Spacious p work.old × (3 * p.captures.length + 3 ≤ rows_length) × (r < list_entries_most) }
     ensures { DefinesRow p work.old name r result work.new }
 {
-    let captures = p.captures;
-    let start = CAPTURES;
-    let end = TAKEN;
-    let row = narrow(r);
-    let more = captures.define(&mut work[start..end], name, row);
-    let mut q = p;
-    q.captures = more;
-    q
+    Pass {
+        captures: p
+            .captures
+            .define(&mut work[CAPTURES..TAKEN], name, narrow(r)),
+        ..p
+    }
 }
 
 // All but the id are one number.
@@ -118,24 +110,20 @@ pub fn open_captures(p: Pass) -> Pass
     requires { p.captures.depth < 4294967295 }
     ensures { (w : List ℕ) → Becomes p w opened result w }
 {
-    let captures = p.captures;
-    let more = captures.push_layer();
-    let mut q = p;
-    q.captures = more;
-    q
+    Pass {
+        captures: p.captures.push_layer(),
+        ..p
+    }
 }
 
 pub fn close_captures(p: Pass, work: &mut [u32]) -> Pass
     requires { Spacious p work.old }
     ensures { Becomes p work.old close_captures result work.new }
 {
-    let captures = p.captures;
-    let start = CAPTURES;
-    let end = TAKEN;
-    let fewer = captures.pop_layer(&mut work[start..end]);
-    let mut q = p;
-    q.captures = fewer;
-    q
+    Pass {
+        captures: p.captures.pop_layer(&mut work[CAPTURES..TAKEN]),
+        ..p
+    }
 }
 
 // The binder's record of the captured entry in row r.
@@ -150,6 +138,5 @@ pub fn set_binder(work: &mut [u32], r: usize, b: usize)
     requires { (length work.old ≡ work_long) × (r < list_entries_most) × (b < 4294967296) }
     ensures { StoresBinder work.old r b work.new }
 {
-    let value = narrow(b);
-    work[BINDERS + r] = value;
+    work[BINDERS + r] = narrow(b);
 }

@@ -10,12 +10,13 @@ ghost use Rattle.work.specs.Leaves.{LoadsEntry, StoresEntry};
 use crate::{ENTRIES, ENTRY, narrow};
 use semantic::NONE;
 
-#[derive(Clone, Copy)]
+#[derive(Clone, Copy, PartialEq, Eq)]
 pub struct Entry {
     pub captured: bool,
     pub mutated: bool,
     pub uses: u32,
-    // the record of the last use, counted from 1; 0 where there is none
+    // the record of the last use, counted from 1; 0 where there is none. It stays a number: with an Option `store_entry` would ask more of it, that
+    // one more has room in its row
     pub last: u32,
     pub slot: u32,
     pub heap: u32,
@@ -42,13 +43,9 @@ impl Entry {
         ensures { result ≡ coded (local_entry slot depth) }
     {
         Entry {
-            captured: false,
-            mutated: false,
-            uses: 0,
-            last: 0,
             slot,
-            heap: NONE,
             depth,
+            ..Self::top_level()
         }
     }
 
@@ -58,11 +55,8 @@ impl Entry {
         Entry {
             captured: true,
             mutated: true,
-            uses: 0,
-            last: 0,
-            slot,
             heap,
-            depth,
+            ..Self::local(slot, depth)
         }
     }
 
@@ -70,7 +64,7 @@ impl Entry {
         requires { self.uses < 4294967295 }
         ensures { result ≡ used_more self }
     {
-        self.uses = self.uses + 1;
+        self.uses += 1;
         self
     }
 
@@ -104,15 +98,15 @@ pub fn load_entry(work: &[u32], at: usize) -> Entry
 {
     let mut row = [0; ENTRY];
     table::get(work, ENTRIES + ENTRY * at, &mut row);
-    let first = row[0];
+    let [first, last, slot, heap, depth] = row;
     Entry {
         captured: first % 2 == 1,
         mutated: first / 2 % 2 == 1,
         uses: first / 4,
-        last: row[1],
-        slot: row[2],
-        heap: row[3],
-        depth: row[4],
+        last,
+        slot,
+        heap,
+        depth,
     }
 }
 

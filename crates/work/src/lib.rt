@@ -32,21 +32,17 @@ pub const BINDERS: usize = 55296;
 
 pub const WORK: usize = 59392;
 
-// The record of a refusal's first place, counted from 1; 0 where nothing is noted. No enum, here and in the next (docs/SPEED.md, 24).
-#[derive(Clone, Copy)]
-pub struct Noted {
-    pub code: usize,
+// A refusal of a second run, with the record: a name on the heap with no lambda around, or a read offset with no capture offset. Records are 32 bits
+// wide here, so that what visits hand on stays small (docs/SPEED.md, 24).
+#[derive(Clone, Copy, PartialEq, Eq)]
+pub enum SecondRefusal {
+    NoLambda(u32),
+    NoCapture(u32),
 }
 
-// The first refusal of a second run: its number and record. The number is 0 where nothing is noted.
-#[derive(Clone, Copy)]
-pub struct Second {
-    pub number: u32,
-    pub at: usize,
-}
-
-// What a visit threads beside the tables.
-#[derive(Clone, Copy)]
+// What a visit threads beside the tables. Below the visits the pass and each table are parameters of their own: a function takes those that it reads or
+// changes, and its contract need not say that it keeps the others.
+#[derive(Clone, Copy, PartialEq, Eq)]
 pub struct Pass {
     // `defining_context`: the id of the define that the walk is in, or NONE
     pub context: u32,
@@ -55,9 +51,10 @@ pub struct Pass {
     // how many captured and argument entries all lists have
     pub captured_top: usize,
     pub arguments_top: usize,
-    pub nine: Noted,
-    pub ten: Noted,
-    pub second: Second,
+    // the first places of refusals 9 and 10, and the first refusal of a second run
+    pub nine: Option<u32>,
+    pub ten: Option<u32>,
+    pub second: Option<SecondRefusal>,
 }
 
 impl Pass {
@@ -70,9 +67,9 @@ impl Pass {
             captures: ScopeMap::new(),
             captured_top,
             arguments_top,
-            nine: Noted { code: 0 },
-            ten: Noted { code: 0 },
-            second: Second { number: 0, at: 0 },
+            nine: None,
+            ten: None,
+            second: None,
         }
     }
 
@@ -86,8 +83,7 @@ impl Pass {
     pub fn depth(self) -> u32
         ensures { result ≡ self.scope.depth }
     {
-        let names = self.scope;
-        names.depth
+        self.scope.depth
     }
 }
 

@@ -1,43 +1,21 @@
 // Refusals: the first one of each is kept.
 ghost use Rattle.std.specs.Prelude.{◌≡◌, List, ℕ, ◌<◌};
-ghost use Rattle.pass.specs.State.{note_nine, note_ten, or_kept};
+ghost use Rattle.pass.specs.State.{note_nine, note_ten};
 ghost use Rattle.pass.specs.Read.{note_live};
 ghost use Rattle.pass.specs.Run.{rows_most};
-ghost use Rattle.work.specs.Coded.{noted_of, second_of, refusal_at};
 ghost use Rattle.work.specs.Passes.{with_notes};
 ghost use Rattle.work.specs.Leaves.{Becomes};
 
-use crate::{Noted, Pass, Second};
+use crate::{Pass, SecondRefusal, narrow};
 
-fn first(before: Noted, at: usize) -> Noted
-    requires { at < rows_most }
-    ensures { noted_of result ≡ or_kept (noted_of before) at }
-{
-    if before.code == 0 {
-        return Noted { code: at + 1 };
-    }
-    before
-}
-
-pub fn first_second(before: Second, number: u32, at: usize) -> Second
-    requires { 0 < number }
-    ensures { second_of result ≡ or_kept (second_of before) (refusal_at number at) }
-{
-    if before.number == 0 {
-        return Second { number, at };
-    }
-    before
-}
-
-fn with_notes(p: Pass, nine: Noted, ten: Noted, second: Second) -> Pass
+fn with_notes(p: Pass, nine: Option<u32>, ten: Option<u32>, second: Option<SecondRefusal>) -> Pass
     ensures { result ≡ with_notes nine ten second p }
 {
-    let scope = p.scope;
-    let captures = p.captures;
+    // every field by name: docs/SPEED.md, 49
     Pass {
         context: p.context,
-        scope,
-        captures,
+        scope: p.scope,
+        captures: p.captures,
         captured_top: p.captured_top,
         arguments_top: p.arguments_top,
         nine,
@@ -50,22 +28,14 @@ fn note_nine(p: Pass, at: usize) -> Pass
     requires { at < rows_most }
     ensures { (w : List ℕ) → Becomes p w (note_nine at) result w }
 {
-    let before = p.nine;
-    let nine = first(before, at);
-    let ten = p.ten;
-    let second = p.second;
-    with_notes(p, nine, ten, second)
+    with_notes(p, p.nine.or(Some(narrow(at))), p.ten, p.second)
 }
 
 pub fn note_ten(p: Pass, at: usize) -> Pass
     requires { at < rows_most }
     ensures { (w : List ℕ) → Becomes p w (note_ten at) result w }
 {
-    let nine = p.nine;
-    let before = p.ten;
-    let ten = first(before, at);
-    let second = p.second;
-    with_notes(p, nine, ten, second)
+    with_notes(p, p.nine, p.ten.or(Some(narrow(at))), p.second)
 }
 
 // Refusal 9, where a name that enters is live in the newest layer.

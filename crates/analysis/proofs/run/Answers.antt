@@ -1,35 +1,19 @@
 -- `run`: check 1, blank tables, the runs, and what is left.
 use mathlib.Core.Path.{sym, ◌∙◌}
 use Rattle.answers.specs.Laws.Lengths.{still_fits, fit_lengths}
-use Rattle.analysis.proofs.Answers.{unfit_answers, fit_answers}
+use Rattle.analysis.proofs.Answers.{unfit_answers}
 use Rattle.analysis.proofs.run.Goals as goal
 
-pub returns-then-not-fit : goal.returns-then-not-fit
-returns-then-not-fit c = unfit_answers (sym c.fit.ensures ∙ c.if-not-fit.true)
+pub returns-then-not-fit-clause-answers : goal.returns-then-not-fit-clause-answers
+returns-then-not-fit-clause-answers c = unfit_answers (sym c.fit.ensures ∙ c.if-not-fit.true)
 
 pub clear_start-requires : goal.clear_start-requires
-clear_start-requires c =
-    let i = c in
-    fit_lengths _ _ (sym i.fit.ensures ∙ i.if-not-fit.false)
+clear_start-requires c = fit_lengths _ _ (sym c.fit.ensures ∙ c.if-not-fit.false)
 
-pub clear_after-requires : goal.clear_after-requires
-clear_after-requires c =
-    let r = c in
-    let k = r in
-    let i = k in
-    let a = i.args in (
-      still_fits a.facts.now a.captured.now a.arguments.now a.work.now _ _ _ _
-          (fit_lengths _ _ (sym i.fit.ensures ∙ i.if-not-fit.false))
-          (r.run_checked-a.auto.facts ∙ k.clear_start.auto.facts)
-          (r.run_checked-a.auto.captured ∙ k.clear_start.auto.captured)
-          (r.run_checked-a.auto.arguments ∙ k.clear_start.auto.arguments)
-          (r.run_checked-a.auto.work ∙ k.clear_start.auto.work),
-      λ g. rw c.len.ensures (r.run_checked-a.ensures.rest g),
-    )
-
-pub returns : goal.returns
-returns c =
-    let l = c in
-    let r = l in
-    let i = r in
-    fit_answers (sym i.fit.ensures ∙ i.if-not-fit.false) r.run_checked-a.ensures l.clear_after.ensures
+pub clear_after-requires-clause-lengths : goal.clear_after-requires-clause-lengths
+clear_after-requires-clause-lengths c =
+    let e = c.run_checked-answer.ensures.same in
+    let s = c.clear_start.ensures.same in
+    let t = c.args.tables.now in
+    still_fits t.facts.now t.captured.now t.arguments.now t.work.now _ _ _ _ (fit_lengths _ _ (sym c.fit.ensures ∙ c.if-not-fit.false))
+    (e.facts_long ∙ s.facts_long) (e.captured_long ∙ s.captured_long) (e.arguments_long ∙ s.arguments_long) (e.work_long ∙ s.work_long)

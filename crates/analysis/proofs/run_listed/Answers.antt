@@ -1,55 +1,36 @@
 -- `run_listed`: the checks, then the runs.
-use mathlib.Core.Path.{◌∙◌}
-use lib.ListN.{length}
-use Rattle.tree.specs.Starts.{TellsStarts}
-use Rattle.answers.specs.Answer.{tables}
-use Rattle.analysis.specs.Steps.{Begins}
-use Rattle.analysis.proofs.Answers.{accepted_begins, begun-told, accepted_checks, refused-checks}
-use Rattle.analysis.proofs.run_listed.Goals.{In-Accepted}
+use native.Mathlib.Omega.{arith}
+use Rattle.analysis.proofs.Answers.{refused_by, accepted_begins, begun-told, accepted_checks, refused-checks}
 use Rattle.analysis.proofs.run_listed.Goals as goal
 
--- what both runs ask
-begins : (c : In-Accepted) →
-    let g = c in
-    let o = g.args in
-    TellsStarts (length o.classes.now) o.records.now g.check.new.tops
-    × Begins o.classes.now o.records.now (tables o.facts.now o.captured.now o.arguments.now o.work.now)
-begins c =
-    let f = c in
-    let g = f in
-    let o = g in
-    let b = accepted_begins (f.answer_of-a.ensures ∙ g.check.ensures.result_value) c.in-Accepted.is o.requires.blank in
-    (begun-told b o.requires.starts_fit g.check.ensures.result_value g.check.ensures.told, b)
+pub whole_as_slice-check : goal.whole_as_slice-check
+whole_as_slice-check g c = omega (arith, c.requires.few)
 
-pub returns-in_default : goal.returns-in_default
-returns-in_default c =
-    let f = c in
-    refused-checks (f.answer_of-a.ensures ∙ f.check.ensures.result_value) c.in_default.is
+pub shared_whole_as_slice-run_twice : goal.shared_whole_as_slice-run_twice
+shared_whole_as_slice-run_twice g c = omega (arith, c.requires.few)
 
-pub run_twice-requires-clause-tells_starts : goal.run_twice-requires-clause-tells_starts
-run_twice-requires-clause-tells_starts c = (begins (goal.at.run_twice-requires-clause-tells_starts c).In-Accepted).0
+pub shared_whole_as_slice-run_once : goal.shared_whole_as_slice-run_once
+shared_whole_as_slice-run_once g c = omega (arith, c.requires.few)
+
+pub returns-in_err-check-clause-checks : goal.returns-in_err-check-clause-checks
+returns-in_err-check-clause-checks g c = rw (refused_by _ _ c.from_residual.ensures.1) (refused-checks c.in_err-check.ensures.result_value)
 
 pub run_twice-requires-clause-begins : goal.run_twice-requires-clause-begins
-run_twice-requires-clause-begins c = (begins (goal.at.run_twice-requires-clause-begins c).In-Accepted).1
+run_twice-requires-clause-begins g c = accepted_begins c.in_ok-check.ensures.result_value c.requires.blank
 
-pub returns-then-twice : goal.returns-then-twice
-returns-then-twice c =
-    let r = c in
-    let t = r in
-    let f = t in
-    rw t.if-twice.true
-    (accepted_checks (f.answer_of-a.ensures ∙ f.check.ensures.result_value) t.in-Accepted.is r.run_twice.ensures)
+pub run_twice-requires-clause-tells_starts : goal.run_twice-requires-clause-tells_starts
+run_twice-requires-clause-tells_starts g c =
+    let e = c.in_ok-check.ensures in begun-told (accepted_begins e.result_value c.requires.blank) c.requires.starts_fit e.result_value e.told
 
-pub run_once-requires-clause-tells_starts : goal.run_once-requires-clause-tells_starts
-run_once-requires-clause-tells_starts c = (begins (goal.at.run_once-requires-clause-tells_starts c).In-Accepted).0
+pub returns-then-twice-clause-checks : goal.returns-then-twice-clause-checks
+returns-then-twice-clause-checks g c = rw c.if-twice.true (accepted_checks c.in_ok-check.ensures.result_value c.run_twice.ensures.ends)
 
 pub run_once-requires-clause-begins : goal.run_once-requires-clause-begins
-run_once-requires-clause-begins c = (begins (goal.at.run_once-requires-clause-begins c).In-Accepted).1
+run_once-requires-clause-begins g c = accepted_begins c.in_ok-check.ensures.result_value c.requires.blank
 
-pub returns : goal.returns
-returns c =
-    let r = c in
-    let t = r in
-    let f = t in
-    rw t.if-twice.false
-    (accepted_checks (f.answer_of-a.ensures ∙ f.check.ensures.result_value) t.in-Accepted.is r.run_once.ensures)
+pub run_once-requires-clause-tells_starts : goal.run_once-requires-clause-tells_starts
+run_once-requires-clause-tells_starts g c =
+    let e = c.in_ok-check.ensures in begun-told (accepted_begins e.result_value c.requires.blank) c.requires.starts_fit e.result_value e.told
+
+pub returns-else-twice-clause-checks : goal.returns-else-twice-clause-checks
+returns-else-twice-clause-checks g c = rw c.if-twice.false (accepted_checks c.in_ok-check.ensures.result_value c.run_once.ensures.ends)

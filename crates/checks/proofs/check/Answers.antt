@@ -1,5 +1,4 @@
 -- `check`: 1 and 2, then the pass that clears 3 to 7 and 16 and lists where the trees start, or all in order.
-use Rattle.std.proofs.lemmas.Option.{none-some}
 use native.Mathlib.Omega.{arith}
 use mathlib.Core.Path.{sym, ◌∙◌}
 use Prim.Native.Nat.{◌<◌}
@@ -8,35 +7,17 @@ use Rattle.tree.specs.Record.{records}
 use Rattle.scans.proofs.Telling.{tells_misses}
 use Rattle.checks.proofs.Listing.{list-told, leaves_all, leaves_stored}
 use Rattle.checks.proofs.Order.{ragged, many-records, many-names, past_2, cleared, unrefused}
-use Rattle.checks.proofs.check.Goals.{else-len-tops-via-then-len-tops+else-clear, else-len-tops-via-else-len-tops}
+use Rattle.checks.proofs.check.Goals.{then-len-gt-MOST_RECORDS-via-then-len-gt-MOST_RECORDS, then-len-gt-MOST_RECORDS-via-else-len-gt-MOST_RECORDS+then-names-gt-MOST_NAMES, else-len-tops-via-then-len-tops+else-clear, else-len-tops-via-else-len-tops}
 use Rattle.checks.proofs.check.Goals as goal
 
 pub returns-then-rs-ne0-clause-result_value : goal.returns-then-rs-ne0-clause-result_value
 returns-then-rs-ne0-clause-result_value c = ragged _ _ c.if-rs-ne0.true
 
-pub returns-then-rs-ne0-clause-told : goal.returns-then-rs-ne0-clause-told
-returns-then-rs-ne0-clause-told c = λ e. absurd (none-some _ (sym e))
-
-pub returns-then-rs-ne0-clause-leaves : goal.returns-then-rs-ne0-clause-leaves
-returns-then-rs-ne0-clause-leaves c = leaves_all
-
 pub returns-then-len-gt-MOST_RECORDS-clause-result_value : goal.returns-then-len-gt-MOST_RECORDS-clause-result_value
-returns-then-len-gt-MOST_RECORDS-clause-result_value c = many-records _ _ c.if-rs-ne0.false (omega arith)
-
-pub returns-then-len-gt-MOST_RECORDS-clause-told : goal.returns-then-len-gt-MOST_RECORDS-clause-told
-returns-then-len-gt-MOST_RECORDS-clause-told c = λ e. absurd (none-some _ (sym e))
-
-pub returns-then-len-gt-MOST_RECORDS-clause-leaves : goal.returns-then-len-gt-MOST_RECORDS-clause-leaves
-returns-then-len-gt-MOST_RECORDS-clause-leaves c = leaves_all
-
-pub returns-then-names-gt-MOST_NAMES-clause-result_value : goal.returns-then-names-gt-MOST_NAMES-clause-result_value
-returns-then-names-gt-MOST_NAMES-clause-result_value c = many-names _ _ c.if-rs-ne0.false (omega arith) c.if-names-gt-MOST_NAMES.true
-
-pub returns-then-names-gt-MOST_NAMES-clause-told : goal.returns-then-names-gt-MOST_NAMES-clause-told
-returns-then-names-gt-MOST_NAMES-clause-told c = λ e. absurd (none-some _ (sym e))
-
-pub returns-then-names-gt-MOST_NAMES-clause-leaves : goal.returns-then-names-gt-MOST_NAMES-clause-leaves
-returns-then-names-gt-MOST_NAMES-clause-leaves c = leaves_all
+returns-then-len-gt-MOST_RECORDS-clause-result_value c = elim c.then-len-gt-MOST_RECORDS.branch [
+  | then-len-gt-MOST_RECORDS-via-then-len-gt-MOST_RECORDS w ↦ many-records _ _ c.if-rs-ne0.false (omega (arith, w.if-len-gt-MOST_RECORDS.true))
+  | then-len-gt-MOST_RECORDS-via-else-len-gt-MOST_RECORDS+then-names-gt-MOST_NAMES w ↦ many-names _ _ c.if-rs-ne0.false (omega (arith, w.if-len-gt-MOST_RECORDS.false)) w.if-names-gt-MOST_NAMES.true
+]
 
 pub returns-then-clear-clause-result_value : goal.returns-then-clear-clause-result_value
 returns-then-clear-clause-result_value c =

@@ -1,18 +1,24 @@
--- `read_all`: the state is that of some bytes, and some more are read. The measure is the number of turns that are left.
+-- `read_all`: the reader has read some bytes, and reads some more.
 use mathlib.Core.List.{[]}
-use mathlib.Core.Path.{refl, ◌∙◌}
+use borrow.Author.Rules.{rules}
+use Rattle.reading.proofs.Loans.{same_then}
 use Rattle.facts.specs.Laws.Input.{read-on}
 use Rattle.facts.proofs.read_all.Goals as goal
 
-pub loop-turns-init : goal.loop-turns-init
-loop-turns-init g c =
-    (refl, refl, refl, record { bytes = []; holds = c.start-r.ensures.is c.args.line.now c.args.classes.now c.args.records.now c.requires })
+pub loop-init : goal.loop-init
+loop-init g c =
+    let o = c.args.reader.now in
+    record { same = search rules; read = record { bytes = []; holds = c.requires.starts.is o.line.now o.classes.now o.records.now c.requires.room } }
 
-pub returns-then-t-eq0 : goal.returns-then-t-eq0
-returns-then-t-eq0 g c = read-on c.loop-turns.invariant.3 c.read_chunk-t.ensures
+pub returns-then-read_chunk-eq0-clause-read : goal.returns-then-read_chunk-eq0-clause-read
+returns-then-read_chunk-eq0-clause-read g c = read-on c.loop.invariant.read c.read_chunk.ensures.more
 
-pub loop-turns-preserved : goal.loop-turns-preserved
-loop-turns-preserved g c =
-    let v = c.loop-turns.invariant in
-    let k = c.read_chunk-t.auto in
-    (k.line ∙ v.0, k.classes ∙ v.1, k.records ∙ v.2, read-on v.3 c.read_chunk-t.ensures)
+pub returns-then-read_chunk-eq0-clause-same : goal.returns-then-read_chunk-eq0-clause-same
+returns-then-read_chunk-eq0-clause-same g c = same_then c.loop.invariant.same c.read_chunk.ensures.same
+
+pub loop-preserved : goal.loop-preserved
+loop-preserved g c =
+    record {
+      same = same_then c.loop.invariant.same c.read_chunk.ensures.same;
+      read = read-on c.loop.invariant.read c.read_chunk.ensures.more;
+    }

@@ -23,7 +23,7 @@ hands (LetBody k) g = record {
   is = λ h a. record { tail = a.tail; escape = a.escape; height = omega (arith, a.height); counter = a.counter; function = a.function; direct = refl };
 }
 hands (Body at id k) g = record {
-  is = λ n h e i a. record { tail = refl; escape = a.escape; height = refl; counter = omega (arith, a.counter); function = (omega (arith, e), i); direct = refl };
+  is = λ n h e i a. record { tail = refl; escape = a.escape; height = refl; counter = omega (arith, a.counter); function = (e, i); direct = refl };
 }
 hands Argument g = record {
   is = λ h a. record { tail = refl; escape = refl; height = a.height; counter = a.counter; function = a.function; direct = refl };

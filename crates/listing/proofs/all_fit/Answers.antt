@@ -1,18 +1,13 @@
 -- `all_fit`: each length in turn.
 use mathlib.Core.Path.{◌∙◌}
 use native.Mathlib.Omega.{arith}
-use borrow.Author.Tests.{eq-eqb, ne_eqb}
+use borrow.Author.Tests.{eq-eqb}
 use Rattle.listing.specs.Listing.{all_fit}
-use Rattle.listing.proofs.Tables.{whole-fits}
+use Rattle.listing.proofs.Tables.{unfit, whole-fits}
 use Rattle.listing.proofs.all_fit.Goals as goal
 
 pub returns-then-classes-ne-CLASS_TABLE : goal.returns-then-classes-ne-CLASS_TABLE
-unfolding all_fit
-returns-then-classes-ne-CLASS_TABLE c = rw (ne_eqb _ _ c.if-classes-ne-CLASS_TABLE.true)
-
-pub returns-then-records-ne-RECORD_TABLE : goal.returns-then-records-ne-RECORD_TABLE
-unfolding all_fit
-returns-then-records-ne-RECORD_TABLE c = rw (eq-eqb _ _ c.if-classes-ne-CLASS_TABLE.false, ne_eqb _ _ c.if-records-ne-RECORD_TABLE.true)
+returns-then-classes-ne-CLASS_TABLE c = unfit _ _ _ c.then-classes-ne-CLASS_TABLE.either
 
 pub returns : goal.returns
 unfolding all_fit

@@ -1,5 +1,6 @@
 -- `answer`: nothing without room; else by what the bytes say.
 use mathlib.Core.Path.{refl}
+use borrow.Author.Rules.{rules}
 use native.Mathlib.Omega.{arith}
 use Rattle.listing.proofs.Inputs.{bad_answered, good_answered}
 use Rattle.listing.proofs.answer.Goals as goal
@@ -14,18 +15,12 @@ returns-then-out-lt-TEXT c = record {
   long = refl;
 }
 
-pub returns-in-Bad : goal.returns-in-Bad
-returns-in-Bad c =
-    let l = c in
-    let i = l in
-    let f = i in
-    let v = l.bad_line in
-    bad_answered f.finish-input.ensures (omega (arith, f.if-out-lt-TEXT.false)) v.auto.out i.in-Bad.is v.ensures refl
+pub returns-in-Err : goal.returns-in-Err
+returns-in-Err c =
+    let v = c.bad_line in
+    bad_answered c.finish.ensures (omega (arith, c.if-out-lt-TEXT.false)) v.auto.out c.in-Err.is v.ensures (search rules)
 
-pub returns-in-Good : goal.returns-in-Good
-returns-in-Good c =
-    let l = c in
-    let i = l in
-    let f = i in
-    let v = l.input_text in
-    good_answered f.finish-input.ensures (omega (arith, f.if-out-lt-TEXT.false)) v.auto.out i.in-Good.is v.ensures
+pub returns-in-Ok : goal.returns-in-Ok
+returns-in-Ok c =
+    let v = c.input_text in
+    good_answered c.finish.ensures (omega (arith, c.if-out-lt-TEXT.false)) v.auto.out c.in-Ok.is v.ensures.input (search rules)

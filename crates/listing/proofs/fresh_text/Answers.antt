@@ -5,23 +5,14 @@ use Rattle.listing.proofs.Tables.{class_room, part_long, part-fits, facts_long}
 use Rattle.listing.proofs.Runs.{fresh_in}
 use Rattle.listing.proofs.fresh_text.Goals as goal
 
-pub slice_bounds-part-end : goal.slice_bounds-part-end
-slice_bounds-part-end c = let o = c in sym (part_long o.requires.few)
+pub slice_bounds-fresh-end : goal.slice_bounds-fresh-end
+slice_bounds-fresh-end c = sym (part_long c.requires.few)
 
-pub slice_bounds-first-end : goal.slice_bounds-first-end
-slice_bounds-first-end c =
-    let o = c in
-    sym (length-take-le o.args.names o.args.classes.now (class_room o.requires.few))
+pub slice_bounds-fresh-end-2 : goal.slice_bounds-fresh-end-2
+slice_bounds-fresh-end-2 c = sym (length-take-le c.args.names c.args.classes.now (class_room c.requires.few))
+
+pub returns-clause-fresh : goal.returns-clause-fresh
+returns-clause-fresh c = fresh_in (part-fits c.requires.few) (part_long c.requires.few) c.fresh-a.ensures c.outcome_text.ensures
 
 pub outcome_text-requires : goal.outcome_text-requires
-outcome_text-requires c =
-    let f = c in
-    let o = f in
-    (f.fresh-a.auto.facts ∙ facts_long o.requires.few, o.requires.few.records, o.requires.text_length_in_bounds)
-
-pub returns : goal.returns
-returns c =
-    let t = c in
-    let f = t in
-    let o = f in
-    fresh_in (part-fits o.requires.few) (part_long o.requires.few) f.fresh-a.ensures t.outcome_text.ensures
+outcome_text-requires c = (c.fresh-a.auto.facts ∙ facts_long c.requires.few, c.requires.few.records, c.requires.text_length_in_bounds)

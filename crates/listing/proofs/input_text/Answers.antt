@@ -3,46 +3,23 @@ use native.Mathlib.Omega.{arith}
 use Rattle.listing.proofs.Inputs.{lengths_in, few, unfit_in, large_in, run_in}
 use Rattle.listing.proofs.input_text.Goals as goal
 
-pub returns-then-not-all_fit : goal.returns-then-not-all_fit
-returns-then-not-all_fit c =
-    let r = c in
-    let i = r in
-    let a = i in
-    let v = r.refused_line in
-    unfit_in a.all_fit.ensures i.if-not-all_fit.true v.ensures (omega (arith, v.ensures.short, v.auto.out, a.requires))
+pub returns-then-not-all_fit-clause-input : goal.returns-then-not-all_fit-clause-input
+returns-then-not-all_fit-clause-input c =
+    let v = c.refused_line in
+    unfit_in c.all_fit.ensures c.if-not-all_fit.true v.ensures (omega (arith, v.ensures.short, v.auto.out, c.requires))
 
 pub clear_all-requires : goal.clear_all-requires
-clear_all-requires c =
-    let e = c in
-    lengths_in _ _ _ e.all_fit.ensures e.if-not-all_fit.false
+clear_all-requires c = lengths_in _ _ _ c.all_fit.ensures c.if-not-all_fit.false
 
-pub returns-then-too_many : goal.returns-then-too_many
-returns-then-too_many c =
-    let r = c in
-    let k = r in
-    let i = k in
-    let e = i in
-    let a = e in
-    let v = r.refused_line-then-too_many in
-    large_in a.all_fit.ensures e.if-not-all_fit.false i.too_many.ensures i.if-too_many.true k.clear_all.ensures v.ensures
-    (omega (arith, v.ensures.short, v.auto.out, a.requires))
+pub returns-then-too_many-clause-input : goal.returns-then-too_many-clause-input
+returns-then-too_many-clause-input c =
+    let v = c.refused_line-then-too_many in
+    large_in c.all_fit.ensures c.if-not-all_fit.false c.too_many.ensures c.if-too_many.true c.clear_all.ensures.zeros v.ensures
+    (omega (arith, v.ensures.short, v.auto.out, c.requires))
 
 pub fresh_text-requires-clause-few : goal.fresh_text-requires-clause-few
-fresh_text-requires-clause-few c =
-    let i = c in
-    let e = i in
-    let a = e in few a.all_fit.ensures e.if-not-all_fit.false i.too_many.ensures i.if-too_many.false
+fresh_text-requires-clause-few c = few c.all_fit.ensures c.if-not-all_fit.false c.too_many.ensures c.if-too_many.false
 
-pub fresh_text-requires-clause-text_length_in_bounds : goal.fresh_text-requires-clause-text_length_in_bounds
-fresh_text-requires-clause-text_length_in_bounds c =
-    let i = c in
-    let e = i in
-    let a = e in a.requires
-
-pub returns : goal.returns
-returns c =
-    let f = c in
-    let i = f in
-    let e = i in
-    let a = e in
-    run_in (few a.all_fit.ensures e.if-not-all_fit.false i.too_many.ensures i.if-too_many.false) f.fresh_text.ensures
+pub returns-clause-input : goal.returns-clause-input
+returns-clause-input c =
+    run_in (few c.all_fit.ensures c.if-not-all_fit.false c.too_many.ensures c.if-too_many.false) c.fresh_text.ensures.fresh

@@ -11,37 +11,24 @@ use Rattle.listing.proofs.rows_text.Goals as goal
 
 pub loop-i-init : goal.loop-i-init
 unfolding rows_text
-loop-i-init c = (omega arith, omega arith, refl, λ l e. refl)
-
-pub row_after-end-requires : goal.row_after-end-requires
-row_after-end-requires c = (omega arith, omega arith)
-
-pub overflow_add-i : goal.overflow_add-i
-overflow_add-i c = omega arith
-
-pub loop-i-smaller : goal.loop-i-smaller
-loop-i-smaller c = omega arith
+loop-i-init c = record { short = omega arith; long = refl; text = λ l e. refl }
 
 pub loop-i-preserved : goal.loop-i-preserved
 loop-i-preserved c =
-    let c₁ = c in
-    let c₂ = c₁ in
-    let c₃ = c₂ in
-    let v = c₂.loop-i in
-    let w = c₁.row_after-end in
-    let F = c₃.args.facts.now in (
-      omega arith,
-      omega (arith, w.ensures.short),
-      w.auto.out ∙ v.invariant.2,
-      λ l e.
-          let g : c₃.args.rows ≤ length l = rows_in F l c₃.args.rows e c₃.requires.0 in
+    let v = c.loop-i in
+    let w = c.row_after-end in
+    record {
+      short = omega (arith, w.ensures.short);
+      long = w.auto.out ∙ v.invariant.long;
+      text = λ l e.
+          let g : c.args.rows ≤ length l = rows_in c.args.facts.now l c.args.rows e c.requires.0 in
           w.ensures.is l e (omega arith)
-          ∙ ap (λ (t : List ℕ). t ++ row_text v.i (get_or l v.i Blank)) (v.invariant.3 l e)
-          ∙ sym (rows_more l v.i (omega arith)),
-    )
+          ∙ ap (λ (t : List ℕ). t ++ row_text v.i (get_or l v.i Blank)) (v.invariant.text l e)
+          ∙ sym (rows_more l v.i (omega arith));
+    }
 
 pub returns : goal.returns
 returns c =
     let v = c.loop-i in
     let k : v.i ≡ c.args.rows = omega arith in
-    record { is = λ l e. v.invariant.3 l e ∙ ap (λ (n : ℕ). rows_text 0 (take n l)) k; short = omega arith }
+    record { is = λ l e. v.invariant.text l e ∙ ap (λ (n : ℕ). rows_text 0 (take n l)) k; short = omega arith }

@@ -1,5 +1,5 @@
 -- `rows_text`: after i rows the buffer starts with their text.
-use Prim.Native.Nat.{◌-◌, ◌*◌, ◌≤◌}
+use Prim.Native.Nat.{◌*◌, ◌≤◌}
 use mathlib.Core.List.{List}
 use mathlib.Core.Path.{◌≡◌}
 use lib.ListN.{length, take}
@@ -9,11 +9,8 @@ use Rattle.printing.specs.Text.{rows_text}
 use Rattle.listing.proofs.rows_text.Given as goal
 
 abbrev pub invariant-loop-i : goal.invariant-loop-i
-invariant-loop-i l =
-    (l.i ≤ l.rows)
-    × (l.end ≤ 128 * l.i)
-    × (length l.out ≡ length l.initial.out)
-    × ((rows : List Row) → l.facts ≡ layout put_row rows → take l.end l.out ≡ rows_text 0 (take l.i rows))
-
-abbrev pub decreases-loop-i : goal.decreases-loop-i
-decreases-loop-i l = l.rows - l.i
+invariant-loop-i l = record {
+  short : l.end ≤ 128 * l.i;
+  long : length l.out ≡ length l.initial.out;
+  text : (rows : List Row) → l.facts ≡ layout put_row rows → take l.end l.out ≡ rows_text 0 (take l.i rows);
+}

@@ -4,7 +4,7 @@ use mathlib.Core.Bool.{Bool, true, false}
 use mathlib.Core.Logic.{inl, inr}
 use mathlib.Core.Path.{◌≡◌, refl}
 use native.Mathlib.Omega.{arith}
-use borrow.Author.Tests.{ltb-true, ltb-false}
+use borrow.Author.Tests.{ltb-true, ltb-false, lt-ltb}
 use lib.Dec.{ltb}
 use Rattle.listing.specs.Listing.{records_most, classes_length}
 use Rattle.listing.specs.Answered.{Counted, too_many, not-many}
@@ -14,8 +14,8 @@ by_names : (names many : ℕ) → many ≤ records_most → (b : Bool) → ltb c
 by_names names many h true e = too_many (inr (ltb-true classes_length names e))
 by_names names many h false e = not-many h (ltb-false classes_length names e)
 
-pub returns-then-many : goal.returns-then-many
-returns-then-many c = too_many (inl (omega arith))
+pub returns-then-read : goal.returns-then-read
+returns-then-read c = rw (lt-ltb records_most _ c.if-read.true) (too_many (inl c.if-read.true))
 
-pub returns : goal.returns
-returns c = by_names _ _ (omega arith) _ refl
+pub returns-else-read : goal.returns-else-read
+returns-else-read c = by_names _ _ c.if-read.false _ refl

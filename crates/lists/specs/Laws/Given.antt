@@ -1,5 +1,5 @@
 -- What live names give to the list of a lambda that ends.
-use Rattle.std.specs.Prelude.{ℕ, suc, ◌+◌, ◌≤◌, List, [], ◌∷◌, Bool, true, false, cond, not, ◌&&◌, ◌≡◌, refl, length, ltb, Option, None, Some}
+use Rattle.std.specs.Prelude.{ℕ, suc, ◌+◌, ◌≤◌, List, [], ◌∷◌, Bool, true, false, cond, not, ◌&&◌, ◌≡◌, refl, length, ltb, Option, None, Some, is_some}
 use Rattle.std.proofs.Common.{ap, ◌∙◌, arith, add-one}
 use Rattle.tree.specs.Tree.{Ident}
 use Rattle.tree.specs.Check.{member}
@@ -10,7 +10,7 @@ use Rattle.pass.specs.Lists.{add_captured, captured_in}
 use Rattle.work.specs.Coded.{record_in}
 use Rattle.work.specs.Scope.{before}
 use Rattle.lists.specs.Index.{entry_in, where_captured, offered, Indexes}
-use Rattle.lists.specs.Given.{given, with_given, is_some}
+use Rattle.lists.specs.Given.{given, with_given}
 use Rattle.lists.specs.Laws.Live.{NextLive}
 
 pub captured_step : (ps : List ℕ) (s : State) (e : Live Ident) (l : List (Live Ident))

@@ -1,5 +1,5 @@
 -- A struct and a table hold at most one map, `map_of`. What an operation does to that one, it does to every map held.
-use Rattle.std.specs.Prelude.{ℕ, ◌-◌, ◌≤◌, ◌<◌, List, ◌≡◌, refl, length, drop, ltb}
+use Rattle.std.specs.Prelude.{ℕ, ◌-◌, ◌≤◌, ◌<◌, List, ◌≡◌, refl, length, drop, ltb, Option, Some, option_map}
 use Rattle.std.proofs.Common.{ap, sym, subst, ◌∙◌, arith}
 use Rattle.scope_map.specs.ScopeMap.{ScopeMap, new, below_layer, has_at_top, newest_layer}
 use Rattle.scope_map.proofs.Laws.Size.{below-size}
@@ -9,7 +9,6 @@ use Rattle.scope_map.specs.Hints.{map_length, Roomy, Indexed}
 use Rattle.scope_map.specs.Held.{Sorted, Held, Becomes, found_in, entry_of, Gets, place_in, place_of, Places, Starts}
 use Rattle.scope_map.specs.declared.ScopeMap.{ScopeMap as Map}
 use Rattle.scope_map.specs.declared.Found.{Found}
-use Rattle.scope_map.specs.declared.Found.TheVariants.{At}
 
 abbrev pub map_of : Map → List ℕ → ScopeMap ℕ
 map_of m t = record { depth = m.depth; live = live_in t m.length }
@@ -42,11 +41,11 @@ pub becomes : {m : Map} {t : List ℕ} {m' : Map} {t' : List ℕ} (f : ScopeMap 
     drop map_length t' ≡ drop map_length t → Becomes m t f m' t'
 becomes {m' = m'} {t'} f h r = record { held = every_map (λ s. Held m' t' (f s)) h; rest = r }
 
-pub gets : {m : Map} {t : List ℕ} {x : ℕ} {r : Found} → ((i d v : ℕ) → r ≡ At i d v → i < m.length) →
+pub gets : {m : Map} {t : List ℕ} {x : ℕ} {r : Option Found} → ((f : Found) → r ≡ Some f → f.row < m.length) →
     (Held m t (map_of m t) → r ≡ found_in (live_in t m.length) x) → Gets m t x r
 gets {m} {t} {x} {r} l h =
     let row : (s : ScopeMap ℕ) → Held m t s → r ≡ found_in s.live x = every_map (λ s. r ≡ found_in s.live x) h in
-    record { is = λ s g. ap (entry_of x) (row s g) ∙ found_get s.live x; row = row; below = l }
+    record { is = λ s g. ap (option_map (entry_of x)) (row s g) ∙ found_get s.live x; row = row; below = l }
 
 pub places : {m : Map} {t : List ℕ} {x r : ℕ} → r ≤ m.length → (Held m t (map_of m t) → r ≡ place_in m.depth x m.length (live_in t m.length)) → Places m t x r
 places {m} {t} {x} {r} l h =

@@ -1,7 +1,7 @@
 -- The operations on the live names of a table's rows.
 use Prim.Native.Nat.{ℕ, zero, suc, ◌+◌, ◌-◌, ◌≤◌, ◌<◌}
 use mathlib.Core.List.{List, [], ◌∷◌, ◌++◌}
-use Rattle.std.specs.Prelude.{Bool, ◌&&◌, ◌||◌, ◌≡◌, get_or, Some}
+use Rattle.std.specs.Prelude.{Bool, ◌&&◌, ◌||◌, ◌≡◌, get_or, Some, option_map}
 use Rattle.std.proofs.Math.Bool.{true, false, cond}
 use Rattle.std.proofs.Math.Path.{refl, ap}
 use Rattle.std.proofs.Common.{sym, ◌∙◌}
@@ -12,8 +12,7 @@ use Rattle.std.proofs.Math.Dec.{eqb, ltb}
 use Rattle.scope_map.specs.ScopeMap.{Live, is_at, has_in, replace_in, remove_in, layer_in, below_layer, get_in}
 use Rattle.scope_map.proofs.Laws.Size.{below-size}
 use Rattle.scope_map.specs.Rows.{row_at, live_in, rows_from}
-use Rattle.scope_map.specs.Held.{found_in, entry_of, place_in}
-use Rattle.scope_map.specs.declared.Found.TheVariants.{At}
+use Rattle.scope_map.specs.Held.{found_at, found_in, entry_of, place_in}
 
 pub length_live_in : (t : List ℕ) (n : ℕ) → length (live_in t n) ≡ n
 unfolding live_in
@@ -45,13 +44,13 @@ rows_last t i (suc n) =
 
 -- A lookup finds the newest of a name
 
-pub found_get : (l : List (Live ℕ)) (x : ℕ) → entry_of x (found_in l x) ≡ get_in l x
+pub found_get : (l : List (Live ℕ)) (x : ℕ) → option_map (entry_of x) (found_in l x) ≡ get_in l x
 unfolding get_in found_in
 found_get [] x = refl
 found_get (e ∷ l) x = pick (eqb e.name x) refl (found_get l x)
   where
-    pick : (b : Bool) → eqb e.name x ≡ b → entry_of x (found_in l x) ≡ get_in l x →
-        entry_of x (cond b (At (length l) e.layer e.value) (found_in l x)) ≡ cond b (Some e) (get_in l x)
+    pick : (b : Bool) → eqb e.name x ≡ b → option_map (entry_of x) (found_in l x) ≡ get_in l x →
+        option_map (entry_of x) (cond b (Some (found_at (length l) e)) (found_in l x)) ≡ cond b (Some e) (get_in l x)
     pick true q r = ap (λ (y : ℕ). Some (record { name = y; layer = e.layer; value = e.value })) (sym (eqb-true _ _ q))
     pick false q r = r
 

@@ -5,6 +5,3 @@ use Rattle.scope_map.proofs.leave_rows.Given as goal
 
 abbrev pub invariant-loop-k : goal.invariant-loop-k
 invariant-loop-k l = (l.i ≤ l.k) × (l.k ≤ l.n) × Leaves l.initial.t l.k l.n l.t
-
-abbrev pub decreases-loop-k : goal.decreases-loop-k
-decreases-loop-k l = l.k

@@ -1,5 +1,5 @@
 -- The laws of tables, W numbers a row, proved once for every kind of row.
-use Prim.Native.Nat.{ℕ, zero, suc, ◌+◌, ◌*◌, ◌<◌}
+use Prim.Native.Nat.{ℕ, zero, suc, ◌+◌, ◌-◌, ◌*◌, ◌<◌}
 use mathlib.Core.List.{List, [], ◌∷◌, ◌++◌, append_assoc}
 use Rattle.std.specs.Prelude.{◌≡◌, refl}
 use Rattle.std.proofs.Math.Path.{ap}
@@ -7,14 +7,14 @@ use Rattle.std.proofs.Common.{sym, ◌∙◌, drop_at}
 use native.Mathlib.Omega.{arith}
 use Rattle.std.proofs.Math.ListN.{length, get_or, set, drop, take, replicate, length-append, replicate-append-replicate, get_or-append}
 use Rattle.std.proofs.Math.Seq.{sets, get_or-append-add, set-append_left, take_at, drop-append-add, drop-nil}
+use Rattle.std.proofs.lemmas.List.{set-append_right}
 use Rattle.std.proofs.lemmas.List.Edits.{sets-eq}
 use Rattle.table.specs.Layout.{layout}
 
 set-append-add : (xs ys : List ℕ) (n x : ℕ) → set (xs ++ ys) (length xs + n) x ≡ xs ++ set ys n x
-set-append-add [] ys n x = ap (λ (k : ℕ). set ys k x) (omega arith)
-set-append-add (y ∷ xs) ys n x =
-    let e : length (y ∷ xs) + n ≡ suc (length xs + n) = omega arith in
-    ap (λ (k : ℕ). set (y ∷ xs ++ ys) k x) e ∙ ap (λ (l : List ℕ). y ∷ l) (set-append-add xs ys n x)
+set-append-add xs ys n x =
+    let e : length xs + n - length xs ≡ n = omega arith in
+    set-append_right xs ys (length xs) (length xs + n) x refl (omega arith) ∙ ap (λ (k : ℕ). xs ++ set ys k x) e
 
 sets_append-add : (vs xs ys : List ℕ) (n : ℕ) → sets (xs ++ ys) (length xs + n) vs ≡ xs ++ sets ys n vs
 sets_append-add [] xs ys n = refl

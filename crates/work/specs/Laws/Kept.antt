@@ -1,15 +1,16 @@
 -- Changes of a state that the work table does not see.
-use Rattle.std.specs.Prelude.{ℕ, List, ◌≡◌, Option}
+use Rattle.std.specs.Prelude.{ℕ, List, ◌≡◌, Option, None, Some}
+use Rattle.std.specs.Option.{option_or}
 use Rattle.std.proofs.Math.Path.{refl}
 use Rattle.std.proofs.Common.{ap, ◌∙◌}
 use Rattle.tree.specs.Check.{Refusal}
 use Rattle.semantic.specs.Rows.{Row}
 use Rattle.pass.specs.State.{Facts, State, with_facts, with_context, insert, or_kept, note_second}
-use Rattle.work.specs.Coded.{noted_of, second_of, refusal_at}
+use Rattle.work.specs.Coded.{second_of, refusal_of}
 use Rattle.work.specs.Works.{Beside, beside_pass, beside_state, Works}
 use Rattle.work.specs.Passes.{in_context, with_tops, with_second}
 use Rattle.work.specs.declared.Pass.{Pass}
-use Rattle.work.specs.declared.Second.{Second}
+use Rattle.work.specs.declared.SecondRefusal.{SecondRefusal}
 
 -- other refusals noted
 abbrev pub noting : Option ℕ → Option ℕ → Option Refusal → Beside → Beside
@@ -21,6 +22,11 @@ noting nine ten second b = record {
   ten = ten;
   second = second;
 }
+
+-- the first is kept
+pub second_or : (o : Option SecondRefusal) (e : SecondRefusal) → second_of (option_or o (Some e)) ≡ or_kept (second_of o) (refusal_of e)
+second_or None e = refl
+second_or (Some f) e = refl
 
 module _ {p : Pass} {w : List ℕ} {s : State} (k : Works p w s) where
   -- what is threaded beside the table may change with the state
@@ -50,11 +56,12 @@ module _ {p : Pass} {w : List ℕ} {s : State} (k : Works p w s) where
     second = b.second;
   }) k.beside)
 
-  pub second_kept : (n i : ℕ) (r : Second) → second_of r ≡ or_kept (second_of p.second) (refusal_at n i) → Works (with_second r p) w (note_second n i s)
-  second_kept n i r q =
-      works_as (with_second r p) (note_second n i s) refl refl refl refl refl
-      (ap (λ (o : Option Refusal). noting (noted_of p.nine) (noted_of p.ten) o (beside_pass p)) q
-      ∙ ap (λ (b : Beside). noting b.nine b.ten (or_kept b.second (refusal_at n i)) b) k.beside)
+  -- a refusal of a second run is noted, unless one was before
+  pub second_kept : (e : SecondRefusal) → Works (with_second (option_or p.second (Some e)) p) w (note_second (refusal_of e).number (refusal_of e).at s)
+  second_kept e =
+      works_as (with_second (option_or p.second (Some e)) p) (note_second (refusal_of e).number (refusal_of e).at s) refl refl refl refl refl
+      (ap (λ (o : Option Refusal). noting p.nine p.ten o (beside_pass p)) (second_or p.second e)
+      ∙ ap (λ (b : Beside). noting b.nine b.ten (or_kept b.second (refusal_of e)) b) k.beside)
 
   -- other facts, with the same captured entries
   pub facts_kept : (f : Facts) → f.captured ≡ s.facts.captured → Works (with_tops f.captured_top f.arguments_top p) w (with_facts f s)

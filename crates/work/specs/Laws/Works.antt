@@ -7,7 +7,7 @@ use Rattle.table.specs.Laws.Region.{region-length}
 use Rattle.scope_map.proofs.Laws.Map.{map-length}
 use Rattle.pass.specs.State.{State}
 use Rattle.pass.specs.Run.{rows_most, list_entries_most}
-use Rattle.work.specs.Coded.{noted_of, second_of, entry_width, put_entry_row, put_binder}
+use Rattle.work.specs.Coded.{second_of, entry_width, put_entry_row, put_binder}
 use Rattle.work.specs.Laws.Coded.{entry_long}
 use Rattle.work.specs.Works.{work_long, entries_first, entries_length, binders_first, binders_length, record_at, row_of, Beside, Works, Spacious}
 use Rattle.work.specs.declared.Pass.{Pass}
@@ -57,10 +57,10 @@ module _ {p : Pass} {w : List ℕ} {s : State} (k : Works p w s) where
   pub arguments_top_lem : p.arguments_top ≡ s.facts.arguments_top
   arguments_top_lem = ap (λ (b : Beside). b.arguments_top) k.beside
 
-  pub nine_is : noted_of p.nine ≡ s.noted.nine
+  pub nine_is : p.nine ≡ s.noted.nine
   nine_is = ap (λ (b : Beside). b.nine) k.beside
 
-  pub ten_is : noted_of p.ten ≡ s.noted.ten
+  pub ten_is : p.ten ≡ s.noted.ten
   ten_is = ap (λ (b : Beside). b.ten) k.beside
 
   pub second_is : second_of p.second ≡ s.noted.second

@@ -6,49 +6,34 @@ use Rattle.amending.proofs.amend.keep_row.Goals as goal
 
 pub load_list_entry-x-requires : goal.load_list_entry-x-requires
 load_list_entry-x-requires c =
-    let start = c in
-    (captured_long start.requires.held.tied, start.requires.held.tied.works.long, start.requires.inside)
+    (captured_long c.requires.held.tied, c.requires.held.tied.works.long, c.requires.inside)
 
 pub count_used-n-requires : goal.count_used-n-requires
 count_used-n-requires c =
-    let start = c in
-    (start.requires.ended, held_here start.requires.held)
+    (c.requires.ended, held_here c.requires.held)
 
 pub returns-then-not-keeps : goal.returns-then-not-keeps
 returns-then-not-keeps c =
-    let at-load-list-entry = c in
-    row_gone at-load-list-entry.load_list_entry-x.ensures c.count_used-n.ensures c.keeps.ensures c.if-not-keeps.true
+    row_gone c.load_list_entry-x.ensures c.count_used-n.ensures c.keeps.ensures c.if-not-keeps.true
 
 pub stands_before-before-requires : goal.stands_before-before-requires
 stands_before-before-requires c =
-    let start = c in
-    (captured_long start.requires.held.tied, start.requires.order, omega (arith, start.requires.most, start.requires.inside))
+    (captured_long c.requires.held.tied, c.requires.order, omega (arith, c.requires.most, c.requires.inside))
 
 pub kept-y-requires : goal.kept-y-requires
 kept-y-requires c =
-    let start = c in
-    keep_index start.requires
+    keep_index c.requires
 
 pub store_list_entry-requires : goal.store_list_entry-requires
-store_list_entry-requires c =
-    let at-load-list-entry = c in
-    let start = at-load-list-entry in (
-      captured_long start.requires.held.tied,
-      start.requires.held.tied.works.long,
-      omega (arith, start.requires.most, start.requires.inside),
-      keep_small start.requires at-load-list-entry.load_list_entry-x.ensures c.kept-y.ensures.place,
-    )
+store_list_entry-requires c = (
+  captured_long c.requires.held.tied,
+  c.requires.held.tied.works.long,
+  omega (arith, c.requires.most, c.requires.inside),
+  keep_small c.requires c.load_list_entry-x.ensures c.kept-y.ensures.place,
+)
 
 pub returns : goal.returns
 returns c =
-    let at_mark = c in
-    let at_wide = at_mark in
-    let at-store-list-entry = at_wide in
-    let at-kept = at-store-list-entry in
-    let at-stands-before = at-kept in
-    let at-if1 = at-stands-before in
-    let at-keeps = at-if1 in
-    let at-count-used = at-keeps in
-    row_kept at-count-used.load_list_entry-x.ensures at-count-used.count_used-n.ensures at-keeps.keeps.ensures at-if1.if-not-keeps.false
-    at-stands-before.stands_before-before.ensures at-kept.kept-y.ensures.keeps_list_entry at-store-list-entry.store_list_entry.ensures at_wide.wide.ensures at_mark.mark.ensures
-    at_mark.mark.auto.marks
+    row_kept c.load_list_entry-x.ensures c.count_used-n.ensures c.keeps.ensures c.if-not-keeps.false
+    c.stands_before-before.ensures c.kept-y.ensures.keeps_list_entry c.store_list_entry.ensures c.wide.ensures c.mark.ensures
+    c.mark.auto.marks

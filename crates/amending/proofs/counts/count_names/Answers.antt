@@ -5,10 +5,8 @@ use Rattle.amending.proofs.counts.count_names.Goals as goal
 
 pub mark_body-requires : goal.mark_body-requires
 mark_body-requires c =
-    let start = c in
-    (start.requires.0, unmarked names_most)
+    (c.requires.0, unmarked names_most)
 
 pub returns : goal.returns
 returns c =
-    let at-mark-body = c in
-    tallied c.count_rows.ensures at-mark-body.mark_body.ensures
+    tallied c.count_rows.ensures c.mark_body.ensures

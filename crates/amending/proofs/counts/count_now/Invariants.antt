@@ -6,7 +6,8 @@ use Rattle.amending.proofs.NowCase.{NowFrom}
 use Rattle.amending.proofs.counts.count_now.Given as goal
 
 abbrev pub invariant-loop-i : goal.invariant-loop-i
-invariant-loop-i l = (l.n + l.i ≤ l.p.scope.length) × Above l.p l.work l.i × Upto l.p l.work (NowFrom l.all l.names l.name l.n) l.i
-
-abbrev pub decreases-loop-i : goal.decreases-loop-i
-decreases-loop-i l = l.i
+invariant-loop-i l = record {
+  few : l.n + l.i ≤ l.p.scope.length;
+  above : Above l.p l.work l.i;
+  counted : Upto l.p l.work (NowFrom l.all l.names l.name l.n) l.i;
+}

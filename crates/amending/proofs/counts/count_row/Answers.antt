@@ -2,46 +2,24 @@
 use native.Mathlib.Omega.{arith}
 use Rattle.work.specs.Laws.Works.{spacious}
 use Rattle.amending.proofs.TallyCase.{row_past, row_unused, row-none, row_one}
+use Rattle.amending.proofs.counts.count_row.Goals.{else-x-counts-via-then-x-counts+then-is_used+else-is_some, else-x-counts-via-then-x-counts+else-is_used, else-x-counts-via-else-x-counts}
 use Rattle.amending.proofs.counts.count_row.Goals as goal
 
-pub live_at-r-requires : goal.live_at-r-requires
-live_at-r-requires c =
-    let start = c in
-    (spacious start.requires.1.works, start.requires.2)
-
-pub returns-then-counts-x : goal.returns-then-counts-x
-returns-then-counts-x c =
-    let start = c in
-    row_past c.live_at-r.ensures _ start.requires.3 c.wide-x.ensures c.if-counts-x.true
-
-pub returns-then-not-is_used : goal.returns-then-not-is_used
-returns-then-not-is_used c =
-    let at-live-at = c in
-    let start = at-live-at in
-    row_unused at-live-at.live_at-r.ensures _ start.requires.3 c.is_used.ensures c.if-not-is_used.true
-
-pub returns-then-not-is_at : goal.returns-then-not-is_at
-returns-then-not-is_at c =
-    let at-if2 = c in
-    let at-is-used = at-if2 in
-    let at-live-at = at-is-used in
-    let start = at-live-at in
-    row-none at-live-at.live_at-r.ensures _ start.requires.3 at-is-used.is_used.ensures c.captured_at.ensures c.is_at.ensures
-    at-if2.if-not-is_used.false c.if-not-is_at.true
+pub live_at-name-requires : goal.live_at-name-requires
+live_at-name-requires c = (spacious c.requires.1.works, c.requires.2)
 
 pub overflow_add-counts : goal.overflow_add-counts
-overflow_add-counts c =
-    let at_wide = c in
-    let start = at_wide in
-    omega (arith, start.requires.3 at_wide.wide-x.result, start.requires.2, (spacious start.requires.1.works).names)
+overflow_add-counts c = omega (arith, c.requires.3 c.wide-x.result, c.requires.2, (spacious c.requires.1.works).names)
 
-pub returns : goal.returns
-returns c =
-    let at-captured-at = c in
-    let at-if2 = at-captured-at in
-    let at-is-used = at-if2 in
-    let at_wide = at-is-used in
-    let at-live-at = at_wide in
-    let start = at-live-at in
-    row_one at-live-at.live_at-r.ensures _ start.requires.3 at-is-used.is_used.ensures at-captured-at.captured_at.ensures c.is_at.ensures
-    at-if2.if-not-is_used.false at_wide.wide-x.ensures c.if-not-is_at.false
+pub returns-then-is_some : goal.returns-then-is_some
+returns-then-is_some c =
+    row_one c.live_at-name.ensures _ c.requires.3 c.is_used.ensures c.captured_at.ensures c.is_some.ensures
+    c.if-is_used.true c.wide-x.ensures c.if-is_some.true
+
+pub returns-else-x-counts : goal.returns-else-x-counts
+returns-else-x-counts c = elim c.else-x-counts.branch [
+  | else-x-counts-via-else-x-counts w ↦ row_past c.live_at-name.ensures _ c.requires.3 c.wide-x.ensures w.if-x-counts.false
+  | else-x-counts-via-then-x-counts+else-is_used w ↦ row_unused c.live_at-name.ensures _ c.requires.3 w.is_used.ensures w.if-is_used.false
+  | else-x-counts-via-then-x-counts+then-is_used+else-is_some w ↦
+      row-none c.live_at-name.ensures _ c.requires.3 w.is_used.ensures w.captured_at.ensures w.is_some.ensures w.if-is_used.true w.if-is_some.false
+]

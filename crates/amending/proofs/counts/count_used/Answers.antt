@@ -2,10 +2,8 @@
 use Rattle.amending.proofs.NowCase.{count-told, count_searched}
 use Rattle.amending.proofs.counts.count_used.Goals as goal
 
-pub returns-then-x-counts : goal.returns-then-x-counts
-returns-then-x-counts c =
-    let at_wide = c in
-    count-told at_wide.wide-x.ensures c.if-x-counts.true c.wide.ensures
+pub returns-in-Some : goal.returns-in-Some
+returns-in-Some c = let h = c.in-Some.ensures.lookup.3 in count-told c.wide.ensures h.0 (rw (h.1 0) at c.wide-in-Some.ensures)
 
-pub returns : goal.returns
-returns c = count_searched c.search_count.ensures
+pub returns-in-None : goal.returns-in-None
+returns-in-None c = count_searched c.search_count.ensures

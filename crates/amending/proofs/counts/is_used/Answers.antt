@@ -5,12 +5,8 @@ use Rattle.amending.proofs.counts.is_used.Goals as goal
 pub returns-then-d : goal.returns-then-d
 returns-then-d c = used-held c.if-d.true
 
-pub returns-then-x-used : goal.returns-then-x-used
-returns-then-x-used c =
-    let at-if1 = c in
-    used_marked at-if1.if-d.false c.wide-x.ensures c.if-x-used.true
+pub returns-in-Some : goal.returns-in-Some
+returns-in-Some c = let h = c.in-Some.ensures.lookup.3 in rw (h.1 0) (used_marked c.if-d.false c.wide.ensures h.0)
 
-pub returns : goal.returns
-returns c =
-    let at-if1 = c in
-    used_searched at-if1.if-d.false c.uses_name.ensures
+pub returns-in-None : goal.returns-in-None
+returns-in-None c = used_searched c.if-d.false c.uses_name.ensures

@@ -4,12 +4,8 @@ use Rattle.amending.proofs.number.put_offsets.Goals as goal
 
 pub returns-then-heap : goal.returns-then-heap
 returns-then-heap c =
-    let at-with-heap-offsets = c in
-    let at-if1 = at-with-heap-offsets in
-    puts_heap at-if1.offsets_from-f.ensures at-if1.if-heap.true at-with-heap-offsets.with_heap_offsets.ensures
+    puts_heap c.offsets_from-f.ensures c.if-heap.true c.with_heap_offsets.ensures
 
 pub returns-else-heap : goal.returns-else-heap
 returns-else-heap c =
-    let at-with-capture-offsets = c in
-    let at-if1 = at-with-capture-offsets in
-    puts_capture at-if1.offsets_from-f.ensures at-if1.if-heap.false at-with-capture-offsets.with_capture_offsets.ensures
+    puts_capture c.offsets_from-f.ensures c.if-heap.false c.with_capture_offsets.ensures

@@ -2,8 +2,6 @@
 use borrow.Author.Tests.{eqb-true, eq-eqb}
 use native.Mathlib.Omega.{arith}
 use Prim.Native.Nat.{◌≤◌}
-use mathlib.Core.Bool.{true≢false}
-use mathlib.Core.Path.{sym}
 use lib.ListN.{length-set}
 use Rattle.scans.proofs.Telling.{tells_no, tells_without}
 use Rattle.scans.proofs.Limiting.{tells_sound, names_at, children_at, names_few, children_few}
@@ -15,55 +13,33 @@ use Rattle.checks.proofs.sweep.clear.Goals as goal
 pub loop-i-init : goal.loop-i-init
 loop-i-init c = (sweep_begin _ _ _ c.requires.rs_len_bound c.requires.rs_in_bounds c.len-n.ensures, store_begin _ _ 0)
 
-pub within-requires : goal.within-requires
-within-requires c = omega arith
-
 pub returns-then-not-within-clause-tells : goal.returns-then-not-within-clause-tells
 returns-then-not-within-clause-tells c =
-    tells_without (tells_sound _ c.all-t.ensures _ c.loop-i.invariant.0.few c.within.ensures) c.if-not-within.true (λ k. clear_sound c.loop-i.invariant.0 k (omega arith))
-
-pub returns-then-not-within-clause-told : goal.returns-then-not-within-clause-told
-returns-then-not-within-clause-told c =
-    λ f. absurd (true≢false (sym f))
+    tells_without (tells_sound _ c.new-limits.ensures _ c.loop-i.invariant.0.few c.within.ensures) c.if-not-within.true (λ k. clear_sound c.loop-i.invariant.0 k (omega arith))
 
 pub returns-then-not-within-clause-stores : goal.returns-then-not-within-clause-stores
 returns-then-not-within-clause-stores c =
     stores c.loop-i.invariant.1 (more_tops c.loop-i.invariant.0.places.listed)
 
-pub parts-requires-clause-i_in_bounds : goal.parts-requires-clause-i_in_bounds
-parts-requires-clause-i_in_bounds c =
-    let f = c.within.ensures.yes c.if-not-within.false in omega arith
-
-pub parts-requires-clause-i_bound : goal.parts-requires-clause-i_bound
-parts-requires-clause-i_bound c =
+pub of-requires-clause-i_bound : goal.of-requires-clause-i_bound
+of-requires-clause-i_bound c =
     let f = c.within.ensures.yes c.if-not-within.false in f.fields.known
 
-pub parts-requires-clause-j_bound : goal.parts-requires-clause-j_bound
-parts-requires-clause-j_bound c =
-    let f = c.within.ensures.yes c.if-not-within.false in omega arith
-
-pub parts-requires-clause-j_bound_2 : goal.parts-requires-clause-j_bound_2
-parts-requires-clause-j_bound_2 c =
-    let f = c.within.ensures.yes c.if-not-within.false in omega (arith, names_few _ c.all-t.ensures _ f)
+pub of-requires-clause-fits : goal.of-requires-clause-fits
+of-requires-clause-fits c =
+    let f = c.within.ensures.yes c.if-not-within.false in omega (arith, names_few _ c.new-limits.ensures _ f)
 
 pub overflow_add-due : goal.overflow_add-due
 overflow_add-due c =
-    omega (arith, c.parts.ensures, names_few _ c.all-t.ensures _ (c.within.ensures.yes c.if-not-within.false), c.taken.ensures, c.loop-i.invariant.0.few)
+    omega (arith, c.of.ensures, names_few _ c.new-limits.ensures _ (c.within.ensures.yes c.if-not-within.false), c.taken.ensures, c.loop-i.invariant.0.few)
 
 pub returns-then-inner-ge-DEEPEST-clause-tells : goal.returns-then-inner-ge-DEEPEST-clause-tells
 returns-then-inner-ge-DEEPEST-clause-tells c =
     tells_no (λ k. let h = clear_near c.loop-i.invariant.0 k (omega arith) in omega arith)
 
-pub returns-then-inner-ge-DEEPEST-clause-told : goal.returns-then-inner-ge-DEEPEST-clause-told
-returns-then-inner-ge-DEEPEST-clause-told c =
-    λ f. absurd (true≢false (sym f))
-
 pub returns-then-inner-ge-DEEPEST-clause-stores : goal.returns-then-inner-ge-DEEPEST-clause-stores
 returns-then-inner-ge-DEEPEST-clause-stores c =
     stores c.loop-i.invariant.1 (more_tops c.loop-i.invariant.0.places.listed)
-
-pub bounds-tops-top : goal.bounds-tops-top
-bounds-tops-top c = let a = c.loop-i.invariant.0.places.listed in omega arith
 
 pub overflow_add-top : goal.overflow_add-top
 overflow_add-top c =
@@ -71,21 +47,13 @@ overflow_add-top c =
     let one : c.pick-top.result ≤ 1 = rw c.pick-top.ensures (search one_listed) in
     omega arith
 
-pub parts-requires-in-loop-i-clause-i_in_bounds : goal.parts-requires-in-loop-i-clause-i_in_bounds
-parts-requires-in-loop-i-clause-i_in_bounds c =
-    let f = c.within.ensures.yes c.if-not-within.false in omega arith
-
-pub parts-requires-in-loop-i-clause-i_bound : goal.parts-requires-in-loop-i-clause-i_bound
-parts-requires-in-loop-i-clause-i_bound c =
+pub of-requires-in-loop-i-clause-i_bound : goal.of-requires-in-loop-i-clause-i_bound
+of-requires-in-loop-i-clause-i_bound c =
     let f = c.within.ensures.yes c.if-not-within.false in f.fields.known
 
-pub parts-requires-in-loop-i-clause-j_bound : goal.parts-requires-in-loop-i-clause-j_bound
-parts-requires-in-loop-i-clause-j_bound c =
-    let f = c.within.ensures.yes c.if-not-within.false in omega arith
-
-pub parts-requires-in-loop-i-clause-j_bound_2 : goal.parts-requires-in-loop-i-clause-j_bound_2
-parts-requires-in-loop-i-clause-j_bound_2 c =
-    let f = c.within.ensures.yes c.if-not-within.false in omega (arith, children_few _ c.all-t.ensures _ f)
+pub of-requires-in-loop-i-clause-fits : goal.of-requires-in-loop-i-clause-fits
+of-requires-in-loop-i-clause-fits c =
+    let f = c.within.ensures.yes c.if-not-within.false in omega (arith, children_few _ c.new-limits.ensures _ f)
 
 pub step-inner-requires-clause-le_word : goal.step-inner-requires-clause-le_word
 step-inner-requires-clause-le_word c =
@@ -105,27 +73,18 @@ step-inner-requires-clause-under_in_bounds c =
 
 pub step-inner-requires-clause-children_bound : goal.step-inner-requires-clause-children_bound
 step-inner-requires-clause-children_bound c =
-    let a = c.loop-i.invariant.0.places in omega (arith, c.parts-in-loop-i.ensures, children_few _ c.all-t.ensures _ (c.within.ensures.yes c.if-not-within.false))
-
-pub overflow_add-i : goal.overflow_add-i
-overflow_add-i c = omega arith
-
-pub loop-i-smaller : goal.loop-i-smaller
-loop-i-smaller c = omega arith
+    let a = c.loop-i.invariant.0.places in omega (arith, c.of-in-loop-i.ensures, children_few _ c.new-limits.ensures _ (c.within.ensures.yes c.if-not-within.false))
 
 pub loop-i-preserved : goal.loop-i-preserved
 loop-i-preserved c =
-    let k = c.all-t.ensures in
+    let k = c.new-limits.ensures in
     let f = c.within.ensures.yes c.if-not-within.false in (
       rw c.pick-top.ensures
           (sweep_next c.loop-i.invariant.0 (omega arith) ((tells_sound _ k _ c.loop-i.invariant.0.few c.within.ensures).yes c.if-not-within.false)
-          (rw (c.taken.ensures, c.parts.ensures, names_at _ k _ f)) c.if-inner-ge-DEEPEST.false c.step-inner.ensures
-          (rw c.parts-in-loop-i.ensures (children_at _ k _ f))),
+          (rw (c.taken.ensures, c.of.ensures, names_at _ k _ f)) c.if-inner-ge-DEEPEST.false c.step-inner.ensures
+          (rw c.of-in-loop-i.ensures (children_at _ k _ f))),
       let a = c.loop-i.invariant.0.places.listed in store_later (store_one c.loop-i.invariant.1 (omega arith) (omega arith)) (omega arith),
     )
-
-pub bounds-tops-top-2 : goal.bounds-tops-top-2
-bounds-tops-top-2 c = let a = c.loop-i.invariant.0.places.listed in omega arith
 
 pub shape_of-tops : goal.shape_of-tops
 shape_of-tops c = simp length-set c.loop-i.invariant.1.long

@@ -13,26 +13,22 @@ pub returns-then-is_constant : goal.returns-then-is_constant
 returns-then-is_constant c = called_const _ _ _ _ c.core_at-head.ensures (sym c.is_constant.ensures ∙ c.if-is_constant.true)
 
 pub form-requires : goal.form-requires
-form-requires c = let d = c in head-inside _ _ _ _ d.core_at-head.ensures d.requires
+form-requires c = head-inside _ _ _ _ c.core_at-head.ensures c.requires
 
 pub is_self-own-requires : goal.is_self-own-requires
 is_self-own-requires c =
-    let d = c in
-    (head_few _ _ _ _ d.core_at-head.ensures d.requires, call_facts _ _ _ _ d.requires)
+    (head_few _ _ _ _ c.core_at-head.ensures c.requires, call_facts _ _ _ _ c.requires)
 
 pub span_at-span-requires : goal.span_at-span-requires
-span_at-span-requires c = let d = c in head-inside _ _ _ _ d.core_at-head.ensures d.requires
+span_at-span-requires c = head-inside _ _ _ _ c.core_at-head.ensures c.requires
 
 pub call_site-requires : goal.call_site-requires
 call_site-requires c = call_fact_inside _ _ _ _ c.requires
 
 pub returns-then-form-eq-IDENTIFIER : goal.returns-then-form-eq-IDENTIFIER
 returns-then-form-eq-IDENTIFIER c =
-    let b = c in
-    let i = b in
-    let t = i in
-    called_by_name _ _ _ _ t.core_at-head.ensures b.call_site.ensures (sym t.form.ensures ∙ t.if-form-eq-IDENTIFIER.true)
-    i.is_self-own.ensures b.call_kind.ensures b.span_at-span.ensures
+    called_by_name _ _ _ _ c.core_at-head.ensures c.call_site.ensures (sym c.form.ensures ∙ c.if-form-eq-IDENTIFIER.true)
+    c.is_self-own.ensures c.call_kind.ensures c.span_at-span.ensures
 
 pub span_at-span-requires-2 : goal.span_at-span-requires-2
 span_at-span-requires-2 c = call_inside _ _ _ _ c.requires
@@ -42,8 +38,5 @@ call_site-requires-2 c = call_fact_inside _ _ _ _ c.requires
 
 pub returns : goal.returns
 returns c =
-    let b = c in
-    let t = b in
-    let i = t in
-    called_else _ _ _ _ i.core_at-head.ensures b.call_site-2.ensures (sym i.is_constant.ensures ∙ t.if-is_constant.false)
-    (λ e. t.if-form-eq-IDENTIFIER.false (t.form.ensures ∙ e)) b.call_kind-2.ensures b.span_at-span-2.ensures
+    called_else _ _ _ _ c.core_at-head.ensures c.call_site-2.ensures (sym c.is_constant.ensures ∙ c.if-is_constant.false)
+    (λ e. c.if-form-eq-IDENTIFIER.false (c.form.ensures ∙ e)) c.call_kind-2.ensures c.span_at-span-2.ensures

@@ -9,4 +9,4 @@ pub enter_define-requires : goal.enter_define-requires
 enter_define-requires c = define_room _ _ _ _ _ c.requires
 
 pub returns : goal.returns
-returns c = let entered = c in value_entered _ _ _ _ _ entered.enter_define.ensures entered.if-b.false
+returns c = value_entered _ _ _ _ _ c.enter_define.ensures c.if-b.false

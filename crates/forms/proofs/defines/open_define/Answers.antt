@@ -6,16 +6,14 @@ pub id-id-requires : goal.id-id-requires
 id-id-requires c = name_inside _ _ _ _ _ c.requires
 
 pub returns-then-direct : goal.returns-then-direct
-returns-then-direct c = let branch = c in rw c.name_in.ensures (direct_opens _ _ _ _ _ branch.if-direct.true branch.id-id.ensures)
+returns-then-direct c = rw c.name_in.ensures (direct_opens _ _ _ _ _ c.if-direct.true c.id-id.ensures)
 
 pub enter_define-name-requires : goal.enter_define-name-requires
 enter_define-name-requires c = define_room _ _ _ _ _ c.requires
 
 pub returns-then-b : goal.returns-then-b
 returns-then-b c =
-    let entered = c in
-    let branch = entered in
-    lambda_define_opens _ _ _ _ _ entered.enter_define-name.ensures branch.if-direct.false branch.if-b.true branch.id-id.ensures
+    lambda_define_opens _ _ _ _ _ c.enter_define-name.ensures c.if-direct.false c.if-b.true c.id-id.ensures
 
 pub returns : goal.returns
-returns c = let branch = c in rw c.name_in-2.ensures (value_opens _ _ _ _ _ branch.if-direct.false branch.if-b.false)
+returns c = rw c.name_in-2.ensures (value_opens _ _ _ _ _ c.if-direct.false c.if-b.false)

@@ -1,20 +1,13 @@
 -- `entering`: by whether the lambda has a fact.
-use mathlib.Core.Path.{ap}
-use native.Mathlib.Omega.{arith}
-use Rattle.semantic.specs.Kinds.{function_found}
 use Rattle.layers.proofs.LambdaEnter.{enters_first, enters_again}
+use Rattle.layers.proofs.lambda.entering.Goals.{in-Some, in-None}
 use Rattle.layers.proofs.lambda.entering.Goals as goal
 
-pub returns-in_default : goal.returns-in_default
-returns-in_default c = enters_first c.in_default.is c.no_list-none.ensures
-
 pub heap_count-requires : goal.heap_count-requires
-heap_count-requires c = ((c.requires.0 _ (ap function_found c.in-Found.is)).0, c.requires.1)
-
-pub overflow_add-heaps : goal.overflow_add-heaps
-overflow_add-heaps c = omega (arith, c.heap_count.ensures.few)
+heap_count-requires c = ((c.requires.0 _ c.in-Some.is).0, c.requires.1)
 
 pub returns : goal.returns
-returns c =
-    let h = c.heap_count.ensures in
-    enters_again c.in-Found.is c.requires.0 h.counts_heap h.few
+returns c = elim c.match-v.branch [
+  | in-Some w ↦ let h = w.heap_count.ensures in rw w.heaps-is (enters_again w.in-Some.is c.requires.0 h.counts_heap h.few)
+  | in-None w ↦ rw w.heaps-is (enters_first w.in-None.is w.no_list.ensures)
+]

@@ -2,11 +2,11 @@
 use Rattle.layers.proofs.LambdaEnter.{numbers_nothing, list-numbers, numbers_found}
 use Rattle.layers.proofs.lambda.number_captures.Goals as goal
 
-pub returns-in_default : goal.returns-in_default
-returns-in_default c = numbers_nothing c.in_default.is
+pub number_list-requires : goal.number_list-requires
+number_list-requires c = list-numbers c.in-Some.is c.requires
 
-pub number_list-q-requires : goal.number_list-q-requires
-number_list-q-requires c = list-numbers c.in-Found.is c.requires
+pub returns-in-Some : goal.returns-in-Some
+returns-in-Some c = numbers_found c.in-Some.is c.number_list.ensures
 
-pub returns : goal.returns
-returns c = numbers_found c.in-Found.is c.number_list-q.ensures
+pub returns-in-None : goal.returns-in-None
+returns-in-None c = numbers_nothing c.in-None.is

@@ -1,5 +1,4 @@
 -- `close_let`: the names, the fact, the layer.
-use mathlib.Core.Path.{◌∙◌}
 use Rattle.layers.proofs.LetEnds.{ends_fact, ends_make, ends_spacious, let_closes}
 use Rattle.layers.proofs.lets.close_let.Goals as goal
 
@@ -11,12 +10,6 @@ make_let-r-requires c = ends_make c.is_blank-blank.ensures c.leave_names-q.ensur
 
 pub close_layer-requires : goal.close_layer-requires
 close_layer-requires c = ends_spacious c.is_blank-blank.ensures c.leave_names-q.ensures c.make_let-r.ensures c.requires
-
-pub shape_of-facts : goal.shape_of-facts
-shape_of-facts c =
-    let at-make-let = c in
-    let at-leave-names = at-make-let in
-    at-make-let.make_let-r.auto.facts ∙ at-leave-names.leave_names-q.auto.facts
 
 pub returns : goal.returns
 returns c = let_closes c.is_blank-blank.ensures c.leave_names-q.ensures c.make_let-r.ensures c.requires.few c.close_layer.ensures

@@ -1,6 +1,9 @@
--- `function_id`: the number beside the record's.
-use Rattle.layers.proofs.LetsCase.{tells_id}
+-- `function_id`: by whether a lambda stands around.
+use Rattle.layers.proofs.LetsCase.{no_id, tells_id}
 use Rattle.layers.proofs.lets.function_id.Goals as goal
 
-pub returns : goal.returns
-returns c = tells_id _
+pub returns-in-Some : goal.returns-in-Some
+returns-in-Some c = rw c.in-Some.is (tells_id _)
+
+pub returns-in-None : goal.returns-in-None
+returns-in-None c = rw c.in-None.is no_id

@@ -2,11 +2,11 @@
 use Rattle.layers.proofs.LetsCase.{let_fact, no_let, let_list}
 use Rattle.layers.proofs.lets.let_arguments.Goals as goal
 
-pub let_at-found-requires : goal.let_at-found-requires
-let_at-found-requires c = let_fact c.requires
+pub let_at-requires : goal.let_at-requires
+let_at-requires c = let_fact c.requires
 
-pub returns-in_default : goal.returns-in_default
-returns-in_default c = no_let c.requires c.let_at-found.result c.let_at-found.ensures c.in_default.is c.no_list.ensures
+pub returns-in-Some : goal.returns-in-Some
+returns-in-Some c = let_list c.requires c.let_at.result c.let_at.ensures c.in-Some.is
 
-pub returns : goal.returns
-returns c = let_list c.requires c.let_at-found.result c.let_at-found.ensures c.in-Found.is
+pub returns-in-None : goal.returns-in-None
+returns-in-None c = no_let c.requires c.let_at.result c.let_at.ensures c.in-None.is c.no_list.ensures

@@ -16,8 +16,8 @@ narrow-requires c = omega (arith, make-top (ap not c.if-not-blank.false) c.requi
 pub narrow-requires-2 : goal.narrow-requires-2
 narrow-requires-2 c = omega (arith, make-top (ap not c.if-not-blank.false) c.requires)
 
-pub store_let-requires : goal.store_let-requires
-store_let-requires c = make_fact c.requires
+pub store-requires : goal.store-requires
+store-requires c = make_fact c.requires
 
 pub returns : goal.returns
-returns c = let_made (ap not c.if-not-blank.false) c.requires.few c.store_names-q.ensures c.narrow.ensures c.narrow-2.ensures c.function_id.ensures c.new-fact.ensures c.store_let.ensures
+returns c = let_made (ap not c.if-not-blank.false) c.requires.few c.store_names-q.ensures c.narrow.ensures c.narrow-2.ensures c.function_id.ensures c.new-fact.ensures c.store.ensures

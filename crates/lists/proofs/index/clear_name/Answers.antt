@@ -1,9 +1,9 @@
 -- `clear_name`.
-use Rattle.lists.proofs.IndexCase.{clear_in, clear_past}
+use Rattle.lists.proofs.IndexCase.{clear_past, clear_in}
 use Rattle.lists.proofs.index.clear_name.Goals as goal
 
-pub returns-then-index-x : goal.returns-then-index-x
-returns-then-index-x c = clear_past c.if-index-x.true
+pub returns-then-x-index : goal.returns-then-x-index
+returns-then-x-index c = clear_in
 
-pub returns : goal.returns
-returns c = clear_in
+pub returns-else-x-index : goal.returns-else-x-index
+returns-else-x-index c = clear_past c.if-x-index.false

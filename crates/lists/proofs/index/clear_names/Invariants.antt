@@ -1,10 +1,6 @@
 -- `clear_names`: the names from the i-th on are left.
-use Prim.Native.Nat.{◌-◌, ◌≤◌}
 use Rattle.lists.proofs.IndexCase.{ClearFrom}
 use Rattle.lists.proofs.index.clear_names.Given as goal
 
 abbrev pub invariant-loop-i : goal.invariant-loop-i
-invariant-loop-i l = (l.i ≤ l.names.count) × ClearFrom l.all l.names l.initial.index l.i l.index
-
-abbrev pub decreases-loop-i : goal.decreases-loop-i
-decreases-loop-i l = l.names.count - l.i
+invariant-loop-i l = ClearFrom l.all l.names l.initial.index l.i l.index

@@ -1,19 +1,17 @@
 -- `put_row`.
+use native.Mathlib.Omega.{arith}
 use Rattle.work.specs.Laws.Works.{spacious}
-use Rattle.lists.proofs.IndexCase.{value_inside, put_in, put_past}
+use Rattle.lists.proofs.IndexCase.{put_past, put_in, value_inside}
 use Rattle.lists.proofs.index.put_row.Goals as goal
 
 pub live_at-r-requires : goal.live_at-r-requires
-live_at-r-requires c = let start = c in (spacious start.requires.0.here.works, start.requires.1)
+live_at-r-requires c = (spacious c.requires.0.here.works, c.requires.1)
 
-pub returns-then-index-x : goal.returns-then-index-x
-returns-then-index-x c = put_past c.live_at-r.ensures c.wide-x.ensures c.if-index-x.true
+pub where_captured-requires : goal.where_captured-requires
+where_captured-requires c = (c.requires.0.here.works.long, omega (arith, c.wide.ensures, value_inside c.requires.0.here c.live_at-r.ensures))
 
-pub code_of-requires : goal.code_of-requires
-code_of-requires c =
-    let at-live-at = c in
-    let start = at-live-at in
-    (start.requires.0.here.works.long, value_inside start.requires.0.here at-live-at.live_at-r.ensures)
+pub returns-then-x-index : goal.returns-then-x-index
+returns-then-x-index c = put_in c.live_at-r.ensures c.wide-x.ensures c.wide.ensures c.where_captured.ensures
 
-pub returns : goal.returns
-returns c = put_in c.live_at-r.ensures c.wide-x.ensures c.code_of.ensures
+pub returns-else-x-index : goal.returns-else-x-index
+returns-else-x-index c = put_past c.live_at-r.ensures c.wide-x.ensures c.if-x-index.false

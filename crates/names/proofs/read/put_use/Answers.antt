@@ -3,8 +3,4 @@ use Rattle.names.proofs.ReadCase.{puts_use}
 use Rattle.names.proofs.read.put_use.Goals as goal
 
 pub returns : goal.returns
-returns c =
-    let p₁ = c in
-    let p₂ = p₁ in
-    let start = p₂ in
-    puts_use start.requires.1 p₂.store_entry.ensures p₁.with_usage_count.ensures
+returns c = puts_use c.requires.1 c.store_entry.ensures c.with_usage_count.ensures

@@ -1,50 +1,22 @@
 -- `read_home`: the entry is used, last by this, and captured, then the fact.
 use native.Mathlib.Omega.{arith}
-use Rattle.names.specs.Laws.Idents.{known-inside}
 use Rattle.names.proofs.KnownCase.{binder_bounds, here_bounds, binder_uses, uses_are, used-fits, row_still}
 use Rattle.names.proofs.ReadCase.{reads-home}
 use Rattle.names.proofs.read.read_home.Goals as goal
 
-pub used-f-requires : goal.used-f-requires
-used-f-requires c = omega (arith, binder_uses c.requires c.load_entry-e.ensures)
+pub used-requires : goal.used-requires
+used-requires c = omega (arith, binder_uses c.requires c.load_entry.ensures)
 
 pub put_use-requires : goal.put_use-requires
 put_use-requires c =
-    let p₁ = c in
-    let p₂ = p₁ in
-    let p₃ = p₂ in
-    let p₄ = p₃ in
-    let start = p₄ in
-    let k = binder_bounds start.requires in
-    let f = used-fits p₃.used-f.ensures (binder_uses start.requires p₄.load_entry-e.ensures) in
-    (k.long, k.few, omega (arith, uses_are p₂.used_by-g.ensures, uses_are p₁.capture-h.ensures), k.row)
+    let k = binder_bounds c.requires in
+    let f = used-fits c.used.ensures (binder_uses c.requires c.load_entry.ensures) in
+    (k.long, k.few, omega (arith, uses_are c.used_by.ensures, uses_are c.capture-e.ensures), k.row)
 
-pub id-requires : goal.id-requires
-id-requires c =
-    let start = c in
-    known-inside start.requires.known start.requires.bound
-
-pub span_at-requires : goal.span_at-requires
-span_at-requires c =
-    let start = c in
-    known-inside start.requires.here.known start.requires.here.place
-
-pub store_information-requires : goal.store_information-requires
-store_information-requires c =
-    let p₁ = c in
-    let start = p₁ in
-    row_still (here_bounds start.requires) p₁.put_use.auto.facts
+pub store-requires : goal.store-requires
+store-requires c = row_still (here_bounds c.requires) c.put_use.auto.facts
 
 pub returns : goal.returns
 returns c =
-    let p₁ = c in
-    let p₂ = p₁ in
-    let p₃ = p₂ in
-    let p₄ = p₃ in
-    let p₅ = p₄ in
-    let p₆ = p₅ in
-    let p₇ = p₆ in
-    let p₈ = p₇ in
-    let p₉ = p₈ in
-    reads-home p₄.id.ensures p₃.span_at.ensures p₉.load_entry-e.ensures p₈.used-f.ensures p₇.used_by-g.ensures p₆.capture-h.ensures
-    p₅.put_use.ensures p₂.home_fact-fact.ensures p₁.store_information.ensures
+    reads-home c.id.ensures c.span_at.ensures c.load_entry.ensures c.used.ensures c.used_by.ensures c.capture-e.ensures
+    c.put_use.ensures c.home_fact-fact.ensures c.store.ensures

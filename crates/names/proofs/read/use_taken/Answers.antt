@@ -13,21 +13,11 @@ use_capture-requires c = let k = c.requires.2 in (k.works.long, takeable_place k
 
 pub store_entry-requires : goal.store_entry-requires
 store_entry-requires c =
-    let p₁ = c in
-    let p₂ = p₁ in
-    let p₃ = p₂ in
-    let start = p₃ in
-    let a = start.requires in
-    let u = takeable_uses a.2 p₃.use_capture.ensures p₂.load_entry-e.ensures in
-    (search rules, a.1, omega (arith, uses_are p₁.used_by-f.ensures, uses_are c.capture.ensures))
+    let a = c.requires in
+    let u = takeable_uses a.2 c.use_capture.ensures c.load_entry.ensures in
+    (search rules, a.1, omega (arith, uses_are c.used_by.ensures, uses_are c.capture-e.ensures))
 
 pub returns : goal.returns
 returns c =
-    let p₁ = c in
-    let p₂ = p₁ in
-    let p₃ = p₂ in
-    let p₄ = p₃ in
-    let p₅ = p₄ in
-    let p₆ = p₅ in
-    uses-taken p₆.load_capture-t.ensures p₅.use_capture.ensures p₄.load_entry-e.ensures p₃.used_by-f.ensures p₂.capture.ensures
-    p₁.store_entry.ensures
+    uses-taken c.load_capture-t.ensures c.use_capture.ensures c.load_entry.ensures c.used_by.ensures c.capture-e.ensures
+    c.store_entry.ensures

@@ -1,9 +1,6 @@
--- `is_tail`: the row's first two numbers tell.
-use Rattle.printing.proofs.Count.{tail_told, no_tail}
+-- `is_tail`: of a call the row's second number tells.
+use Rattle.printing.proofs.Count.{tail_told}
 use Rattle.printing.proofs.summary.is_tail.Goals as goal
 
-pub returns-then-facts-at-ne-CALL_SITE : goal.returns-then-facts-at-ne-CALL_SITE
-returns-then-facts-at-ne-CALL_SITE c = let o = c.args in no_tail o.facts.now o.at c.if-facts-at-ne-CALL_SITE.true
-
-pub returns : goal.returns
-returns c = let o = c.args in tail_told o.facts.now o.at c.if-facts-at-ne-CALL_SITE.false
+pub returns-then-is_call : goal.returns-then-is_call
+returns-then-is_call c = tail_told c.args.facts.now c.args.at c.is_call.ensures c.if-is_call.true

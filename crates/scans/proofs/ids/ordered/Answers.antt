@@ -17,9 +17,6 @@ next-few c =
 pub loop-i-init : goal.loop-i-init
 loop-i-init c = order_begin c.args.rising c.args.rs.now c.pick-last.ensures
 
-pub id-requires : goal.id-requires
-id-requires c = omega arith
-
 pub overflow_add-pick : goal.overflow_add-pick
 overflow_add-pick c =
     let d = c in
@@ -34,12 +31,6 @@ returns-then-pick c =
     tells_no
     (order_fails l.invariant (w.wide-id.ensures ∙ w.id.ensures) (omega (arith, w.wide-id.ensures)) q.pick-next.ensures (omega arith)
     (omega (arith, c.pick-in-loop-i-2.ensures, c.pick-in-loop-i.ensures, c.pick.ensures, c.if-pick.true)))
-
-pub overflow_add-i : goal.overflow_add-i
-overflow_add-i c = omega arith
-
-pub loop-i-smaller : goal.loop-i-smaller
-loop-i-smaller c = omega arith
 
 pub loop-i-preserved : goal.loop-i-preserved
 loop-i-preserved c =

@@ -7,25 +7,10 @@ use Rattle.scans.proofs.ids.repeated_in.Goals as goal
 pub loop-i-init : goal.loop-i-init
 loop-i-init c = (ids_begin _, c.requires.chains, refl, refl)
 
-pub repeats-requires-clause-rs_len_bound : goal.repeats-requires-clause-rs_len_bound
-repeats-requires-clause-rs_len_bound c = let l = c in l.requires.rs_len_bound
-
-pub repeats-requires-clause-i_in_bounds : goal.repeats-requires-clause-i_in_bounds
-repeats-requires-clause-i_in_bounds c = let l = c in omega arith
-
-pub repeats-requires-clause-chains : goal.repeats-requires-clause-chains
-repeats-requires-clause-chains c = let l = c in l.loop-i.invariant.1
-
 pub returns-then-repeats : goal.returns-then-repeats
 returns-then-repeats c =
     let r = c in
     ids_hit r.loop-i.invariant.0 (omega arith) r.repeats.ensures.value c.if-repeats.true
-
-pub overflow_add-i : goal.overflow_add-i
-overflow_add-i c = omega arith
-
-pub loop-i-smaller : goal.loop-i-smaller
-loop-i-smaller c = omega arith
 
 pub loop-i-preserved : goal.loop-i-preserved
 loop-i-preserved c =

@@ -1,6 +1,6 @@
 -- `repeats`: the id is compared along its bucket's chain, which the record then heads; with no id, neither.
 use native.Mathlib.Omega.{arith}
-use mathlib.Core.Bool.{cond, true≢false}
+use mathlib.Core.Bool.{cond}
 use mathlib.Core.Path.{sym, ◌∙◌}
 use lib.Dec.{eqb}
 use lib.ListN.{get_or}
@@ -17,7 +17,7 @@ at-pick : (c : After-pick-last) → let d = c in let s = d in
 at-pick c =
     let d = c in
     let s = d in
-    rw (c.pick-last.ensures, c.index-head.ensures) (picked s.requires.chains d.id-id.ensures d.bucket-b.ensures.value (omega arith) (omega arith))
+    rw (c.pick-last.ensures, c.from-head.ensures) (picked s.requires.chains d.id-id.ensures d.bucket-b.ensures.value (omega arith) (omega arith))
 
 pub stands-requires-clause-last_value : goal.stands-requires-clause-last_value
 stands-requires-clause-last_value c = let k = at-pick (goal.at.stands-requires-clause-last_value c).After-pick-last in k.none
@@ -28,16 +28,13 @@ stands-requires-clause-chain c = let k = at-pick (goal.at.stands-requires-clause
 pub returns-then-stands-clause-value : goal.returns-then-stands-clause-value
 returns-then-stands-clause-value c = sym c.if-stands.true ∙ (at-pick (goal.at.returns-then-stands-clause-value c).After-pick-last).along c.stands.ensures
 
-pub returns-then-stands-clause-chained : goal.returns-then-stands-clause-chained
-returns-then-stands-clause-chained c = λ f. absurd (true≢false f)
-
 pub overflow_cast-before : goal.overflow_cast-before
 overflow_cast-before c = omega (arith, (at-pick (goal.at.overflow_cast-before c).After-pick-last).chain.within)
 
 pub overflow_cast-newest : goal.overflow_cast-newest
 overflow_cast-newest c =
     let p = c in
-    rw (c.pick.ensures, p.index-head.ensures) (omega (arith, (at-pick (goal.at.overflow_cast-newest p).After-pick-last).within))
+    rw (c.pick.ensures, p.from-head.ensures) (omega (arith, (at-pick (goal.at.overflow_cast-newest p).After-pick-last).within))
 
 pub returns-clause-value : goal.returns-clause-value
 returns-clause-value c =
@@ -45,4 +42,4 @@ returns-clause-value c =
 
 pub returns-clause-chained : goal.returns-clause-chained
 returns-clause-chained c =
-    let p = c in λ f. rw (c.pick.ensures, p.index-head.ensures) (at-pick (goal.at.returns-clause-chained p).After-pick-last).chained
+    let p = c in λ f. rw (c.pick.ensures, p.from-head.ensures) (at-pick (goal.at.returns-clause-chained p).After-pick-last).chained

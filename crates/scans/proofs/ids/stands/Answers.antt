@@ -9,30 +9,21 @@ use Rattle.scans.proofs.ids.stands.Goals as goal
 pub loop-p-init : goal.loop-p-init
 loop-p-init c = (c.requires.chain, refl, c.requires.last_value)
 
-pub id-requires : goal.id-requires
-id-requires c = omega arith
-
 pub returns-then-id : goal.returns-then-id
 returns-then-id c =
     let l = c.loop-p in
     let s : l.p ≡ suc (l.p - 1) = omega arith in
     sym (l.invariant.1 ∙ seen_hit _ _ s (sym c.id.ensures ∙ c.if-id.true))
 
-pub offset_bounds-before-p : goal.offset_bounds-before-p
-offset_bounds-before-p c = omega arith
-
-pub bounds-before-p : goal.bounds-before-p
-bounds-before-p c = omega arith
-
 pub loop-p-smaller : goal.loop-p-smaller
-loop-p-smaller c = chain_less c.loop-p.invariant.0 c.loop-p-test.true c.index-p.ensures
+loop-p-smaller c = chain_less c.loop-p.invariant.0 c.loop-p-test.true c.from-p.ensures
 
 pub loop-p-preserved : goal.loop-p-preserved
 loop-p-preserved c =
     let t = c in
     let l = t.loop-p in
     let h = t.loop-p-test.true in
-    let e = c.index-p.ensures in
+    let e = c.from-p.ensures in
     let given : t.args.id ≡ 0 → ⊥ = λ z. omega (arith, l.invariant.2 z) in (
       chain_next l.invariant.0 h e,
       l.invariant.1 ∙ chain_miss l.invariant.0 h e given (λ m. c.if-id.false (c.id.ensures ∙ m)),

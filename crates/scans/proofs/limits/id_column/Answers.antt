@@ -1,21 +1,13 @@
--- `id_column`: a number after another.
+-- `id_column`: a limit for each form, and the one given for form 0.
+use Rattle.std.proofs.Common.{List, ℕ, rules, ap}
+use Rattle.std.proofs.lemmas.List.FromFn.{fill_by_all}
+use lib.ListN.{set}
+use Rattle.tree.specs.Form.{form_of}
+use Rattle.scans.specs.Limits.{id_limit}
 use Rattle.scans.proofs.limits.id_column.Goals as goal
 
 pub returns : goal.returns
+unfolding form_of
 returns c =
-    let d = c in
-    let e = d in
-    rw (
-      c.id_limit-12.ensures,
-      c.id_limit-11.ensures,
-      c.id_limit-10.ensures,
-      c.id_limit-9.ensures,
-      d.id_limit-8.ensures,
-      d.id_limit-7.ensures,
-      d.id_limit-6.ensures,
-      d.id_limit-5.ensures,
-      e.id_limit-4.ensures,
-      e.id_limit-3.ensures,
-      e.id_limit-2.ensures,
-      e.id_limit.ensures,
-    )
+    let made = c.from_fn-column.ensures.items in
+    ap (λ (l : List ℕ). set l 0 c.args.none) (fill_by_all (id_limit c.args.limit) _ 13 0 made.long (λ i h. let k = (made.at i 0 h).2 in search rules))

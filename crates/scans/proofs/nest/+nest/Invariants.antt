@@ -6,10 +6,7 @@ use Rattle.scans.proofs.Nesting.{Walking}
 use Rattle.scans.proofs.nest.+nest.Given as goal
 
 abbrev pub decreases-nest : goal.decreases-nest
-decreases-nest l = length (records l.rs.now)
+decreases-nest l = length (records l.rs.now) - l.at
 
-abbrev pub invariant-loop-i : goal.invariant-loop-i
-invariant-loop-i l = Walking (records l.rs) l.level l.n l.i l.used
-
-abbrev pub decreases-loop-i : goal.decreases-loop-i
-decreases-loop-i l = l.n - l.i
+abbrev pub invariant-loop : goal.invariant-loop
+invariant-loop l = Walking (records l.rs) l.at l.level l.end l.counter l.next

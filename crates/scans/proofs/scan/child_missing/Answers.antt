@@ -13,17 +13,8 @@ turn c = count_next c.loop-i.invariant (omega arith) _ _ c.taken.ensures c.child
 pub loop-i-init : goal.loop-i-init
 loop-i-init c = count_begin _
 
-pub children-requires : goal.children-requires
-children-requires c = omega arith
-
 pub overflow_add-places : goal.overflow_add-places
 overflow_add-places c = omega (arith, (turn (goal.at.overflow_add-places c).After-children).few)
-
-pub overflow_add-i : goal.overflow_add-i
-overflow_add-i c = omega arith
-
-pub loop-i-smaller : goal.loop-i-smaller
-loop-i-smaller c = omega arith
 
 pub loop-i-preserved : goal.loop-i-preserved
 loop-i-preserved c = turn (goal.at.loop-i-preserved c).After-children
@@ -31,5 +22,5 @@ loop-i-preserved c = turn (goal.at.loop-i-preserved c).After-children
 pub returns-then-places-eq0 : goal.returns-then-places-eq0
 returns-then-places-eq0 c = λ N. none_missing c.loop-i.invariant (omega arith) N c.if-places-eq0.true
 
-pub returns : goal.returns
-returns c = λ N. ap Some c.len-n.ensures ∙ some_missing c.loop-i.invariant (omega arith) N c.if-places-eq0.false
+pub returns-else-places-eq0 : goal.returns-else-places-eq0
+returns-else-places-eq0 c = λ N. ap Some c.len-n.ensures ∙ some_missing c.loop-i.invariant (omega arith) N c.if-places-eq0.false

@@ -11,23 +11,14 @@ use Rattle.scans.proofs.scan.field_outside.Goals.{After-fit}
 use Rattle.scans.proofs.scan.field_outside.Goals as goal
 
 told : (c : After-fit) → let l = c in let s = l in c.fit.result ≡ fits s.args.names (nth s.args.rs.now l.loop-i.i)
-told c = let l = c in fit-told _ l.all-t.ensures _ c.fit.ensures
+told c = let l = c in fit-told _ l.new-limits.ensures _ c.fit.ensures
 
 pub loop-i-init : goal.loop-i-init
 loop-i-init c = begin _ _
 
-pub fit-requires : goal.fit-requires
-fit-requires c = omega arith
-
 pub returns-then-not-fit : goal.returns-then-not-fit
 unfolding check3
 returns-then-not-fit c = hit _ _ c.loop-i.invariant (omega arith) (ap not (sym (told (goal.at.returns-then-not-fit c).After-fit) ∙ c.if-not-fit.true))
-
-pub overflow_add-i : goal.overflow_add-i
-overflow_add-i c = omega arith
-
-pub loop-i-smaller : goal.loop-i-smaller
-loop-i-smaller c = omega arith
 
 pub loop-i-preserved : goal.loop-i-preserved
 loop-i-preserved c = next _ _ c.loop-i.invariant (omega arith) (ap not (sym (told (goal.at.loop-i-preserved c).After-fit) ∙ c.if-not-fit.false))

@@ -1,12 +1,6 @@
 -- `field_outside`: a search for a record that does not fit.
-use Prim.Native.Nat.{◌-◌}
-use lib.ListN.{length}
-use Rattle.tree.specs.Record.{records}
 use Rattle.scans.proofs.Search.{outside, At}
 use Rattle.scans.proofs.scan.field_outside.Given as goal
 
 abbrev pub invariant-loop-i : goal.invariant-loop-i
 invariant-loop-i l = At (outside l.names) l.rs l.i
-
-abbrev pub decreases-loop-i : goal.decreases-loop-i
-decreases-loop-i l = length (records l.rs) - l.i

@@ -1,12 +1,6 @@
 -- `not_a_name`: the names due are those of the innermost open record.
-use Prim.Native.Nat.{◌-◌}
-use lib.ListN.{length}
-use Rattle.tree.specs.Record.{records}
 use Rattle.scans.proofs.Naming.{Naming}
 use Rattle.scans.proofs.scan.not_a_name.Given as goal
 
 abbrev pub invariant-loop-i : goal.invariant-loop-i
 invariant-loop-i l = Naming l.rs l.i l.due
-
-abbrev pub decreases-loop-i : goal.decreases-loop-i
-decreases-loop-i l = length (records l.rs) - l.i

@@ -1,5 +1,4 @@
 -- `define_at`: a row is replaced, or added.
-use Prim.Native.Nat.{◌+◌, ◌*◌}
 use native.Mathlib.Omega.{arith}
 use Rattle.scope_map.proofs.Cases.{define-old, define-new}
 use Rattle.scope_map.proofs.ScopeMap.define_at.Goals as goal
@@ -7,7 +6,7 @@ use Rattle.scope_map.proofs.ScopeMap.define_at.Goals as goal
 pub put-requires : goal.put-requires
 put-requires c =
     let i = c.place-place.result in
-    (omega (arith, c.place-place.ensures.most), c.requires.1, omega (arith, c.slice_known-then-place-length-1.given (3 * i + 2)))
+    (omega (arith, c.place-place.ensures.most), c.requires.1, omega (arith, c.requires.0.rows, c.requires.0.long))
 
 pub returns-then-place-length : goal.returns-then-place-length
 returns-then-place-length c =

@@ -7,6 +7,3 @@ use Rattle.scope_map.proofs.ScopeMap.get.Given as goal
 
 abbrev pub invariant-loop-i : goal.invariant-loop-i
 invariant-loop-i l = (l.i ≤ l.initial.i) × (found_in (live_in l.t l.i) l.name ≡ found_in (live_in l.t l.initial.i) l.name)
-
-abbrev pub decreases-loop-i : goal.decreases-loop-i
-decreases-loop-i l = l.i

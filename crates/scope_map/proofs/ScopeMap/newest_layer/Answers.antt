@@ -21,22 +21,16 @@ find d = record { test = λ e. not (eqb e.layer d); hit = λ e l. e ∷ l; step 
     pick e l true = refl
     pick e l false = refl
 
-found : (t : List ℕ) (d i : ℕ) → 0 < i → ((row_at t (i - 1)).layer ≡ d → ⊥) → below_layer d (live_in t i) ≡ live_in t i
+found : (t : List ℕ) (d i : ℕ) → 0 < i → ((row_at t (i - 1)).layer ≡ d → ⊥) → below_layer d (live_in t i) ≡ live_in t (i - 1 + 1)
 unfolding find
-found t d i h e =
-    let z : i - 1 + 1 ≡ i = omega arith in
-    hits (find d) t i h (ap not (ne_eqb _ _ e)) ∙ sym (live_next t (i - 1)) ∙ ap (live_in t) z
+found t d i h e = hits (find d) t i h (ap not (ne_eqb _ _ e)) ∙ sym (live_next t (i - 1))
 
-pub returns-then-t-last : goal.returns-then-t-last
-returns-then-t-last c =
-    let l = c in
-    starts (sym l.loop-i.invariant.1 ∙ found _ _ _ l.loop-i-test.true c.if-t-last.true)
+pub returns-then-t-i : goal.returns-then-t-i
+returns-then-t-i c = starts (sym c.loop-i.invariant.1 ∙ found _ _ _ c.loop-i-test.true c.if-t-i.true)
 
 pub loop-i-preserved : goal.loop-i-preserved
 unfolding find
-loop-i-preserved c =
-    let l = c in
-    (omega arith, sym (misses (find _) _ _ l.loop-i-test.true (ap not (eq-eqb _ _ c.if-t-last.false))) ∙ l.loop-i.invariant.1)
+loop-i-preserved c = (omega arith, sym (misses (find _) _ _ c.loop-i-test.true (ap not (eq-eqb _ _ c.if-t-i.false))) ∙ c.loop-i.invariant.1)
 
 pub returns : goal.returns
 unfolding below_layer live_in

@@ -6,7 +6,4 @@ use Rattle.scope_map.specs.Rows.{live_in}
 use Rattle.scope_map.proofs.ScopeMap.newest_layer.Given as goal
 
 abbrev pub invariant-loop-i : goal.invariant-loop-i
-invariant-loop-i l = (l.i ≤ l.initial.i) × (below_layer l.depth (live_in l.t l.i) ≡ below_layer l.depth (live_in l.t l.initial.i))
-
-abbrev pub decreases-loop-i : goal.decreases-loop-i
-decreases-loop-i l = l.i
+invariant-loop-i l = (l.i ≤ l.initial.i) × (below_layer l.self.depth (live_in l.t l.i) ≡ below_layer l.self.depth (live_in l.t l.initial.i))

@@ -2,11 +2,11 @@
 use Rattle.scope_map.proofs.Cases.{no_place, place_newest, place_under}
 use Rattle.scope_map.proofs.ScopeMap.place.Goals as goal
 
+pub returns-in-Some : goal.returns-in-Some
+returns-in-Some c = place_newest c.get.ensures c.in-Some.is c.if-found-self.true
+
 pub returns-in_default : goal.returns-in_default
-returns-in_default c = no_place c.get-found.ensures c.in_default.is
+returns-in_default c = place_under c.get.ensures c.in-Some.is c.if-found-self.false
 
-pub returns-then-layer-self : goal.returns-then-layer-self
-returns-then-layer-self c = place_newest c.get-found.ensures c.in-At.is c.if-layer-self.true
-
-pub returns : goal.returns
-returns c = place_under c.get-found.ensures c.in-At.is c.if-layer-self.false
+pub returns-in_default-2 : goal.returns-in_default-2
+returns-in_default-2 c = no_place c.get.ensures c.in_default.is

@@ -1,13 +1,8 @@
 -- `one_use_more`: the count is one more, if the row is an identifier's; that it fits is required.
-use native.Mathlib.Omega.{arith}
 use mathlib.Core.Path.{sym, ◌∙◌}
 use Rattle.semantic.specs.Laws.Kinds.{variable_told}
 use Rattle.semantic.proofs.AmendCase.{counts, amends_other}
 use Rattle.semantic.proofs.amend.one_use_more.Goals as goal
-
-pub overflow_add-facts : goal.overflow_add-facts
-overflow_add-facts c = let o = c in
-    omega (arith, o.requires.1.fits (sym c.is_variable.ensures ∙ c.if-is_variable.true))
 
 pub returns-then-is_variable : goal.returns-then-is_variable
 returns-then-is_variable c = counts _ _ (sym c.if-is_variable.true ∙ c.is_variable.ensures)

@@ -1,6 +1,9 @@
 -- `row_kind`: the row's first number tells.
--- `row_kind`: the row's first number tells.
 use mathlib.Core.Path.{sym, ap}
+use Prim.Native.Nat.{◌*◌}
+use native.Mathlib.Omega.{arith}
+use lib.ListN.{get_or}
+use Rattle.semantic.specs.Rows.{row_width}
 use Rattle.semantic.specs.Laws.Kinds.{kind_told, low_kind, high_kind}
 use Rattle.semantic.specs.Kinds.{kind_of}
 use Rattle.semantic.proofs.kinds.row_kind.Goals as goal
@@ -15,7 +18,11 @@ pub returns-in-9 : goal.returns-in-9
 returns-in-9 c = kind_told _ _ (sym (ap kind_of c.in-9.is))
 
 pub returns-in-1-to-7 : goal.returns-in-1-to-7
-returns-in-1-to-7 c = kind_told _ _ (sym (low_kind _ (record { some = c.in-1-to-7.in_default-own.rest.0.0.1; below = c.in-1-to-7.if-first-lt8-own.true })))
+returns-in-1-to-7 c =
+    let n = get_or c.args.facts.now (row_width * c.args.at) 0 in
+    kind_told _ _ (sym (low_kind n (record { some = omega arith; below = omega arith })))
 
 pub returns-in_default : goal.returns-in_default
-returns-in_default c = let m = c.in_default.in_default-own.rest in kind_told _ _ (sym (high_kind _ c.in_default.if-first-lt8-own.false m.0.1 m.1))
+returns-in_default c =
+    let n = get_or c.args.facts.now (row_width * c.args.at) 0 in
+    kind_told _ _ (sym (high_kind n (omega arith) (omega arith) (omega arith)))

@@ -1,8 +1,14 @@
--- `children`: the two tables, where the form is known.
+-- `children`: the two columns, where the form is known.
+use native.Mathlib.Omega.{arith}
+use mathlib.Core.Path.{◌∙◌}
 use Rattle.tree.specs.Form.{names_of, others_of, children_of}
 use Rattle.tree.proofs.Laws.Form.{unknown}
+use Rattle.tree.proofs.Counting.{counts_children}
 use Rattle.tree.proofs.form.children.Goals as goal
 
 pub returns-then-form-gt-FORMS : goal.returns-then-form-gt-FORMS
 unfolding names_of others_of children_of
 returns-then-form-gt-FORMS c = rw (unknown _ c.if-form-gt-FORMS.true)
+
+pub returns : goal.returns
+returns c = c.of.ensures ∙ counts_children _ _ (omega arith)

@@ -11,7 +11,7 @@ use Rattle.visits.proofs.run.enter_top.Goals as goal
 
 no-begin : (c : Else-form-eq-BEGIN) →
     let found = c in
-    (nth found.args.all.now found.core_at-top.result).form ≡ 7 → ⊥
+    (nth found.args.s.now.all.now found.core_at-top.result).form ≡ 7 → ⊥
 no-begin c e = c.if-form-eq-BEGIN.false (c.form-form.ensures ∙ e)
 
 pub core_at-top-requires : goal.core_at-top-requires

@@ -1,16 +1,13 @@
--- `run_with_scope`: the pass is stored, the tables are lent, and the pass is read after.
+-- `run_with_scope`: what the run leaves in the tables that it was lent.
 use Prim.Native.Nat.{ℕ}
 use mathlib.Core.Path.{sym, ap}
 use Rattle.visits.proofs.run.run_with_scope.Goals as goal
 
-pub lend_facts-requires : goal.lend_facts-requires
-lend_facts-requires c =
-    let stored = c in
-    let o = stored in
-    (o.requires.tells_starts, rw stored.store.ensures o.requires.ready)
-
 pub returns : goal.returns
 returns c =
-    let l = c.lend_facts.ensures in
-    let back = c.facts-1.given.1.0 (sym (ap (λ (t : ℕ × ℕ × ℕ × ℕ). t.0) l.1)) in
-    rw (c.load.ensures, ← c.store.ensures, back) l.0
+    let l = c.run.ensures in
+    let facts = c.facts-1.given.1.1 (sym (ap (λ (t : ℕ × ℕ × ℕ × ℕ). t.0) l.1)) in
+    let captured = c.captured-1.given.1.1 (sym (ap (λ (t : ℕ × ℕ × ℕ × ℕ). t.1) l.1)) in
+    let arguments = c.arguments-1.given.1.1 (sym (ap (λ (t : ℕ × ℕ × ℕ × ℕ). t.2) l.1)) in
+    let work = c.work-1.given.1.1 (sym (ap (λ (t : ℕ × ℕ × ℕ × ℕ). t.3) l.1)) in
+    rw (facts, captured, arguments, work) l.0

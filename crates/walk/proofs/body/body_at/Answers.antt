@@ -1,9 +1,6 @@
 -- `body_at`: what the tree that is reached says.
-use Rattle.walk.proofs.Bodies.{reached, some_tree, body_tells}
+use Rattle.walk.proofs.Bodies.{reached, body_tells}
 use Rattle.walk.proofs.body.body_at.Goals as goal
-
-pub core_at-requires : goal.core_at-requires
-core_at-requires c = some_tree c.requires
 
 pub form_at-requires : goal.form_at-requires
 form_at-requires c = reached c.core_at.ensures c.requires

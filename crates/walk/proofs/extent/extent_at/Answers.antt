@@ -3,7 +3,7 @@ use Prim.Native.Nat.{◌<◌}
 use native.Mathlib.Omega.{arith}
 use lib.ListN.{length}
 use Rattle.tree.specs.Record.{records}
-use Rattle.walk.proofs.Span.{Small, start, ahead, small, known, next, ended}
+use Rattle.walk.proofs.Span.{Small, ahead, small, known, next, ended}
 use Rattle.walk.proofs.extent.extent_at.Goals.{In-loop-open}
 use Rattle.walk.proofs.extent.extent_at.Goals as goal
 
@@ -12,12 +12,6 @@ left c = ahead c.loop-open.invariant (omega arith) c.requires
 
 few : (c : In-loop-open) → let l = c.loop-open in Small l.«open» l.i
 few c = small c.loop-open.invariant (omega arith) c.requires
-
-pub loop-open-init : goal.loop-open-init
-loop-open-init c = start _ _
-
-pub overflow_sub-open : goal.overflow_sub-open
-overflow_sub-open c = omega arith
 
 pub known_children-requires-clause-i_in_bounds : goal.known_children-requires-clause-i_in_bounds
 known_children-requires-clause-i_in_bounds c = left (goal.at.known_children-requires-clause-i_in_bounds c).In-loop-open
@@ -36,9 +30,6 @@ loop-open-smaller c = let h = left (goal.at.loop-open-smaller c).In-loop-open in
 
 pub loop-open-preserved : goal.loop-open-preserved
 loop-open-preserved c = next c.loop-open.invariant (omega arith) (left (goal.at.loop-open-preserved c).In-loop-open) c.known_children.ensures.value c.known_children.ensures.few
-
-pub overflow_sub-result : goal.overflow_sub-result
-overflow_sub-result c = c.loop-open.invariant.above
 
 pub returns : goal.returns
 returns c = ended c.loop-open.invariant (omega arith)

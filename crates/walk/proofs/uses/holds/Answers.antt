@@ -1,34 +1,22 @@
--- `holds`: the names are passed one by one.
-use native.Mathlib.Omega.{arith}
-use lib.ListN.{length-map}
-use Rattle.tree.specs.Tree.{named}
-use Rattle.walk.proofs.Names.{begin, found, next, end}
+-- `holds`.
+use Rattle.std.proofs.Common.{rules, ◌+◌, ◌≤◌, length, eqb, arith}
+use Rattle.std.proofs.iter.Serving.{serving}
+use Rattle.std.proofs.lemmas.Iterator.{YieldsList-from_range}
+use Rattle.std.proofs.lemmas.Iterator.Search.{any_from_yields_List}
+use Rattle.tree.specs.Record.{records, nth}
+use Rattle.walk.proofs.Names.{inside, holds_any}
 use Rattle.walk.proofs.uses.holds.Goals as goal
 
-pub loop-i-init : goal.loop-i-init
-loop-i-init c = begin _ _ _ c.requires
-
-pub overflow_add-first : goal.overflow_add-first
-overflow_add-first c = omega (arith, length-map c.requires.xs named)
-
-pub name-requires : goal.name-requires
-name-requires c = omega arith
-
-pub returns-then-name-x : goal.returns-then-name-x
-returns-then-name-x c =
-    let d = c in
-    found _ _ _ d.loop-i.invariant c.name.ensures (omega arith) c.if-name-x.true
-
-pub overflow_add-i : goal.overflow_add-i
-overflow_add-i c = omega arith
-
-pub loop-i-smaller : goal.loop-i-smaller
-loop-i-smaller c = omega arith
-
-pub loop-i-preserved : goal.loop-i-preserved
-loop-i-preserved c =
-    let d = c in
-    next _ _ _ d.loop-i.invariant c.name.ensures (omega arith) c.if-name-x.false
+pub any-requires-clause-callable : goal.any-requires-clause-callable
+any-requires-clause-callable c =
+    let h : c.args.names.first + c.args.names.count ≤ length (records c.args.all.now) = inside c.requires in
+    grind serving
 
 pub returns : goal.returns
-returns c = end _ _ _ c.loop-i.invariant (omega arith)
+returns c =
+    let o = c.args in
+    let n = o.names in
+    holds_any o.x o.all.now n c.requires (
+    any_from_yields_List (λ i. eqb o.x (nth o.all.now i).name) c.any.new.self _ c.any.result c.any.ensures.ran
+    (YieldsList-from_range n.first (n.first + n.count) n.count c.records.ensures (omega arith))
+    (λ x b q h. (search rules, search rules)))

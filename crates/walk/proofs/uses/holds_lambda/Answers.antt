@@ -1,29 +1,20 @@
--- `holds_lambda`: the records are passed one by one.
-use native.Mathlib.Omega.{arith}
-use Rattle.walk.proofs.Lambdas.{start, found, next, end}
+-- `holds_lambda`.
+use Rattle.std.proofs.Common.{rules, refl, ◌≤◌, length, arith}
+use Rattle.std.proofs.iter.Serving.{serving}
+use Rattle.std.proofs.lemmas.Iterator.{YieldsList-from_range}
+use Rattle.std.proofs.lemmas.Iterator.Search.{any_from_yields_List}
+use Rattle.tree.specs.Record.{records}
+use Rattle.tree.proofs.Laws.Stands.{tree_inside}
+use Rattle.walk.proofs.Lambdas.{holds_any}
 use Rattle.walk.proofs.uses.holds_lambda.Goals as goal
 
-pub loop-i-init : goal.loop-i-init
-loop-i-init c = start _ _ _ c.requires
-
-pub form-requires : goal.form-requires
-form-requires c = omega arith
-
-pub returns-then-form-eq-LAMBDA : goal.returns-then-form-eq-LAMBDA
-returns-then-form-eq-LAMBDA c =
-    let d = c in
-    found _ _ _ d.loop-i.invariant c.form.ensures (omega arith) c.if-form-eq-LAMBDA.true
-
-pub overflow_add-i : goal.overflow_add-i
-overflow_add-i c = omega arith
-
-pub loop-i-smaller : goal.loop-i-smaller
-loop-i-smaller c = omega arith
-
-pub loop-i-preserved : goal.loop-i-preserved
-loop-i-preserved c =
-    let d = c in
-    next _ _ _ d.loop-i.invariant c.form.ensures (omega arith) c.if-form-eq-LAMBDA.false
+pub any-requires-clause-callable : goal.any-requires-clause-callable
+any-requires-clause-callable c =
+    let h : c.args.end ≤ length (records c.args.all.now) = omega (arith, tree_inside c.requires.stands, c.requires.ends) in
+    grind serving
 
 pub returns : goal.returns
-returns c = end _ _ _ c.loop-i.invariant (omega arith)
+returns c =
+    let o = c.args in
+    holds_any o.all.now o.first o.end c.requires (
+    any_from_yields_List _ c.any.new.self _ c.any.result c.any.ensures.ran (YieldsList-from_range o.first o.end _ refl refl) (λ x b q h. (search rules, search rules)))

@@ -8,30 +8,13 @@ use Rattle.walk.proofs.uses.uses_name.Goals as goal
 pub loop-i-init : goal.loop-i-init
 loop-i-init c = start _ _ _ _ c.requires
 
-pub is_named-requires : goal.is_named-requires
-is_named-requires c = omega arith
-
 pub returns-then-is_named : goal.returns-then-is_named
 returns-then-is_named c =
-    let t = c in
-    found _ _ _ _ t.loop-i.invariant (omega arith) t.if-due-eq0.true c.is_named.ensures c.if-is_named.true
-
-pub bound-due-requires : goal.bound-due-requires
-bound-due-requires c = omega arith
-
-pub overflow_sub-due : goal.overflow_sub-due
-overflow_sub-due c = omega arith
-
-pub overflow_add-i : goal.overflow_add-i
-overflow_add-i c = omega arith
-
-pub loop-i-smaller : goal.loop-i-smaller
-loop-i-smaller c = omega arith
+    found _ _ _ _ c.loop-i.invariant (omega arith) c.if-due-eq0.true c.is_named.ensures c.if-is_named.true
 
 pub loop-i-preserved : goal.loop-i-preserved
 loop-i-preserved c =
-    let d = c in
-    let a = d.loop-i.invariant in
+    let a = c.loop-i.invariant in
     elim c.if-due-eq0.branch [
       | then-due-eq0+else-is_named w ↦ next _ _ _ _ a (omega arith) w.if-due-eq0.true w.is_named.ensures w.if-is_named.false (w.due-is ∙ w.bound-due.ensures)
       | else-due-eq0 w ↦ pass _ _ _ _ a (omega arith) (omega arith) w.due-is

@@ -1,10 +1,6 @@
 -- `uses_name`: the records are passed one by one, with the names that are due.
-use Prim.Native.Nat.{◌-◌}
 use Rattle.walk.proofs.UsedNames.{Passed}
 use Rattle.walk.proofs.uses.uses_name.Given as goal
 
 abbrev pub invariant-loop-i : goal.invariant-loop-i
 invariant-loop-i l = Passed l.name l.all l.first l.end l.due l.i
-
-abbrev pub decreases-loop-i : goal.decreases-loop-i
-decreases-loop-i l = l.end - l.i

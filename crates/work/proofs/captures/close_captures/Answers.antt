@@ -3,4 +3,4 @@ use Rattle.work.proofs.CaptureCase.{captures_close}
 use Rattle.work.proofs.captures.close_captures.Goals as goal
 
 pub returns : goal.returns
-returns c = captures_close c.pop_layer-fewer.auto.t c.pop_layer-fewer.ensures
+returns c = captures_close c.pop_layer.auto.t c.pop_layer.ensures

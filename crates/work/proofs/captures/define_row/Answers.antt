@@ -3,4 +3,4 @@ use Rattle.work.proofs.CaptureDefine.{row-defined}
 use Rattle.work.proofs.captures.define_row.Goals as goal
 
 pub returns : goal.returns
-returns c = row-defined _ c.narrow-row.ensures c.define-more.auto.t c.define-more.ensures
+returns c = row-defined _ c.narrow.ensures c.define.auto.t c.define.ensures

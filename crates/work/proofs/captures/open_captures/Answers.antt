@@ -5,4 +5,4 @@ use Rattle.work.proofs.CaptureCase.{captures_open}
 use Rattle.work.proofs.captures.open_captures.Goals as goal
 
 pub returns : goal.returns
-returns c = λ w. captures_open (c.push_layer-more.ensures (region w captures_first captures_length))
+returns c = λ w. captures_open (c.push_layer.ensures (region w captures_first captures_length))

@@ -3,4 +3,4 @@ use Rattle.work.proofs.NoteCase.{ten_noted_lem}
 use Rattle.work.proofs.notes.note_ten.Goals as goal
 
 pub returns : goal.returns
-returns c = ten_noted_lem _ c.first-ten.ensures c.with_notes.ensures
+returns c = ten_noted_lem c.narrow.ensures c.or.ensures c.with_notes.ensures

@@ -9,11 +9,11 @@ use Rattle.work.proofs.scope.close_scope.Goals as goal
 pub slice_bounds-pop_from-end-2 : goal.slice_bounds-pop_from-end-2
 slice_bounds-pop_from-end-2 c = names-length c.requires.0
 
-pub pop_from-fewer-requires : goal.pop_from-fewer-requires
-pop_from-fewer-requires c = (names_room c.requires.0, c.requires.1.rows)
+pub pop_from-requires : goal.pop_from-requires
+pop_from-requires c = (names_room c.requires.0, c.requires.1.rows)
 
 pub returns : goal.returns
 unfolding close_scope
 returns c =
-    let d = c.pop_from-fewer in
+    let d = c.pop_from in
     names-replaced c.requires.0 d.auto.t pop_layer (map-pop_layer record_at) d.ensures

@@ -3,15 +3,15 @@ use Rattle.work.specs.Laws.Works.{spacious}
 use Rattle.work.proofs.ScopeCase.{no_id, id_inside, the_id}
 use Rattle.work.proofs.scope.newest_id.Goals as goal
 
-pub newest-found-requires : goal.newest-found-requires
-newest-found-requires c = spacious c.requires.works
+pub newest-requires : goal.newest-requires
+newest-requires c = spacious c.requires.works
 
-pub returns-in_default : goal.returns-in_default
-returns-in_default c = no_id _ c.newest-found.ensures c.in_default.is
+pub returns-in-None : goal.returns-in-None
+returns-in-None c = no_id _ c.newest.ensures c.in-None.is
 
 pub id-requires : goal.id-requires
 id-requires c =
-    id_inside _ c.newest-found.ensures c.in-At.is c.requires
+    id_inside _ c.newest.ensures c.in-Some.is c.requires
 
-pub returns : goal.returns
-returns c = the_id _ c.newest-found.ensures c.in-At.is c.id.ensures
+pub returns-in-Some : goal.returns-in-Some
+returns-in-Some c = the_id _ c.newest.ensures c.in-Some.is c.id.ensures

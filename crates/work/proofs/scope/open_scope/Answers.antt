@@ -10,4 +10,4 @@ use Rattle.work.proofs.scope.open_scope.Goals as goal
 
 pub returns : goal.returns
 unfolding open_scope
-returns c = λ w. names_become push_layer (map-push_layer record_at) elsewhere_same (c.push_layer-more.ensures (region w 0 scope_length))
+returns c = λ w. names_become push_layer (map-push_layer record_at) elsewhere_same (c.push_layer.ensures (region w 0 scope_length))

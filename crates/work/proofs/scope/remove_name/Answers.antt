@@ -8,10 +8,10 @@ use Rattle.work.proofs.scope.remove_name.Goals as goal
 pub slice_bounds-remove-end-2 : goal.slice_bounds-remove-end-2
 slice_bounds-remove-end-2 c = names-length c.requires
 
-pub remove-fewer-requires : goal.remove-fewer-requires
-remove-fewer-requires c = names_room c.requires
+pub remove-requires : goal.remove-requires
+remove-requires c = names_room c.requires
 
 pub returns : goal.returns
 returns c =
-    let d = c.remove-fewer in
+    let d = c.remove in
     names-replaced c.requires d.auto.t (remove _) (map-remove record_at _) d.ensures

@@ -1,4 +1,0 @@
-use Rattle.printing.proofs.text.+numeral.Given as goal
-
-abbrev pub decreases-numeral : goal.decreases-numeral
-decreases-numeral l = l.n

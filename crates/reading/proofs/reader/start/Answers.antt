@@ -1,6 +1,0 @@
--- `start`: nothing is read.
-use Rattle.reading.proofs.Bytes.{starts}
-use Rattle.reading.proofs.reader.start.Goals as goal
-
-pub returns : goal.returns
-returns c = starts
