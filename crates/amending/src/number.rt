@@ -49,7 +49,7 @@ fn offsets_from(o: Option<ScopeInfo>, i: u32, slot: u32) -> Offsets
     }
 }
 
-// The entry in row r takes its offsets.
+// The entry in row r takes its offsets. `heap`, here and below: which entries are meant, those that are mutated or the others; the steps are the same.
 fn put_offsets(captured: &mut [u32], heap: bool, r: usize, i: u32, o: Option<ScopeInfo>, slot: u32)
     requires { (length captured.old ≡ list_entries_length) × (r < list_entries_most) }
     ensures { PutsOffsets captured.old heap r i o slot captured.new }

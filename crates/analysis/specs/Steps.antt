@@ -5,7 +5,14 @@ use Rattle.tree.specs.Tree.{Trees}
 use Rattle.tree.specs.Check.{Refusal, refusal}
 use Rattle.tree.specs.Accepted.{Accepted}
 use Rattle.pass.specs.Run.{rows_most, Tables, Outcome, zeros, fresh_outcome, settled_outcome}
+use Rattle.work.specs.Tied.{Raw, raw}
+use Rattle.work.specs.declared.Pass.{Pass}
+use Rattle.answers.specs.declared.Tables.{Tables as Lent}
 use Rattle.answers.specs.Clear.{cleared, Rested, Blank}
+
+-- a pass and what lent tables hold
+abbrev pub raw_in : Pass → Lent → Raw
+raw_in p t = raw p t.facts.now t.captured.now t.arguments.now t.work.now
 
 abbrev pub outcome_by : Bool → List ℕ → Trees → Outcome
 outcome_by true = settled_outcome

@@ -6,12 +6,32 @@ ghost use Rattle.pass.specs.Run.{Fresh, Settled, Answers, fresh_outcome, settled
 ghost use Rattle.answers.specs.Answer.{tables, outcome_of};
 ghost use Rattle.answers.specs.Lent.{held, outcome_in, Same};
 ghost use Rattle.answers.specs.Clear.{Blank};
-ghost use Rattle.analysis.specs.Steps.{outcome_by, StartsFit, Begins, Ends, Checks};
+ghost use Rattle.visits.specs.Runs.{Ready, Runs};
+ghost use Rattle.analysis.specs.Steps.{raw_in, outcome_by, StartsFit, Begins, Ends, Checks};
 
 use answers::clear::clear_names;
 use answers::{Refusal, Tables, refused_first, refused_second};
 use visits::run::run_with_scope;
 use work::Pass;
+
+// A run over the lent tables.
+fn run_with(tops: &[u16], classes: &[u8], records: &[u32], p: Pass, tables: &mut Tables) -> Pass
+    requires tells_starts { TellsStarts (length classes.now) records.now tops.now }
+    requires ready { Ready classes.now records.now (raw_in p tables.old) }
+    ensures runs { Runs classes.now records.now (raw_in p tables.old) (raw_in result tables.new) }
+    ensures same { Same tables.old tables.new }
+{
+    run_with_scope(
+        tops,
+        classes,
+        records,
+        p,
+        tables.facts,
+        tables.captured,
+        tables.arguments,
+        tables.work,
+    )
+}
 
 fn run_once(
     tops: &[u16],
@@ -24,16 +44,7 @@ fn run_once(
     ensures ends { Ends fresh_outcome classes.now records.now (outcome_in result tables.new) }
     ensures same { Same tables.old tables.new }
 {
-    let p = run_with_scope(
-        tops,
-        classes,
-        records,
-        Pass::new(0, 0),
-        tables.facts,
-        tables.captured,
-        tables.arguments,
-        tables.work,
-    );
+    let p = run_with(tops, classes, records, Pass::new(0, 0), tables);
     refused_first(p)
 }
 
@@ -48,32 +59,16 @@ fn run_twice(
     ensures ends { Ends settled_outcome classes.now records.now (outcome_in result tables.new) }
     ensures same { Same tables.old tables.new }
 {
-    let p = run_with_scope(
-        tops,
-        classes,
-        records,
-        Pass::new(0, 0),
-        tables.facts,
-        tables.captured,
-        tables.arguments,
-        tables.work,
-    );
+    let p = run_with(tops, classes, records, Pass::new(0, 0), tables);
     refused_first(p)?;
     clear_names(tables.work, tree::record::len(records));
-    let q = run_with_scope(
-        tops,
-        classes,
-        records,
-        Pass::new(p.captured_top, p.arguments_top),
-        tables.facts,
-        tables.captured,
-        tables.arguments,
-        tables.work,
-    );
+    let again = Pass::new(p.captured_top, p.arguments_top);
+    let q = run_with(tops, classes, records, again, tables);
     refused_second(q)
 }
 
-// The checks, then the runs, with a table of N numbers for where the trees start.
+// The checks, then the runs, with a table of N numbers for where the trees start. Which runs is a bool: a closure's contract would have to say that it
+// meets `ends`, which is no plainer.
 fn run_listed<const N: usize>(
     records: &[u32],
     classes: &[u8],

@@ -3,7 +3,7 @@ use Rattle.std.specs.Prelude.{ℕ, List, Option, None, Some, Result, Ok, Err}
 use Rattle.tree.specs.Check.{Refusal}
 use Rattle.checks.specs.Answer as checks
 use Rattle.pass.specs.Run.{Tables, Outcome}
-use Rattle.work.specs.Coded as work
+use Rattle.work.specs.declared.SecondRefusal.TheVariants.{NoLambda, NoCapture}
 use Rattle.answers.specs.declared.Refusal.{Refusal as Refused}
 use Rattle.answers.specs.declared.Refusal.TheVariants.{Lengths, Unfit, NameTwice, ListsFull, Second}
 
@@ -12,7 +12,8 @@ numbered Lengths = record { number = 1; at = 0 }
 numbered (Unfit r) = checks.numbered r
 numbered (NameTwice i) = record { number = 9; at = i }
 numbered (ListsFull i) = record { number = 10; at = i }
-numbered (Second r) = work.refusal_of r
+numbered (Second (NoLambda i)) = record { number = 11; at = i }
+numbered (Second (NoCapture i)) = record { number = 12; at = i }
 
 abbrev pub refusal_in : Result (Unit {0}) Refused → Option Refusal
 refusal_in (Ok t) = None

@@ -37,8 +37,8 @@ impl From<checks::Refusal> for Refusal {
 
     ghost from_gives = { λ r e. e ≡ Unfit r };
 
-    fn from(r: checks::Refusal) -> Self {
-        Refusal::Unfit(r)
+    fn from(check: checks::Refusal) -> Self {
+        Refusal::Unfit(check)
     }
 }
 
@@ -71,7 +71,7 @@ impl Refusal {
     }
 }
 
-// The tables that a caller lends.
+// The tables that a caller lends, of any lengths: that they have their set ones is what check 1 tells, so it is asked and no invariant.
 #[derive(Drop)]
 pub struct Tables<'a> {
     pub facts: &'a mut [u32],

@@ -25,7 +25,7 @@ use Rattle.pass.specs.Lambda.{or_zero, enter_name}
 use Rattle.work.specs.Coded.{coded}
 use Rattle.work.specs.Works.{Works}
 use Rattle.work.specs.Laws.Works.{depth_is}
-use Rattle.work.specs.Laws.Kept.{second_kept}
+use Rattle.work.specs.Laws.Kept.{second_noted}
 use Rattle.work.specs.Passes.{with_second}
 use Rattle.work.specs.Tied.{raw, Good, Here}
 use Rattle.work.specs.Laws.Tied.{tied_works}
@@ -100,7 +100,7 @@ module _ {at : ℕ} {before : Option SecondRefusal} where
   notes_alone true None {r} {n} e f en q = record {
     is = λ p w s x b i k.
         let same : r ≡ option_or p.second (Some (NoLambda at)) = cc in
-        rw (same, i) (second_kept k (NoLambda at));
+        rw (same, i) (second_noted k (NoLambda at));
   }
   notes_alone true (Some n) e f en q = absurd (false-true (sym f))
   notes_alone false o e f en q = absurd (false-true e)

@@ -67,19 +67,12 @@ fn name_kind(heap: bool, kind: IdentifierStatus) -> IdentifierStatus
 }
 
 // Refusal 11: on the heap, with no lambda around.
-fn note_heap(
-    heap: bool,
-    heaps: Option<u32>,
-    at: usize,
-    before: Option<SecondRefusal>,
-) -> Option<SecondRefusal>
+fn note_heap(heap: bool, heaps: Option<u32>, at: usize, second: &mut Option<SecondRefusal>)
     requires { at < 4294967296 }
-    ensures { NotesHeap heap heaps at before result }
+    ensures { NotesHeap heap heaps at second.old second.new }
 {
     if heap && heaps.is_none() {
-        before.or(Some(SecondRefusal::NoLambda(narrow(at))))
-    } else {
-        before
+        *second = second.or(Some(SecondRefusal::NoLambda(narrow(at))));
     }
 }
 
@@ -124,8 +117,7 @@ pub fn with_names(p: Pass, e: EnteredNames) -> Pass
     }
 }
 
-// The loop holds only what changes: a whole pass would be stored in narrow words and copied in wide ones at each name, and such a copy waits for the
-// stores (docs/SPEED.md, 48 and 49).
+// The names enter one after another. Answers what they changed, not the pass (docs/SPEED.md, 43).
 pub fn enter_names(
     all: &[u32],
     names: Names,
@@ -138,18 +130,21 @@ pub fn enter_names(
     requires { NamesFit all.now names g p facts.old arguments.now work.old }
     ensures { EntersNames all.now names g p facts.old arguments.now work.old (with_names result p) facts.new work.new }
 {
-    let mut name = name_in(p);
-    let mut second = p.second;
+    let mut q = p;
     let mut h = 0;
     for j in 0..names.count {
         let at = names.first + j;
         let heap = is_heap(arguments, g.before, j);
-        second = note_heap(heap, g.heaps, at, second);
-        let q = with_names(p, EnteredNames { name, second });
-        name = enter_name(all, at, heap, g, narrow(j), h, q, facts, work);
+        note_heap(heap, g.heaps, at, &mut q.second);
+        let e = enter_name(all, at, heap, g, narrow(j), h, q, facts, work);
+        q.scope.length = e.length;
+        q.nine = e.nine;
         if heap {
             h += 1;
         }
     }
-    EnteredNames { name, second }
+    EnteredNames {
+        name: name_in(q),
+        second: q.second,
+    }
 }

@@ -11,7 +11,8 @@ use std::io;
 
 // Some bytes more: answers how many. A read that fails counts as the end of the input.
 fn read_chunk(input: &mut impl io::Read, reader: &mut Reader) -> usize
-    ensures more { More reader.old reader.new }
+    ensures more { More reader.old.state reader.old.line.now reader.old.classes.now reader.old.records.now
+        reader.new.state reader.new.line.now reader.new.classes.now reader.new.records.now }
     ensures same { SameLoans reader.old reader.new }
 {
     let mut chunk = [0u8; 65536];
@@ -24,7 +25,7 @@ fn read_chunk(input: &mut impl io::Read, reader: &mut Reader) -> usize
 fn read_all(input: &mut impl io::Read, reader: &mut Reader)
     requires room { 92 ≤ length reader.old.line.now }
     requires starts { Starts reader.old.state }
-    ensures read { Read reader.new }
+    ensures read { Read reader.new.state reader.new.line.now reader.new.classes.now reader.new.records.now }
     ensures same { SameLoans reader.old reader.new }
 {
     for _ in 0..u64::MAX {

@@ -110,7 +110,7 @@ fn make_let(
     q
 }
 
-// That layer, where the let opened one.
+// That layer, where the let opened one, which its visit found out as it opened.
 fn close_layer(opened: bool, p: Pass, work: &mut [u32]) -> Pass
     requires { Spacious p work.old }
     ensures { Becomes p work.old (close_layer opened) result work.new }

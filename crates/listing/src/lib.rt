@@ -28,7 +28,8 @@ pub const RECORD_TABLE: usize = WIDTH * RECORDS;
 
 pub const TEXT: usize = 128 * RECORDS + 128;
 
-// The line of a row, behind the first `end` bytes; answers where it ends.
+// The line of a row, behind the first `end` bytes; answers where it ends. The place stays beside the buffer: `row_line` and `summary` promise a line at the
+// start of what they are lent.
 fn row_after(facts: &[u32], at: usize, out: &mut [u8], end: usize) -> usize
     requires { (row_width * at + row_width ≤ length facts.now) × (end + 128 ≤ length out.old) }
     ensures { RowAfter facts.now at out.old end out.new result }

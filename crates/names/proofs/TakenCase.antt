@@ -27,7 +27,7 @@ use Rattle.work.specs.Coded.{coded, capture_of}
 use Rattle.work.specs.Entries.{used_last, now_captured}
 use Rattle.work.specs.Works.{Works, capture_data_first}
 use Rattle.work.specs.Laws.Works.{captured_many, depth_is}
-use Rattle.work.specs.Laws.Kept.{second_kept}
+use Rattle.work.specs.Laws.Kept.{second_noted}
 use Rattle.work.specs.Passes.{with_second}
 use Rattle.work.specs.Leaves.{LoadsEntry, StoresEntry}
 use Rattle.work.specs.Captures.{LoadsCapture, UsesCapture}
@@ -111,7 +111,7 @@ is_twelve v = has_number v.read_capture_offset && eqb v.capture_offset NONE
 module _ {v : ScopeInfo} {at : ℕ} {before : Option SecondRefusal} where
   pub notes : {r : Option SecondRefusal} {i : ℕ} → is_twelve v ≡ true → i ≡ at → r ≡ option_or before (Some (NoCapture i)) → NotesTaken v at before r
   notes {r} t ei f = record {
-    is = λ p w s x q e k. rw (t, e, f, ei, ← q) (second_kept k (NoCapture at));
+    is = λ p w s x q e k. rw (t, e, f, ei, ← q) (second_noted k (NoCapture at));
   }
 
   pub notes_none : is_twelve v ≡ false → NotesTaken v at before before

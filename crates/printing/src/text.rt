@@ -61,7 +61,7 @@ impl<'a> Text<'a> {
         self.numeral(n);
     }
 
-    // A mark and a number after it, or `-` for none.
+    // A mark and a number after it, or `-` for none, which a row of the facts holds as a number.
     pub fn option(&mut self, mark: &[u8], n: u32)
         requires { self.old.len + length mark.now + 10 ≤ length self.old.out.now }
         ensures same { self.new.out.ghost_name ≡ self.old.out.ghost_name }

@@ -34,6 +34,7 @@ pub struct Counts {
 #[derive(Clone, Copy)]
 pub struct BadLine(pub u64);
 
+// Not `get_mut`: where it gives none the proof that the slice is as it was did not close.
 fn store_class(classes: &mut [u8], at: u64, c: u8)
     ensures { classes.new ≡ set classes.old at c }
 {

@@ -3,18 +3,9 @@ ghost use Rattle.std.specs.Prelude.{◌≤◌, ◌<◌};
 ghost use Rattle.replay.specs.Reads.{GoesOn};
 
 use crate::input::Numbers;
-use answers::Refusal;
+use answers::{Refusal, Tables};
 use semantic::fields::{LIST_ENTRY, ROW};
 use table::wide;
-
-// The tables that are lent to an operation.
-#[derive(Drop)]
-pub struct Tables<'a> {
-    pub facts: &'a mut [u32],
-    pub captured: &'a mut [u32],
-    pub arguments: &'a mut [u32],
-    pub work: &'a mut [u32],
-}
 
 fn is_zero(t: &[u32]) -> bool {
     t.iter().all(|x| *x == 0)
@@ -53,57 +44,33 @@ fn same_table(t: &[u32], width: usize, numbers: &mut Numbers) -> bool
     same
 }
 
-impl Tables<'_> {
-    pub fn fresh(&mut self, records: &[u32], classes: &[u8]) -> Result<(), Refusal> {
-        analysis::fresh(
-            records,
-            classes,
-            self.facts,
-            self.captured,
-            self.arguments,
-            self.work,
-        )
-    }
+fn all_zero(tables: &Tables) -> bool {
+    is_zero(tables.facts) && is_zero(tables.captured) && is_zero(tables.arguments)
+}
 
-    pub fn settled(&mut self, records: &[u32], classes: &[u8]) -> Result<(), Refusal> {
-        analysis::settled(
-            records,
-            classes,
-            self.facts,
-            self.captured,
-            self.arguments,
-            self.work,
-        )
-    }
+fn same_tables(tables: &Tables, numbers: &mut Numbers) -> bool
+    ensures { GoesOn numbers.old numbers.new }
+{
+    let rows = same_table(tables.facts, ROW, numbers);
+    let lists = same_table(tables.captured, LIST_ENTRY, numbers);
+    let names = same_table(tables.arguments, LIST_ENTRY, numbers);
+    rows && lists && names
+}
 
-    fn all_zero(&self) -> bool {
-        is_zero(self.facts) && is_zero(self.captured) && is_zero(self.arguments)
+// One answer: the refusal and its record, or the tables.
+pub fn same_answer(answer: Result<(), Refusal>, tables: &Tables, numbers: &mut Numbers) -> bool
+    ensures { GoesOn numbers.old numbers.new }
+{
+    let (Some(number), Some(record)) = (numbers.next(), numbers.next()) else {
+        return false;
+    };
+    let (refused, at) = match answer {
+        Ok(()) => (0, 0),
+        Err(r) => (r.number(), r.record()),
+    };
+    let same = refused == number && at == wide(record) && is_zero(tables.work);
+    if number != 0 {
+        return same && all_zero(tables);
     }
-
-    fn same_tables(&self, numbers: &mut Numbers) -> bool
-        ensures { GoesOn numbers.old numbers.new }
-    {
-        let rows = same_table(self.facts, ROW, numbers);
-        let lists = same_table(self.captured, LIST_ENTRY, numbers);
-        let names = same_table(self.arguments, LIST_ENTRY, numbers);
-        rows && lists && names
-    }
-
-    // One answer: the refusal and its record, or the tables.
-    pub fn same_answer(&self, answer: Result<(), Refusal>, numbers: &mut Numbers) -> bool
-        ensures { GoesOn numbers.old numbers.new }
-    {
-        let (Some(number), Some(record)) = (numbers.next(), numbers.next()) else {
-            return false;
-        };
-        let (refused, at) = match answer {
-            Ok(()) => (0, 0),
-            Err(r) => (r.number(), r.record()),
-        };
-        let same = refused == number && at == wide(record) && is_zero(self.work);
-        if number != 0 {
-            return same && self.all_zero();
-        }
-        self.same_tables(numbers) && same
-    }
+    same_tables(tables, numbers) && same
 }

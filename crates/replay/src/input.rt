@@ -1,5 +1,5 @@
 // The numbers of the input, one after another.
-ghost use Rattle.std.specs.Prelude.{◌≤◌, length};
+ghost use Rattle.std.specs.Prelude.{◌≡◌, ◌≤◌, length};
 ghost use Rattle.std.specs.Iterator.{at_most};
 ghost use Rattle.replay.specs.Reads.{GivesNumber};
 
@@ -29,7 +29,9 @@ fn add_digit(value: u32, b: u8) -> u32 {
 }
 
 impl<'a> Numbers<'a> {
-    pub fn new(input: &'a [u8]) -> Numbers<'a> {
+    pub fn new(input: &'a [u8]) -> Numbers<'a>
+        ensures { result.rest.now ≡ input.now }
+    {
         Numbers { rest: input }
     }
 }

@@ -3,11 +3,12 @@
 mod compare;
 mod input;
 
-ghost use Rattle.std.specs.Prelude.{◌≡◌, OnSome, length};
+ghost use Rattle.std.specs.Prelude.{◌≡◌, ◌≤◌, OnSome, IfSome, length};
 ghost use Rattle.replay.specs.Counts.{IsPrefixLen};
 ghost use Rattle.replay.specs.Reads.{GoesOn, IsShorter};
 
-use compare::Tables;
+use answers::Tables;
+use compare::same_answer;
 use input::Numbers;
 use std::io::Read;
 use std::{fmt, io};
@@ -66,7 +67,9 @@ fn read_case<'a>(
     records: &'a mut [u32],
     numbers: &mut Numbers,
 ) -> Option<Case<'a>>
-    ensures { OnSome result (IsShorter numbers.old numbers.new) }
+    ensures onward { GoesOn numbers.old numbers.new }
+    ensures more { OnSome result (IsShorter numbers.old numbers.new) }
+    ensures in_bounds { IfSome result (λ c. (length c.classes.now ≤ length classes.old) × (length c.records.now ≤ length records.old)) }
 {
     let names = wide(numbers.next()?).min(classes.len());
     let classes = &mut classes[..names];
@@ -85,11 +88,26 @@ fn replay(
     mut numbers: Numbers,
 ) -> Tally {
     let mut tally = Tally::default();
+    // Each case takes the numbers after the one before it and those of its answers.
     while let Some(case) = read_case(classes, records, &mut numbers) {
-        let one = tables.fresh(case.records, case.classes);
-        let first = tables.same_answer(one, &mut numbers);
-        let two = tables.settled(case.records, case.classes);
-        let second = tables.same_answer(two, &mut numbers);
+        let one = analysis::fresh(
+            case.records,
+            case.classes,
+            tables.facts,
+            tables.captured,
+            tables.arguments,
+            tables.work,
+        );
+        let first = same_answer(one, tables, &mut numbers);
+        let two = analysis::settled(
+            case.records,
+            case.classes,
+            tables.facts,
+            tables.captured,
+            tables.arguments,
+            tables.work,
+        );
+        let second = same_answer(two, tables, &mut numbers);
         tally.add(first, second);
     }
     tally
@@ -106,6 +124,7 @@ fn space() -> [u8; 1048576]
 fn read_full(from: &mut impl Read, buf: &mut [u8]) -> usize
     ensures { IsPrefixLen result buf.new }
 {
+    // No method of `Read` tells how much there was where the input ended or a read failed.
     let mut done = 0;
     while done < buf.len() {
         let n = from.read(&mut buf[done..]).unwrap_or(0);

@@ -34,7 +34,7 @@ pub fn visit_atom(
 }
 
 // What a name that entered changed.
-fn put_name(p: &mut Pass, e: EnteredName)
+pub fn put_name(p: &mut Pass, e: EnteredName)
     ensures { p.new ≡ with_name e p.old }
 {
     p.scope.length = e.length;

@@ -7,3 +7,4 @@ pub mod Tied
 pub mod Kept
 pub mod Works
 pub mod Fits
+pub mod Parts

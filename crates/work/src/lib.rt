@@ -44,7 +44,7 @@ pub enum SecondRefusal {
 // changes, and its contract need not say that it keeps the others.
 #[derive(Clone, Copy, PartialEq, Eq)]
 pub struct Pass {
-    // `defining_context`: the id of the define that the walk is in, or NONE
+    // `defining_context`: the id of the define that the walk is in, or NONE: a number as the ids of facts are, to which it is held
     pub context: u32,
     pub scope: ScopeMap,
     pub captures: ScopeMap,

@@ -70,6 +70,7 @@ pub fn remove_name(p: Pass, work: &mut [u32], name: u32) -> Pass
     }
 }
 
+// This and the next are as `open_captures` and `close_captures` are: one function for both would have to say of which map.
 pub fn open_scope(p: Pass) -> Pass
     requires { p.scope.depth < 4294967295 }
     ensures { (w : List ℕ) → Becomes p w open_scope result w }

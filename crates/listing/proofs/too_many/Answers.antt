@@ -18,4 +18,4 @@ pub returns-then-read : goal.returns-then-read
 returns-then-read c = rw (lt-ltb records_most _ c.if-read.true) (too_many (inl c.if-read.true))
 
 pub returns-else-read : goal.returns-else-read
-returns-else-read c = by_names _ _ c.if-read.false _ refl
+returns-else-read c = by_names _ _ (omega arith) _ refl

@@ -6,7 +6,7 @@ use Rattle.std.proofs.Common.{ap, ◌∙◌}
 use Rattle.tree.specs.Check.{Refusal}
 use Rattle.semantic.specs.Rows.{Row}
 use Rattle.pass.specs.State.{Facts, State, with_facts, with_context, insert, or_kept, note_second}
-use Rattle.work.specs.Coded.{second_of, refusal_of}
+use Rattle.work.specs.Coded.{refusal_at, second_of, refusal_of}
 use Rattle.work.specs.Works.{Beside, beside_pass, beside_state, Works}
 use Rattle.work.specs.Passes.{in_context, with_tops, with_second}
 use Rattle.work.specs.declared.Pass.{Pass}
@@ -57,11 +57,14 @@ module _ {p : Pass} {w : List ℕ} {s : State} (k : Works p w s) where
   }) k.beside)
 
   -- a refusal of a second run is noted, unless one was before
-  pub second_kept : (e : SecondRefusal) → Works (with_second (option_or p.second (Some e)) p) w (note_second (refusal_of e).number (refusal_of e).at s)
-  second_kept e =
-      works_as (with_second (option_or p.second (Some e)) p) (note_second (refusal_of e).number (refusal_of e).at s) refl refl refl refl refl
-      (ap (λ (o : Option Refusal). noting p.nine p.ten o (beside_pass p)) (second_or p.second e)
-      ∙ ap (λ (b : Beside). noting b.nine b.ten (or_kept b.second (refusal_of e)) b) k.beside)
+  pub second_kept : (n i : ℕ) (r : Option SecondRefusal) → second_of r ≡ or_kept (second_of p.second) (refusal_at n i) → Works (with_second r p) w (note_second n i s)
+  second_kept n i r q =
+      works_as (with_second r p) (note_second n i s) refl refl refl refl refl
+      (ap (λ (o : Option Refusal). noting p.nine p.ten o (beside_pass p)) q
+      ∙ ap (λ (b : Beside). noting b.nine b.ten (or_kept b.second (refusal_at n i)) b) k.beside)
+
+  pub second_noted : (e : SecondRefusal) → Works (with_second (option_or p.second (Some e)) p) w (note_second (refusal_of e).number (refusal_of e).at s)
+  second_noted e = second_kept (refusal_of e).number (refusal_of e).at (option_or p.second (Some e)) (second_or p.second e)
 
   -- other facts, with the same captured entries
   pub facts_kept : (f : Facts) → f.captured ≡ s.facts.captured → Works (with_tops f.captured_top f.arguments_top p) w (with_facts f s)
