@@ -122,7 +122,7 @@ fn amended(
 
 // The entry x, of a name that stands n times in the list made anew, as it is kept. `seen`: one of its name is kept before it.
 fn kept(
-    index: &[Option<usize>],
+    index: &[Option<u32>],
     all: &[u32],
     names: Names,
     p: Pass,
@@ -154,7 +154,7 @@ fn keeps(holds: bool, n: usize) -> bool
 
 // Row r of the list goes to row `to`, if it is kept. Answers whether it is.
 fn keep_row(
-    index: &[Option<usize>],
+    index: &[Option<u32>],
     counts: &[u32],
     seen: &mut [u8],
     all: &[u32],
@@ -195,7 +195,7 @@ fn clear_list_entries(captured: &mut [u32], work: &mut [u32], first: usize, end:
 
 // The list that is kept, in its place; what it gives up is zero. Answers its length.
 fn amend_rows(
-    index: &[Option<usize>],
+    index: &[Option<u32>],
     counts: &[u32],
     seen: &mut [u8],
     all: &[u32],

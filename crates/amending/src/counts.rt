@@ -91,7 +91,7 @@ pub fn count_used(counts: &[u32], all: &[u32], d: Ending, p: Pass, work: &[u32],
 
 // What live row i gives is counted, if the body uses its name.
 fn count_row(
-    index: &[Option<usize>],
+    index: &[Option<u32>],
     used: &[u8],
     all: &[u32],
     d: Ending,
@@ -114,7 +114,7 @@ fn count_row(
 }
 
 fn count_rows(
-    index: &[Option<usize>],
+    index: &[Option<u32>],
     used: &[u8],
     all: &[u32],
     d: Ending,
@@ -132,7 +132,7 @@ fn count_rows(
 
 // The counts of all names that `counts` has.
 pub fn count_names(
-    index: &[Option<usize>],
+    index: &[Option<u32>],
     all: &[u32],
     d: Ending,
     p: Pass,

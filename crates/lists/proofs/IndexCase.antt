@@ -1,5 +1,6 @@
 -- An index of the live names, row by row. No place of the code stands here.
 use Rattle.std.specs.Prelude.{Option, None, Some}
+use Rattle.std.specs.Bool.{then_some}
 use Prim.Native.Nat.{ℕ, zero, suc, ◌+◌, ◌-◌, ◌≤◌, ◌<◌}
 use mathlib.Core.List.{List, [], ◌∷◌, map}
 use mathlib.Core.Bool.{Bool, true, false, cond, not, ◌||◌}
@@ -46,6 +47,15 @@ tells_captured {b = b} {e} l q h = record {
     go : (c : Scope) (y : Ident) (q : Bool) → (entry_in c y.at).captured ≡ q → cond q (Some y.at) None ≡ record_in (where_captured c (Some y))
     go c y true z = rw z
     go c y false z = rw z
+
+-- and by its number in a row
+pub tells_some : {w : List ℕ} {b x : ℕ} {e : Coded} → LoadsEntry w b e → b ≡ x → {v : Option ℕ} → v ≡ then_some e.captured x → TellsCaptured w b v
+tells_some {w} {b} {x} {e} l z q =
+    subst (TellsCaptured w b) (sym (q ∙ go e.captured x ∙ ap (λ (j : ℕ). cond e.captured (Some j) None) (sym z))) (tells_captured l e.captured refl)
+  where
+    go : (d : Bool) (j : ℕ) → then_some d j ≡ cond d (Some j) None
+    go true j = refl
+    go false j = refl
 
 -- One place of an index is written, if the index has the name n; q tells whether x is n
 

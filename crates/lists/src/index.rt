@@ -54,7 +54,7 @@ pub fn search(all: &[u32], names: Names, p: Pass, work: &[u32], name: u32) -> Op
 
 // What the name gives, by the index where that has the name.
 pub fn offered(
-    index: &[Option<usize>],
+    index: &[Option<u32>],
     all: &[u32],
     names: Names,
     p: Pass,
@@ -65,24 +65,25 @@ pub fn offered(
     ensures { Offers all.now names p work.now index.now name result }
 {
     match index.get(wide(name)) {
-        Some(found) => *found,
+        Some(Some(b)) => Some(wide(*b)),
+        Some(None) => None,
         None => search(all, names, p, work, name),
     }
 }
 
 // The live name in row i is the newest of its name so far.
-fn put_row(p: Pass, work: &[u32], i: usize, index: &mut [Option<usize>])
+fn put_row(p: Pass, work: &[u32], i: usize, index: &mut [Option<u32>])
     requires { SomeHere p work.now × (i < p.scope.length) }
     ensures { PutsRow p work.now i index.old index.new }
 {
     let r = live_at(p, work, i);
     let x = wide(r.name);
     if x < index.len() {
-        index[x] = where_captured(work, wide(r.value));
+        index[x] = load_entry(work, wide(r.value)).captured.then_some(r.value);
     }
 }
 
-fn put_rows(p: Pass, work: &[u32], index: &mut [Option<usize>])
+fn put_rows(p: Pass, work: &[u32], index: &mut [Option<u32>])
     requires { SomeHere p work.now × Empty index.old }
     ensures { PutsRows p work.now index.new }
 {
@@ -92,7 +93,7 @@ fn put_rows(p: Pass, work: &[u32], index: &mut [Option<usize>])
 }
 
 // A name of the index gives nothing.
-fn clear_name(index: &mut [Option<usize>], x: usize)
+fn clear_name(index: &mut [Option<u32>], x: usize)
     ensures { ClearsName index.old x index.new }
 {
     if x < index.len() {
@@ -100,7 +101,7 @@ fn clear_name(index: &mut [Option<usize>], x: usize)
     }
 }
 
-fn clear_names(all: &[u32], names: Names, index: &mut [Option<usize>])
+fn clear_names(all: &[u32], names: Names, index: &mut [Option<u32>])
     requires { SomeNames all.now names }
     ensures { ClearsNames all.now names index.old index.new }
 {
@@ -110,7 +111,7 @@ fn clear_names(all: &[u32], names: Names, index: &mut [Option<usize>])
 }
 
 // The index of a lambda with these parameters.
-pub fn index_names(all: &[u32], names: Names, p: Pass, work: &[u32], index: &mut [Option<usize>])
+pub fn index_names(all: &[u32], names: Names, p: Pass, work: &[u32], index: &mut [Option<u32>])
     requires { SomeNames all.now names × KnownHere all.now p work.now × Empty index.old }
     ensures { Indexed all.now names p work.now index.new }
 {
