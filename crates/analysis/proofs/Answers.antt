@@ -1,20 +1,25 @@
 -- The checks before the runs, and what an operation answers.
 use Rattle.std.specs.Prelude.{Option, None, Some, Result, Ok, Err, IsErrAnd}
 use Rattle.std.proofs.lemmas.Option.{none-some}
-use Prim.Native.Nat.{ℕ, ◌+◌, ◌≤◌, ◌<◌}
+use Prim.Native.Nat.{ℕ, ◌+◌, ◌%◌, ◌≤◌, ◌<◌}
 use mathlib.Core.Bool.{true, false, true≢false}
 use mathlib.Core.List.{List}
-use mathlib.Core.Path.{◌≡◌, refl, ap, sym, ◌∙◌}
+use mathlib.Core.Path.{◌≡◌, refl, ap, sym, subst, ◌∙◌}
 use native.Mathlib.Omega.{arith}
+use borrow.Author.Tests.{eq-eqb}
 use lib.ListN.{length, replicate, length-replicate}
-use Rattle.tree.specs.Record.{records}
+use Rattle.tree.specs.Record.{width, records}
 use Rattle.tree.specs.Tree.{Trees}
-use Rattle.tree.specs.Check.{Refusal, refusal}
+use Rattle.tree.specs.Check.{Refusal, or_else, check1, check2, check3, check4, check5, check6, check7, check16, check8, refusal}
 use Rattle.tree.proofs.Laws.Acceptance.{accepted, only}
 use Rattle.tree.specs.Starts.{TellsStarts}
 use Rattle.pass.specs.Run.{rows_most, Tables, Outcome, fitting, Answers}
-use Rattle.answers.specs.Answer.{numbered, refusal_in}
+use Rattle.checks.specs.Answer as checks
+use Rattle.checks.specs.declared.Refusal.{Refusal as Checked}
+use Rattle.checks.specs.declared.Refusal.TheVariants.{Ragged}
+use Rattle.answers.specs.Answer.{numbered, refusal_in, Told}
 use Rattle.answers.specs.declared.Refusal.{Refusal as Refused}
+use Rattle.answers.specs.declared.Refusal.TheVariants.{Unfit}
 use Rattle.answers.specs.Clear.{left, cleared, Blank}
 use Rattle.answers.specs.Laws.Left.{few_records}
 use Rattle.analysis.specs.Steps.{StartsFit, Begins, Ends, Checks}
@@ -27,6 +32,37 @@ starts_fit n f = record { room = λ h. omega (arith, length-replicate {A = ℕ} 
 pub refused_by : (a : Result (Unit {0}) Refused) (r : Refused) → IsErrAnd a (λ e. e ≡ r) → refusal_in a ≡ Some (numbered r)
 refused_by (Err e) r h = ap (λ (x : Refused). Some (numbered x)) h
 refused_by (Ok u) r h = absurd h
+
+pub told_by : (a : Result (Unit {0}) Refused) (r : Refused) → IsErrAnd a (λ e. e ≡ r) → Told (Err r) → Told a
+told_by (Err e) r h t = subst (λ (x : Refused). Told (Err x)) (sym h) t
+told_by (Ok u) r h t = tt
+
+-- after check 1, the numbers are from 2 on
+abbrev number_in : Option Refusal → ℕ
+number_in None = 2
+number_in (Some r) = r.number
+
+least : (n : ℕ) (o : Option ℕ) (p : Option Refusal) → 2 ≤ n → 2 ≤ number_in p → 2 ≤ number_in (or_else n o p)
+least n None p h g = g
+least n (Some i) p h g = h
+
+late : (N : ℕ) (rs : List ℕ) → length rs % width ≡ 0 → 2 ≤ number_in (refusal N rs)
+unfolding refusal check1
+late N rs e =
+    rw (eq-eqb (length rs % width) 0 e)
+    (least 2 (check2 N rs) _ (omega arith)
+    (least 3 (check3 N rs) _ (omega arith)
+    (least 4 (check4 N rs) _ (omega arith)
+    (least 5 (check5 N rs) _ (omega arith)
+    (least 6 (check6 N rs) _ (omega arith)
+    (least 7 (check7 N rs) _ (omega arith)
+    (least 16 (check16 N rs) _ (omega arith)
+    (least 8 (check8 N rs) None (omega arith) (omega arith)))))))))
+
+-- so no check tells of whole records that they are none
+pub whole_told : (N : ℕ) (rs : List ℕ) (r : Checked) → length rs % width ≡ 0 → Some (checks.numbered r) ≡ refusal N rs → Told (Err (Unfit r))
+whole_told N rs Ragged e g = let h : 2 ≤ number_in (refusal N rs) = late N rs e in omega (arith, h, ap number_in g)
+whole_told N rs r e g = tt
 
 module _ {classes rs : List ℕ} where
   pub accepted_begins : {t : Tables} → None ≡ refusal (length classes) rs → Blank t → Begins classes rs t

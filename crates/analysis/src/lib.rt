@@ -1,9 +1,10 @@
 #![tactic(auto)]
 // The pass over lent tables: the fresh run and the settled run.
-ghost use Rattle.std.specs.Prelude.{◌≤◌, length, replicate};
+ghost use Rattle.std.specs.Prelude.{◌%◌, ◌≤◌, ◌≡◌, length, replicate};
+ghost use Rattle.tree.specs.Record.{width};
 ghost use Rattle.tree.specs.Starts.{TellsStarts};
 ghost use Rattle.pass.specs.Run.{Fresh, Settled, Answers, fresh_outcome, settled_outcome};
-ghost use Rattle.answers.specs.Answer.{tables, outcome_of};
+ghost use Rattle.answers.specs.Answer.{tables, outcome_of, Told};
 ghost use Rattle.answers.specs.Lent.{held, outcome_in, Same};
 ghost use Rattle.answers.specs.Clear.{Blank};
 ghost use Rattle.visits.specs.Runs.{Ready, Runs};
@@ -42,6 +43,7 @@ fn run_once(
     requires tells_starts { TellsStarts (length classes.now) records.now tops.now }
     requires begins { Begins classes.now records.now (held tables.old) }
     ensures ends { Ends fresh_outcome classes.now records.now (outcome_in result tables.new) }
+    ensures told { Told result }
     ensures same { Same tables.old tables.new }
 {
     let p = run_with(tops, classes, records, Pass::new(0, 0), tables);
@@ -57,6 +59,7 @@ fn run_twice(
     requires tells_starts { TellsStarts (length classes.now) records.now tops.now }
     requires begins { Begins classes.now records.now (held tables.old) }
     ensures ends { Ends settled_outcome classes.now records.now (outcome_in result tables.new) }
+    ensures told { Told result }
     ensures same { Same tables.old tables.new }
 {
     let p = run_with(tops, classes, records, Pass::new(0, 0), tables);
@@ -79,6 +82,7 @@ fn run_listed<const N: usize>(
     requires starts_fit { StartsFit records.now (replicate N 0) }
     requires blank { Blank (held tables.old) }
     ensures checks { Checks (outcome_by twice) classes.now records.now (outcome_in result tables.new) }
+    ensures told { length records.now % width ≡ 0 → Told result }
     ensures same { Same tables.old tables.new }
 {
     let mut tops = [0u16; N];
@@ -106,6 +110,7 @@ fn run_checked(
 ) -> Result<(), Refusal>
     requires { Blank (held tables.old) }
     ensures checks { Checks (outcome_by twice) classes.now records.now (outcome_in result tables.new) }
+    ensures told { length records.now % width ≡ 0 → Told result }
     ensures same { Same tables.old tables.new }
 {
     if tree::record::len(records) <= FEW {
@@ -117,6 +122,7 @@ fn run_checked(
 
 fn run(records: &[u32], classes: &[u8], twice: bool, tables: &mut Tables) -> Result<(), Refusal>
     ensures answers { Answers (outcome_by twice) classes.now records.now (held tables.old) (outcome_in result tables.new) }
+    ensures told { Told result }
     ensures same { Same tables.old tables.new }
 {
     if !tables.fit(records) {
@@ -136,8 +142,9 @@ pub fn fresh(
     arguments: &mut [u32],
     work: &mut [u32],
 ) -> Result<(), Refusal>
-    ensures { Fresh classes.now records.now (tables facts.old captured.old arguments.old work.old)
+    ensures answers { Fresh classes.now records.now (tables facts.old captured.old arguments.old work.old)
         (outcome_of result facts.new captured.new arguments.new work.new) }
+    ensures told { Told result }
 {
     let mut lent = Tables {
         facts,
@@ -156,8 +163,9 @@ pub fn settled(
     arguments: &mut [u32],
     work: &mut [u32],
 ) -> Result<(), Refusal>
-    ensures { Settled classes.now records.now (tables facts.old captured.old arguments.old work.old)
+    ensures answers { Settled classes.now records.now (tables facts.old captured.old arguments.old work.old)
         (outcome_of result facts.new captured.new arguments.new work.new) }
+    ensures told { Told result }
 {
     let mut lent = Tables {
         facts,

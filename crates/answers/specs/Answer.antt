@@ -2,6 +2,7 @@
 use Rattle.std.specs.Prelude.{ℕ, List, Option, None, Some, Result, Ok, Err}
 use Rattle.tree.specs.Check.{Refusal}
 use Rattle.checks.specs.Answer as checks
+use Rattle.checks.specs.declared.Refusal.TheVariants.{Ragged}
 use Rattle.pass.specs.Run.{Tables, Outcome}
 use Rattle.work.specs.declared.SecondRefusal.TheVariants.{NoLambda, NoCapture}
 use Rattle.answers.specs.declared.Refusal.{Refusal as Refused}
@@ -18,6 +19,11 @@ numbered (Second (NoCapture i)) = record { number = 12; at = i }
 abbrev pub refusal_in : Result (Unit {0}) Refused → Option Refusal
 refusal_in (Ok t) = None
 refusal_in (Err r) = Some (numbered r)
+
+-- numbers that are no whole records are told as `Lengths`, so that each number and record is told in one way
+abbrev pub Told : Result (Unit {0}) Refused → Type 0
+Told (Err (Unfit Ragged)) = ⊥
+Told r = Unit {0}
 
 abbrev pub tables : List ℕ → List ℕ → List ℕ → List ℕ → Tables
 tables F C A w = record { facts = F; captured = C; arguments = A; work = w }

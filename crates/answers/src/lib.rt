@@ -5,7 +5,7 @@ pub mod clear;
 ghost use Rattle.std.specs.Prelude.{◌≡◌};
 ghost use Rattle.pass.specs.Run.{fitting};
 ghost use Rattle.work.specs.Coded.{second_of};
-ghost use Rattle.answers.specs.Answer.{numbered, refusal_in, tables};
+ghost use Rattle.answers.specs.Answer.{numbered, refusal_in, Told, tables};
 ghost use Rattle.answers.specs.Lent.{held};
 ghost use Rattle.answers.specs.Noted.{first_in};
 
@@ -121,7 +121,8 @@ impl Tables<'_> {
 
 // 9 covers the whole input before 10.
 pub fn refused_first(p: Pass) -> Result<(), Refusal>
-    ensures { refusal_in result ≡ first_in p }
+    ensures refusal { refusal_in result ≡ first_in p }
+    ensures told { Told result }
 {
     if let Some(at) = p.nine {
         return Err(Refusal::NameTwice(wide(at)));
@@ -133,7 +134,8 @@ pub fn refused_first(p: Pass) -> Result<(), Refusal>
 }
 
 pub fn refused_second(p: Pass) -> Result<(), Refusal>
-    ensures { refusal_in result ≡ second_of p.second }
+    ensures refusal { refusal_in result ≡ second_of p.second }
+    ensures told { Told result }
 {
     p.second.map_or(Ok(()), |r| Err(Refusal::Second(r)))
 }

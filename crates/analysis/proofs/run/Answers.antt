@@ -1,6 +1,6 @@
 -- `run`: check 1, blank tables, the runs, and what is left.
 use mathlib.Core.Path.{sym, ◌∙◌}
-use Rattle.answers.specs.Laws.Lengths.{still_fits, fit_lengths}
+use Rattle.answers.specs.Laws.Lengths.{still_fits, fit_whole, fit_lengths}
 use Rattle.analysis.proofs.Answers.{unfit_answers}
 use Rattle.analysis.proofs.run.Goals as goal
 
@@ -9,6 +9,9 @@ returns-then-not-fit-clause-answers c = unfit_answers (sym c.fit.ensures ∙ c.i
 
 pub clear_start-requires : goal.clear_start-requires
 clear_start-requires c = fit_lengths _ _ (sym c.fit.ensures ∙ c.if-not-fit.false)
+
+pub returns-clause-told : goal.returns-clause-told
+returns-clause-told c = c.run_checked-answer.ensures.told (fit_whole _ _ (sym c.fit.ensures ∙ c.if-not-fit.false))
 
 pub clear_after-requires-clause-lengths : goal.clear_after-requires-clause-lengths
 clear_after-requires-clause-lengths c =

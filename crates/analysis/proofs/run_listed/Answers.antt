@@ -1,6 +1,6 @@
 -- `run_listed`: the checks, then the runs.
 use native.Mathlib.Omega.{arith}
-use Rattle.analysis.proofs.Answers.{refused_by, accepted_begins, begun-told, accepted_checks, refused-checks}
+use Rattle.analysis.proofs.Answers.{refused_by, told_by, whole_told, accepted_begins, begun-told, accepted_checks, refused-checks}
 use Rattle.analysis.proofs.run_listed.Goals as goal
 
 pub whole_as_slice-check : goal.whole_as_slice-check
@@ -14,6 +14,9 @@ shared_whole_as_slice-run_once g c = omega (arith, c.requires.few)
 
 pub returns-in_err-check-clause-checks : goal.returns-in_err-check-clause-checks
 returns-in_err-check-clause-checks g c = rw (refused_by _ _ c.from_residual.ensures.1) (refused-checks c.in_err-check.ensures.result_value)
+
+pub returns-in_err-check-clause-told : goal.returns-in_err-check-clause-told
+returns-in_err-check-clause-told g c = λ h. told_by _ _ c.from_residual.ensures.1 (whole_told _ _ _ h c.in_err-check.ensures.result_value)
 
 pub run_twice-requires-clause-begins : goal.run_twice-requires-clause-begins
 run_twice-requires-clause-begins g c = accepted_begins c.in_ok-check.ensures.result_value c.requires.blank

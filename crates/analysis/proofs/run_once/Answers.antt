@@ -6,4 +6,4 @@ pub run_with-p-requires-clause-ready : goal.run_with-p-requires-clause-ready
 run_with-p-requires-clause-ready c = first_ready c.requires.begins c.new.ensures
 
 pub returns-clause-ends : goal.returns-clause-ends
-returns-clause-ends c = fresh_ends c.requires.begins c.new.ensures c.run_with-p.ensures.runs c.refused_first.ensures
+returns-clause-ends c = fresh_ends c.requires.begins c.new.ensures c.run_with-p.ensures.runs c.refused_first.ensures.refusal

@@ -38,6 +38,10 @@ module _ (F C A w : List ℕ) (F' C' A' w' : List ℕ) where
       let l = long (tables F C A w) h in
       long_fits (record { facts = f ∙ l.facts; captured = c ∙ l.captured; arguments = a ∙ l.arguments; work = z ∙ l.work })
 
+pub fit_whole : (rs : List ℕ) (t : Tables) → fitting rs t ≡ true → length rs % width ≡ 0
+unfolding fitting
+fit_whole rs t e = eqb-true _ _ ((and-eq-true_iff (eqb (length rs % width) 0) (lengths_fit t)).0 e).0
+
 pub fit_lengths : (rs : List ℕ) (t : Tables) → fitting rs t ≡ true → lengths_fit t ≡ true
 unfolding fitting
 fit_lengths rs t e = ((and-eq-true_iff (eqb (length rs % width) 0) (lengths_fit t)).0 e).1

@@ -12,7 +12,7 @@ pub slice_bounds-fresh-end-2 : goal.slice_bounds-fresh-end-2
 slice_bounds-fresh-end-2 c = sym (length-take-le c.args.names c.args.classes.now (class_room c.requires.few))
 
 pub returns-clause-fresh : goal.returns-clause-fresh
-returns-clause-fresh c = fresh_in (part-fits c.requires.few) (part_long c.requires.few) c.fresh-a.ensures c.outcome_text.ensures
+returns-clause-fresh c = fresh_in (part-fits c.requires.few) (part_long c.requires.few) c.fresh-a.ensures.answers c.outcome_text.ensures
 
 pub outcome_text-requires : goal.outcome_text-requires
 outcome_text-requires c = (c.fresh-a.auto.facts ∙ facts_long c.requires.few, c.requires.few.records, c.requires.text_length_in_bounds)
