@@ -14,13 +14,13 @@ const LAST_ID: usize = 4294967294;
 const LARGEST: usize = 255;
 
 // A number for each form, form 0 included: an index by form then needs no multiplication.
-type Column = [usize; 13];
+pub type Column = [usize; 13];
 
 // The names of a record, or its children: those that every record of the form has, and those for each one counted.
-#[derive(Drop)]
+#[derive(Clone, Copy)]
 pub struct Parts {
-    every: Column,
-    counted: Column,
+    pub every: Column,
+    pub counted: Column,
 }
 
 impl Parts {
@@ -37,14 +37,14 @@ impl Parts {
 }
 
 // The limits of a record's fields, how many names may be due, and its names and children.
-#[derive(Drop)]
+#[derive(Clone, Copy)]
 pub struct Limits {
-    least_id: Column,
-    most_id: Column,
-    least_count: Column,
-    most_count: Column,
-    name_below: Column,
-    most_due: Column,
+    pub least_id: Column,
+    pub most_id: Column,
+    pub least_count: Column,
+    pub most_count: Column,
+    pub name_below: Column,
+    pub most_due: Column,
     pub names: Parts,
     pub children: Parts,
 }

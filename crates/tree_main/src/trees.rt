@@ -48,7 +48,8 @@ pub fn between(rt: &impl Print, begins: usize) -> io::Result<()> {
 
 // The good tree and constants up to n records.
 pub fn good_and(rt: &impl Print, n: usize) -> io::Result<()> {
-    let mut t = build::good();
+    let mut t = [[0; WIDTH]; RECORDS];
+    build::good(&mut t);
     build::constants(&mut t, GOOD, n);
     say::number(rt, "records", n)?;
     say::records(rt, &t, n, NAMES)
@@ -63,7 +64,9 @@ fn first(rt: &impl Print, t: &Records, n: usize, names: usize) -> io::Result<()>
 
 // The first n numbers of the good tree.
 pub fn part(rt: &impl Print, n: usize, names: usize) -> io::Result<()> {
-    first(rt, &build::good(), n, names)
+    let mut t = [[0; WIDTH]; RECORDS];
+    build::good(&mut t);
+    first(rt, &t, n, names)
 }
 
 // Makes faults in the good tree.
@@ -77,19 +80,22 @@ fn damage(rt: &impl Print, t: &mut Records, faults: &[Fault]) -> io::Result<()> 
 
 // The good tree with faults, with one and not whole, and with one before begins that nest 65 deep.
 pub fn faulty(rt: &impl Print, faults: &[Fault]) -> io::Result<()> {
-    let mut t = build::good();
+    let mut t = [[0; WIDTH]; RECORDS];
+    build::good(&mut t);
     damage(rt, &mut t, faults)?;
     say::records(rt, &t, GOOD, NAMES)
 }
 
 pub fn faulty_part(rt: &impl Print, fault: Fault, n: usize, names: usize) -> io::Result<()> {
-    let mut t = build::good();
+    let mut t = [[0; WIDTH]; RECORDS];
+    build::good(&mut t);
     damage(rt, &mut t, &[fault])?;
     first(rt, &t, n, names)
 }
 
 pub fn faulty_deep(rt: &impl Print, fault: Fault) -> io::Result<()> {
-    let mut t = build::good();
+    let mut t = [[0; WIDTH]; RECORDS];
+    build::good(&mut t);
     damage(rt, &mut t, &[fault])?;
     build::begins(&mut t, 18, 82);
     build::constants(&mut t, 82, 83);
