@@ -57,7 +57,7 @@ enum {
     SCHEME_ANALYSIS_ARGUMENTS_LENGTH = 53248,
     SCHEME_ANALYSIS_WORK_LENGTH = 59392,
 
-    /* bytes, not proved; the most seen, of expressions nested 64 deep, was 128 KiB */
+    /* bytes, not proved; the most seen, of expressions nested 64 deep, was 121,720 */
     SCHEME_ANALYSIS_STACK = 262144
 };
 

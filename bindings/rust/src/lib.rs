@@ -232,7 +232,7 @@ pub const ARGUMENTS_LENGTH: usize = 53248;
 /// How many numbers [`Tables::work`] must have.
 pub const WORK_LENGTH: usize = 59392;
 
-/// So many bytes of stack are enough for any call. Not proved: the most seen, of expressions nested 64 deep, was 128 KiB.
+/// So many bytes of stack are enough for any call. Not proved: the most seen, of expressions nested 64 deep, was 121,720.
 pub const STACK: usize = 262144;
 
 /// The number that stands for none in the tables. The views answer an [`Option`] instead.

@@ -117,7 +117,7 @@ pub fn with_names(p: Pass, e: EnteredNames) -> Pass
     }
 }
 
-// The names enter one after another. Answers what they changed, not the pass (docs/SPEED.md, 43).
+// The names enter one after another. Answers what they changed, not the pass (docs/SPEED.md, 43 and 48).
 pub fn enter_names(
     all: &[u32],
     names: Names,

@@ -1,6 +1,6 @@
 // The visits. Each is given the part of the records that starts at its expression, reads its own record there, and tells how many records it used. What
 // it does beside visiting parts goes by the number of the record among all. A child that is visited next has the number n, and p is the part that
-// starts at it. The pass, and a table that is only read, go into a local before the other tables are lent.
+// starts at it. The pass, and a table that is only read, go into a local before the other tables are lent (docs/SPEED.md, 42).
 
 // The forms that hold expressions in a row.
 mod seq;
